@@ -1,0 +1,12 @@
+use Rattle.arith.specs.Bit.{insert, one-shl}
+use Rattle.arith.proofs.insert.Statement.{statement}
+use Rattle.arith.proofs.insert.Tie as tie
+
+shl-result : tie.Need-shl-result
+shl-result c = c .pre
+
+returns : tie.Need-returns
+returns c = rw (one-shl 32 (c .args .slot) (c .pre)) (insert (c .args .free) (c .args .slot))
+
+pub insert-spec : {M : Type 1} → statement M
+insert-spec = tie.close (tie.spec shl-result returns)

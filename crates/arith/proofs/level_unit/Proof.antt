@@ -1,0 +1,26 @@
+use lib.Dec.{lit<, lit≤}
+use mathlib.Core.Path.{_≡_, refl}
+use mathlib.Core.Bool.{false}
+use lib.IntN.{pos, negsuc}
+use lib.Count.{trailingZeros}
+use lib.Ieee.{fin, binary32, ofBits, ofFields, odd}
+use Rattle.arith.specs.Within.{w-nat}
+use Rattle.arith.specs.Over.{levelOf}
+use Rattle.arith.specs.Scaled.{scaled, in-float}
+use Rattle.arith.proofs.level_unit.Statement.{statement}
+use Rattle.arith.proofs.level_unit.Tie as tie
+
+int-to-float-result : tie.Need-int-to-float-result
+int-to-float-result c = in-float (pos (c .before .args .n)) 16777216 (w-nat (c .before .pre)) (lit≤ tt)
+
+-- the constant of the source is 2 ^ -24
+step : ofBits binary32 864026624 ≡ fin false 1 (negsuc 23)
+unfolding ofBits ofFields odd trailingZeros
+step = refl
+
+returns : tie.Need-returns
+unfolding levelOf
+returns c = rw step (scaled (pos (c .before .args .n)) 23 (c .before .pre))
+
+pub level-unit-spec : {M : Type 1} → statement M
+level-unit-spec = tie.close (tie.spec int-to-float-result returns)

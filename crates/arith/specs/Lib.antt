@@ -1,0 +1,11 @@
+pub mod Floor
+pub mod Within
+pub mod Rounding
+pub mod Between
+pub mod Expr
+pub mod Over
+pub mod Scaled
+pub mod Clamp
+pub mod Bit
+pub mod Loops
+pub mod Put

@@ -1,0 +1,5 @@
+pub mod Admission
+pub mod AdmissionLaws
+pub mod Rules
+pub mod RulesLaws
+pub mod Listing

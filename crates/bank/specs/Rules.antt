@@ -1,0 +1,60 @@
+-- 01, "Bank admission", as rules for every record: the same as `admitted`, said without an order of tests.
+use mathlib.Core.Bool.{true}
+use mathlib.Core.List.{List}
+use mathlib.Core.Path.{_≡_}
+use Prim.Native.Nat.{ℕ, _+_, _-_, _%_, _≤_, _<_}
+use lib.IntN.{pos}
+use lib.ListN.{length, getD}
+use lib.Signed.{_≤ℤ_, _<ℤ_}
+use Rattle.records.specs.Chunks.{names, sizes, leasts, chunkAt, nameAt, bytesIn, records}
+use Rattle.records.specs.Sides.{presets, instruments, partsOf, bagOf, genOf, modOf}
+use Rattle.records.specs.Window.{startOf, endOf, loopStartOf, loopEndOf, modeOf, loops, rateOf}
+use Rattle.records.specs.Zones.{zoneAt, globalOf}
+use Rattle.records.specs.declared.Parts.{Parts}
+use Rattle.records.specs.declared.Side.{Side}
+use Rattle.records.specs.declared.Zone.{Zone}
+
+-- n indexes never fall, and the terminal one names the last of m records
+pub record Rising (index : ℕ → ℕ) (n m : ℕ) : Type 0 where
+  pub grows : (i : ℕ) → i + 1 < n → index i ≤ index (i + 1)
+  pub ends : (i : ℕ) → i + 1 ≡ n → index i + 1 ≡ m
+
+-- bag z is a sounding zone of head h, which is not the terminal one
+pub record Sounding (b : List ℕ) (s : Side) (h z : ℕ) : Type 0 where
+  pub head : h + 1 < s .nheads
+  pub low : bagOf b s h ≤ z
+  pub high : z < bagOf b s (h + 1)
+  pub sounds : zoneAt b s z .sounding ≡ true
+
+-- one side: its indexes, and the numbers that its sounding zones name
+pub record GoodSide (b : List ℕ) (s : Side) : Type 0 where
+  pub heads : Rising (bagOf b s) (s .nheads) (s .nbags)
+  pub gens : Rising (genOf b s) (s .nbags) (s .ngens)
+  pub mods : Rising (modOf b s) (s .nbags) (s .nmods)
+  pub links : (h z : ℕ) → Sounding b s h z → zoneAt b s z .link < s .nlinks - 1
+
+-- 0 <= start < end < 2^32, and for modes 1 and 3 also start <= loop start < loop end <= end
+pub record GoodWindow (b : List ℕ) (m : Parts) (local global : Zone) : Type 0 where
+  pub low : pos 0 ≤ℤ startOf b m local global
+  pub some : startOf b m local global <ℤ endOf b m local global
+  pub high : endOf b m local global <ℤ pos 4294967296
+  pub loop-low : loops (modeOf b m local global) ≡ true → startOf b m local global ≤ℤ loopStartOf b m local global
+  pub loop-some : loops (modeOf b m local global) ≡ true → loopStartOf b m local global <ℤ loopEndOf b m local global
+  pub loop-high : loops (modeOf b m local global) ≡ true → loopEndOf b m local global ≤ℤ endOf b m local global
+
+-- every sounding instrument zone: its sample's rate and its window
+pub record GoodSounds (b : List ℕ) (m : Parts) : Type 0 where
+  pub rate-low : (h z : ℕ) → Sounding b (m .instruments) h z → 400 ≤ rateOf b m (zoneAt b (m .instruments) z .link)
+  pub rate-high : (h z : ℕ) → Sounding b (m .instruments) h z → rateOf b m (zoneAt b (m .instruments) z .link) ≤ 50000
+  pub windows : (h z : ℕ) → Sounding b (m .instruments) h z → GoodWindow b m (zoneAt b (m .instruments) z) (globalOf b (m .instruments) h)
+
+-- a bank that is admitted
+pub record Admitted (b : List ℕ) : Type 0 where
+  pub short : length b ≤ 65536
+  pub named : (k : ℕ) → k < 9 → nameAt b k ≡ getD names k 0
+  pub whole : chunkAt b 9 ≡ length b
+  pub multiples : (k : ℕ) → k < 9 → bytesIn b k % getD sizes k 0 ≡ 0
+  pub enough : (k : ℕ) → k < 9 → getD leasts k 0 ≤ records b k
+  pub preset-side : GoodSide b (presets b)
+  pub instrument-side : GoodSide b (instruments b)
+  pub sounds : GoodSounds b (partsOf b)

@@ -1,0 +1,9 @@
+pub mod Table
+pub mod Root
+pub mod Octaves
+pub mod Powers
+pub mod Step
+pub mod Gains
+pub mod Velocities
+pub mod Decibels
+pub mod Frames

@@ -1,0 +1,55 @@
+-- 01, "Slots, keys and the clock": note-off.
+use Prim.Native.Nat.{ℕ}
+use mathlib.Core.Bool.{Bool, true, false, cond, not, _&&_}
+use mathlib.Core.List.{map}
+use lib.Dec.{eqb, leb}
+use Rattle.arith.specs.Loops.{countIf}
+use Rattle.voice.specs.declared.Voice.{Voice}
+use Rattle.voice.specs.declared.Slot.{Slot}
+use Rattle.voice.specs.State.{withMoved}
+use Rattle.voice.specs.Stages.{released}
+use Rattle.voice.specs.Release.{release}
+use Rattle.engine.specs.declared.Engine.{Engine}
+use Rattle.engine.specs.declared.Answered.{Answered}
+use Rattle.engine.specs.State.{slotsOf, withSlots, channelAt}
+use Rattle.engine.specs.Answers.{done, answer, pastOne}
+
+-- it sounds, and is of the channel
+unfoldable pub ofChannel : ℕ → Slot → Bool
+ofChannel channel s = s .sounding && eqb (s .voice .channel) channel
+
+-- a held voice of the channel: neither released nor marked
+unfoldable pub held : ℕ → Slot → Bool
+held channel s = ofChannel channel s && not (released (s .voice .stage)) && not (s .voice .marked)
+
+-- .. and of the struck key
+unfoldable pub heldKey : ℕ → ℕ → Slot → Bool
+heldKey channel key s = held channel s && eqb (s .voice .key) key
+
+-- the pedal is down: control 64 is 64 or more
+abbrev pub pedalDown : Engine → ℕ → Bool
+pedalDown e channel = leb 64 (channelAt e channel .pedal)
+
+-- the voice marked pedal-held
+abbrev pub mark : Voice → Voice
+mark v = withMoved v (v .stage) (v .place) true
+
+-- a slot with another voice
+abbrev pub withVoice : Slot → Voice → Slot
+withVoice s v = record { sounding = s .sounding; voice = v }
+
+-- the slots that a test picks are let go: marked while the pedal is down, else released
+unfoldable pub letOff : Bool → (Slot → Bool) → Slot → Slot
+letOff down picks s = cond (picks s) (withVoice s (cond down (mark (s .voice)) (release (s .voice)))) s
+
+-- a note-off for the slots that a test picks
+unfoldable pub off : ℕ → (Slot → Bool) → Engine → Engine
+off channel picks e = withSlots e (map (letOff (pedalDown e channel) picks) (slotsOf e))
+
+-- a note-off past its tests: each held voice of channel and key, and how many they were
+unfoldable pub offKey : ℕ → ℕ → Engine → Answered
+offKey channel key e = done (countIf (heldKey channel key) (slotsOf e)) (off channel (heldKey channel key) e)
+
+-- note-off
+unfoldable pub noteOff : ℕ → ℕ → Engine → Answered
+noteOff channel key e = answer (cond (pastOne channel key) 2 0) e (offKey channel key e)

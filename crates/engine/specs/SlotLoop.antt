@@ -1,0 +1,132 @@
+-- Loops over the slots: a turn reads slot i by its bit and its record, and adds its flag to the word that is built anew.
+use Prim.Native.Nat.{ℕ, zero, suc, _+_, _*_, _/_, _%_, _^_, _≤_, _<_}
+use mathlib.Core.Path.{_≡_, refl, sym, ap, _∙_, subst}
+use mathlib.Core.Bool.{Bool, true, false, cond}
+use mathlib.Core.List.{List, [], _∷_, _++_, map}
+use native.Mathlib.Nat.{pow-zero, pow-suc, not-suc-le-zero, le-of-suc-le-suc}
+use native.Mathlib.Numerals.{add-one}
+use native.Mathlib.Omega.{arith}
+use lib.Dec.{eqb}
+use lib.ListN.{length, getD, take, length-map}
+use lib.Seq.{take-suc, length-take-le}
+use Rattle.arith.specs.Bit.{bit, bit-zero, bit-suc}
+use Rattle.voice.specs.declared.Voice.{Voice}
+use Rattle.voice.specs.declared.Slot.{Slot}
+use Rattle.voice.specs.State.{blank, free}
+use Rattle.engine.specs.declared.Engine.{Engine}
+use Rattle.engine.specs.State.{paired, wordOf, voicesOf, slotsOf, slotAt, withSlots, withWord}
+use Rattle.engine.specs.NoteOff.{ofChannel}
+use Rattle.engine.specs.Controls.{cut}
+use Rattle.engine.specs.StateLaws.{map-at}
+
+-- slot i, by its bit and its record
+pub paired-at : (w : ℕ) (vs : List Voice) (i : ℕ) → i < length vs
+    → getD (paired w vs) i (free blank) ≡ record { sounding = eqb (bit w i) 1; voice = getD vs i blank }
+unfolding paired
+paired-at w [] i h = absurd (not-suc-le-zero h)
+paired-at w (v ∷ vs) zero h = ap (λ (b : ℕ). slot (eqb b 1)) (sym (bit-zero w))
+  where
+    slot : Bool → Slot
+    slot b = record { sounding = b; voice = v }
+paired-at w (v ∷ vs) (suc i) h = paired-at (w / 2) vs i (le-of-suc-le-suc h) ∙ ap (λ (b : ℕ). slot (eqb b 1)) (sym (bit-suc w i))
+  where
+    slot : Bool → Slot
+    slot b = record { sounding = b; voice = getD vs i blank }
+
+pub paired-length : (w : ℕ) (vs : List Voice) → length (paired w vs) ≡ length vs
+unfolding paired
+paired-length w [] = refl
+paired-length w (v ∷ vs) = ap suc (paired-length (w / 2) vs)
+
+-- the records of the slots are the state's
+pub voices-back : (w : ℕ) (vs : List Voice) → voicesOf (paired w vs) ≡ vs
+unfolding paired
+voices-back w [] = refl
+voices-back w (v ∷ vs) = ap (_∷_ v) (voices-back (w / 2) vs)
+
+-- f that keeps the records
+pub same-voices : (f : Slot → Slot) → ((s : Slot) → f s .voice ≡ s .voice) → (ss : List Slot) → voicesOf (map f ss) ≡ voicesOf ss
+same-voices f k [] = refl
+same-voices f k (s ∷ ss) = rw (k s) (ap (_∷_ (s .voice)) (same-voices f k ss))
+
+-- the word of one slot more
+word-snoc : (ss : List Slot) (s : Slot) → wordOf (ss ++ (s ∷ [])) ≡ wordOf ss + cond (s .sounding) (2 ^ length ss) 0
+unfolding wordOf
+word-snoc [] s = by (s .sounding)
+  where
+    by : (b : Bool) → cond b 1 0 + 2 * 0 ≡ 0 + cond b (2 ^ 0) 0
+    by true = refl
+    by false = refl
+word-snoc (x ∷ ss) s = rw (word-snoc ss s) (by (cond (x .sounding) 1 0) (wordOf ss) (s .sounding))
+  where
+    by : (a w : ℕ) (b : Bool) → a + 2 * (w + cond b (2 ^ length ss) 0) ≡ a + 2 * w + cond b (2 ^ suc (length ss)) 0
+    by a w true = omega (arith, pow-suc 2 (length ss))
+    by a w false = omega arith
+
+pub word-lt : (ss : List Slot) → wordOf ss < 2 ^ length ss
+unfolding wordOf
+word-lt [] = omega (arith, pow-zero 2)
+word-lt (s ∷ ss) = by (s .sounding) (word-lt ss)
+  where
+    by : (b : Bool) → wordOf ss < 2 ^ length ss → cond b 1 0 + 2 * wordOf ss < 2 ^ suc (length ss)
+    by true h = omega (arith, pow-suc 2 (length ss))
+    by false h = omega (arith, pow-suc 2 (length ss))
+
+-- the word of the first i slots, each gone through f
+unfoldable pub wordTo : (Slot → Slot) → ℕ → List Slot → ℕ
+wordTo f i ss = wordOf (take i (map f ss))
+
+pub word-none : (f : Slot → Slot) (ss : List Slot) → wordTo f 0 ss ≡ 0
+unfolding wordTo wordOf
+word-none f ss = refl
+
+-- a turn adds the flag of slot i
+pub word-turn : (f : Slot → Slot) (ss : List Slot) (i : ℕ) → f (free blank) ≡ free blank → i < length ss
+    → wordTo f (i + 1) ss ≡ wordTo f i ss + cond (f (getD ss i (free blank)) .sounding) (2 ^ i) 0
+unfolding wordTo
+word-turn f ss i k h =
+    let l : length (map f ss) ≡ length ss = simp length-map in
+    let t : length (take i (map f ss)) ≡ i = length-take-le i (map f ss) (omega arith) in
+    let m = map-at f ss i (free blank) k in
+    rw (add-one, take-suc (map f ss) i (free blank) (omega arith))
+    (word-snoc (take i (map f ss)) (getD (map f ss) i (free blank))
+    ∙ ap (λ (j : ℕ). wordOf (take i (map f ss)) + cond (getD (map f ss) i (free blank) .sounding) (2 ^ j) 0) t
+    ∙ ap (λ (s : Slot). wordOf (take i (map f ss)) + cond (s .sounding) (2 ^ i) 0) m)
+
+pub word-to-lt : (f : Slot → Slot) (ss : List Slot) (i : ℕ) → i ≤ length ss → wordTo f i ss < 2 ^ i
+unfolding wordTo
+word-to-lt f ss i h =
+    let l : length (map f ss) ≡ length ss = simp length-map in
+    let t : length (take i (map f ss)) ≡ i = length-take-le i (map f ss) (omega arith) in
+    subst (λ (j : ℕ). wordOf (take i (map f ss)) < 2 ^ j) t (word-lt (take i (map f ss)))
+
+-- all turns
+pub word-all : (f : Slot → Slot) (ss : List Slot) (n : ℕ) → length ss ≡ n → wordTo f n ss ≡ wordOf (map f ss)
+unfolding wordTo
+word-all f ss n h = ap wordOf (whole (map f ss) n (simp length-map h))
+  where
+    whole : (xs : List Slot) (n : ℕ) → length xs ≡ n → take n xs ≡ xs
+    whole [] zero e = refl
+    whole [] (suc n) e = refl
+    whole (x ∷ xs) zero e = absurd (native.Mathlib.Nat.suc-ne-zero (length xs) e)
+    whole (x ∷ xs) (suc n) e = ap (_∷_ x) (whole xs n (native.Mathlib.Nat.suc-inj e))
+
+-- a state whose records stay and whose word is built anew
+pub rebuilt : (e : Engine) (ss : List Slot) → voicesOf ss ≡ e .voices → withWord e (wordOf ss) ≡ withSlots e ss
+rebuilt e ss h = ap with (sym h)
+  where
+    with : List Voice → Engine
+    with vs = record { voices = vs; channels = e .channels; sounding = wordOf ss; order = e .order; clock = e .clock }
+
+-- freeing keeps the record, and a free slot
+pub cut-voice : (p : Slot → Bool) (s : Slot) → cut p s .voice ≡ s .voice
+unfolding cut
+cut-voice p s = by (p s)
+  where
+    by : (b : Bool) → cond b (free (s .voice)) s .voice ≡ s .voice
+    by true = refl
+    by false = refl
+
+pub cut-free : (channel : ℕ) (v : Voice) → cut (ofChannel channel) (free v) ≡ free v
+unfolding cut ofChannel
+cut-free channel v = refl

@@ -1,0 +1,11 @@
+pub mod Whole
+pub mod WholeLaws
+pub mod Bytes
+pub mod Search
+pub mod SearchLaws
+pub mod Chunks
+pub mod ChunkLaws
+pub mod Sides
+pub mod Zones
+pub mod ZoneLaws
+pub mod Window

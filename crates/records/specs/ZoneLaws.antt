@@ -1,0 +1,60 @@
+-- Laws of zones.
+use mathlib.Core.List.{List}
+use mathlib.Core.Bool.{Bool, true, false}
+use mathlib.Core.Path.{_≡_, refl, subst}
+use Prim.Native.Nat.{ℕ, zero, suc, _+_, _-_, _<_}
+use native.Mathlib.Nat.{add-zero, add-suc}
+use native.Mathlib.Numerals.{add-one}
+use native.Mathlib.Omega.{arith}
+use Rattle.records.specs.Search.{first}
+use Rattle.records.specs.SearchLaws.{Hit, first-hit, first-is, last-is}
+use Rattle.records.specs.Sides.{bagOf, genOf}
+use Rattle.records.specs.Zones.{has, genCount, closingOf, lastOf, zoneCount, zoneBelow, firstZone}
+use Rattle.records.specs.declared.Found.the-variants.{Nothing, At}
+use Rattle.records.specs.declared.Side.{Side}
+use Rattle.records.specs.declared.Zone.{Zone}
+
+-- the 41 (53) of a zone is one of its generators
+pub closing-is : (b : List ℕ) (s : Side) (z g : ℕ) → closingOf b s z ≡ At g → Hit (has b s (s .closing)) (genOf b s z) (genCount b s z) g
+unfolding closingOf
+closing-is b s z g e = first-is (has b s (s .closing)) (genOf b s z) (genCount b s z) g e
+
+-- the generator that counts for an operator is one of the zone's
+pub last-of-is : (b : List ℕ) (s : Side) (z : Zone) (o g : ℕ) → lastOf b s z o ≡ At g → Hit (has b s o) (z .from) (z .count) g
+unfolding lastOf
+last-of-is b s z o g e = last-is (has b s o) (z .from) (z .count) g e
+
+-- a search over heads and their zones
+module _ (b : List ℕ) (s : Side) (p : ℕ → ℕ → Bool) where
+  pub below-none : zoneBelow b s p 0 ≡ Nothing
+  unfolding zoneBelow
+  below-none = refl
+
+  -- one head more, in whose zones p holds nowhere
+  pub below-next : (h : ℕ) → zoneBelow b s p h ≡ Nothing → first (p h) (bagOf b s h) (zoneCount b s h) ≡ Nothing → zoneBelow b s p (h + 1) ≡ Nothing
+  unfolding zoneBelow
+  below-next h e f = rw add-one (rw (e, f) refl)
+
+  stays : (h d z : ℕ) → zoneBelow b s p h ≡ At z → zoneBelow b s p (h + d) ≡ At z
+  unfolding zoneBelow
+  stays h zero z e = rw add-zero e
+  stays h (suc d) z e = rw (add-suc, stays h d z e) refl
+
+  -- the first is found in head h, also where the search would go on
+  pub zone-hit : (h j : ℕ) → zoneBelow b s p h ≡ Nothing → first (p h) (bagOf b s h) j ≡ Nothing → p h (bagOf b s h + j) ≡ true → j < zoneCount b s h → h < s .nheads - 1 → firstZone b s p ≡ At (bagOf b s h + j)
+  unfolding zoneBelow firstZone
+  zone-hit h j e f t l m =
+      let here : zoneBelow b s p (suc h) ≡ At (bagOf b s h + j) = rw (e, first-hit (p h) (bagOf b s h) j (zoneCount b s h) f t l) refl in
+      let eq : suc h + (s .nheads - 1 - suc h) ≡ s .nheads - 1 = omega arith in
+      subst (λ (k : ℕ). zoneBelow b s p k ≡ At (bagOf b s h + j)) eq (stays (suc h) (s .nheads - 1 - suc h) (bagOf b s h + j) here)
+
+  -- the same, where the loop holds the first zone of head h and their number
+  pub zone-found : (h j from count : ℕ) → from ≡ bagOf b s h → count ≡ zoneCount b s h → zoneBelow b s p h ≡ Nothing → first (p h) from j ≡ Nothing → p h (from + j) ≡ true → j < count → h < s .nheads - 1 → firstZone b s p ≡ At (from + j)
+  zone-found h j from count begins all e f t l m = rw begins (zone-hit h j e (rw begins at f) (rw begins at t) (rw all at l) m)
+
+  pub below-more : (h from count : ℕ) → from ≡ bagOf b s h → count ≡ zoneCount b s h → zoneBelow b s p h ≡ Nothing → first (p h) from count ≡ Nothing → zoneBelow b s p (h + 1) ≡ Nothing
+  below-more h from count begins all e f = below-next h e (rw (begins, all) at f)
+
+  pub none-found : (n : ℕ) → n ≡ s .nheads - 1 → zoneBelow b s p n ≡ Nothing → firstZone b s p ≡ Nothing
+  unfolding firstZone
+  none-found n e f = rw e at f

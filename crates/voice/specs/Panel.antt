@@ -1,0 +1,36 @@
+-- 01, "A voice, frame by frame", last paragraph: what the panel is told of a slot.
+use Prim.Native.Nat.{ℕ}
+use mathlib.Core.Bool.{Bool, cond}
+use Rattle.arith.specs.Over.{levelOf}
+use Rattle.curves.specs.Decibels.{gainOf}
+use Rattle.voice.specs.declared.Shown.{Shown}
+use Rattle.voice.specs.declared.Shown.the-variants as is
+use Rattle.voice.specs.declared.Stage.{Stage}
+use Rattle.voice.specs.declared.Stage.the-variants.{Delay, Attack, Hold, Decay, Sustain, Release}
+use Rattle.voice.specs.declared.Voice.{Voice}
+use Rattle.voice.specs.declared.Slot.{Slot}
+use Rattle.voice.specs.Stages.{levelAt, envelope}
+
+-- a stage, with its level or its envelope's gain over 2^24 (`levelOf n` is n / 2^24, exact)
+abbrev pub stageShown : Voice → Stage → Shown
+stageShown v (Delay left) = is.Delay
+stageShown v (Attack t) = is.Attack (levelOf (levelAt (v .attack) t))
+stageShown v (Hold t) = is.Hold
+stageShown v (Decay t) = is.Decay (levelOf (gainOf (envelope v (Decay t))))
+stageShown v Sustain = is.Sustain (levelOf (gainOf (envelope v Sustain)))
+stageShown v (Release a t) = is.Release (levelOf (gainOf (envelope v (Release a t))))
+
+-- a slot
+unfoldable pub shown : Slot → Shown
+shown s = cond (s .sounding) (stageShown (s .voice) (s .voice .stage)) is.Free
+
+-- 01's number for each answer
+abbrev pub numberOf : Shown → ℕ
+numberOf is.Refused = 2
+numberOf is.Free = 0
+numberOf is.Delay = 0
+numberOf (is.Attack x) = 0
+numberOf is.Hold = 0
+numberOf (is.Decay x) = 0
+numberOf (is.Sustain x) = 0
+numberOf (is.Release x) = 0

@@ -1,0 +1,55 @@
+-- Laws of the sound: no gain is above 2^24; what the tests of the code say of a number held to at least 0.
+use Prim.Native.Nat.{ℕ, zero, suc, _≤_, _<_}
+use mathlib.Core.Path.{_≡_, refl, ap, subst}
+use mathlib.Core.Bool.{Bool, true, false}
+use mathlib.Core.List.{List, [], _∷_}
+use native.Mathlib.Nat.{not-suc-le-zero, le-of-suc-le-suc}
+use native.Mathlib.Omega.{arith}
+use borrow.Author.Tests.{ltb-true, ltb-false}
+use lib.Dec.{T, leb, leb→le}
+use lib.IntN.{ℤ, pos, negsuc, natAbs}
+use lib.ListN.{getD}
+use lib.Signed.{ltZ, nonNeg}
+use Rattle.curves.specs.Table.{both, both-left, both-right}
+use Rattle.arith.specs.Within.{Within}
+use Rattle.curves.specs.Gains.{gains}
+use Rattle.curves.specs.Decibels.{gainOf}
+use Rattle.voice.specs.Sound.{least0}
+
+allLe : ℕ → List ℕ → Bool
+allLe m [] = true
+allLe m (x ∷ xs) = both (leb x m) (allLe m xs)
+
+each : (m : ℕ) (xs : List ℕ) → T (allLe m xs) → (i : ℕ) → getD xs i 0 ≤ m
+unfolding allLe
+each m [] t i = omega arith
+each m (x ∷ xs) t zero = leb→le x m (both-left (leb x m) (allLe m xs) t)
+each m (x ∷ xs) t (suc i) = each m xs (both-right (leb x m) (allLe m xs) t) i
+
+tested : T (allLe 16777216 gains)
+unfolding allLe
+tested = tt
+
+pub gain-le : (a : ℕ) → gainOf a ≤ 16777216
+unfolding gainOf
+gain-le a = each 16777216 gains tested a
+
+pub least0-below : (z : ℤ) → ltZ z (pos 0) ≡ true → least0 z ≡ 0
+least0-below (pos n) t = absurd (no n (ltb-true n 0 t))
+  where
+    no : (n : ℕ) → n < 0 → ⊥
+    no n h = omega arith
+least0-below (negsuc n) t = refl
+
+pub least0-above : (z : ℤ) → ltZ z (pos 0) ≡ false → natAbs z ≡ least0 z
+least0-above (pos n) t = refl
+least0-above (negsuc n) t = absurd (subst (λ (b : Bool). T b) t tt)
+
+pub nonNeg-above : (z : ℤ) → ltZ z (pos 0) ≡ false → T (nonNeg z)
+nonNeg-above (pos n) t = tt
+nonNeg-above (negsuc n) t = absurd (subst (λ (b : Bool). T b) t tt)
+
+-- between -(n + 1) and n + 1
+pub amid : (k : ℤ) (n : ℕ) → ltZ k (negsuc n) ≡ false → ltZ (pos (suc n)) k ≡ false → Within k (suc n)
+amid (pos a) n t u = record { within = ltb-false (suc n) a u }
+amid (negsuc a) n t u = record { within = omega (arith, ltb-false n a t) }

@@ -1,0 +1,93 @@
+-- Numbers added into a list of sums, and the bounds of the sums. `loudest` bounds what one voice adds.
+use Prim.Native.Nat.{ℕ, zero, suc, _+_, _*_, _≤_, _<_}
+use mathlib.Core.Path.{_≡_, refl, ap, sym, _∙_}
+use mathlib.Core.List.{List, [], _∷_, _++_, append-assoc}
+use native.Mathlib.Nat.{suc-ne-zero, suc-inj, not-suc-le-zero, le-of-suc-le-suc}
+use native.Mathlib.Omega.{arith}
+use lib.Dec.{lit<, lit≤}
+use lib.IntN.{ℤ, pos, _+ℤ_}
+use lib.ListN.{length, getD, set, length-append}
+use mir.Syntax.{w32}
+use mir.Val.{SFits, toZ, ofZ}
+use mir.Facts.{toZ-ofZ}
+use Rattle.arith.specs.Within.{Within, w-nat, w-le, w-add, w-fits, w-back}
+
+abbrev pub loudest : ℕ
+loudest = 25600003
+
+-- the first elements of ys, each with its element of xs added
+unfoldable pub addTo : List ℤ → List ℤ → List ℤ
+addTo [] ys = ys
+addTo (x ∷ xs) [] = []
+addTo (x ∷ xs) (y ∷ ys) = (y +ℤ x) ∷ addTo xs ys
+
+-- each element is at most what b voices add
+abbrev pub Small : ℕ → List ℤ → Type 0
+Small b xs = (j : ℕ) → Within (getD xs j (pos 0)) (b * loudest)
+
+pub addTo-none : (ys : List ℤ) → addTo [] ys ≡ ys
+unfolding addTo
+addTo-none ys = refl
+
+pub addTo-at : (xs ys : List ℤ) (k : ℕ) → length xs ≡ k → getD (addTo xs ys) k (pos 0) ≡ getD ys k (pos 0)
+unfolding addTo
+addTo-at [] ys k e = refl
+addTo-at (x ∷ xs) [] k e = refl
+addTo-at (x ∷ xs) (y ∷ ys) zero e = absurd (suc-ne-zero _ e)
+addTo-at (x ∷ xs) (y ∷ ys) (suc k) e = addTo-at xs ys k (suc-inj e)
+
+pub addTo-set : (xs ys : List ℤ) (k : ℕ) (a : ℤ) → length xs ≡ k → k < length ys → set (addTo xs ys) k (getD ys k (pos 0) +ℤ a) ≡ addTo (xs ++ (a ∷ [])) ys
+unfolding addTo
+addTo-set [] [] k a e h = absurd (not-suc-le-zero h)
+addTo-set [] (y ∷ ys) zero a e h = refl
+addTo-set [] (y ∷ ys) (suc k) a e h = absurd (suc-ne-zero _ (sym e))
+addTo-set (x ∷ xs) [] k a e h = absurd (not-suc-le-zero h)
+addTo-set (x ∷ xs) (y ∷ ys) zero a e h = absurd (suc-ne-zero _ e)
+addTo-set (x ∷ xs) (y ∷ ys) (suc k) a e h = ap (_∷_ (y +ℤ x)) (addTo-set xs ys k a (suc-inj e) (le-of-suc-le-suc h))
+
+pub addTo-length : (xs ys : List ℤ) → length (addTo xs ys) ≡ length ys
+unfolding addTo
+addTo-length [] ys = refl
+addTo-length (x ∷ xs) [] = refl
+addTo-length (x ∷ xs) (y ∷ ys) = ap suc (addTo-length xs ys)
+
+-- two numbers behind the ones that are added: two stores
+pub add-two : (xs ys : List ℤ) (k : ℕ) (a b : ℤ) → length xs ≡ k → k + 1 < length ys
+    → set (set (addTo xs ys) k (getD ys k (pos 0) +ℤ a)) (k + 1) (getD ys (k + 1) (pos 0) +ℤ b) ≡ addTo (xs ++ (a ∷ b ∷ [])) ys
+add-two xs ys k a b e h =
+    let l : length (xs ++ (a ∷ [])) ≡ k + 1 = simp length-append (omega arith) in
+    ap (λ (z : List ℤ). set z (k + 1) (getD ys (k + 1) (pos 0) +ℤ b)) (addTo-set xs ys k a e (omega arith))
+    ∙ addTo-set (xs ++ (a ∷ [])) ys (k + 1) b l h
+    ∙ ap (λ (z : List ℤ). addTo z ys) (append-assoc xs (a ∷ []) (b ∷ []))
+
+-- the second element, read after the first store
+pub second : (xs ys : List ℤ) (k : ℕ) (a : ℤ) → length xs ≡ k → k + 1 < length ys
+    → getD (set (addTo xs ys) k (getD ys k (pos 0) +ℤ a)) (k + 1) (pos 0) ≡ getD ys (k + 1) (pos 0)
+second xs ys k a e h =
+    let l : length (xs ++ (a ∷ [])) ≡ k + 1 = simp length-append (omega arith) in
+    ap (λ (z : List ℤ). getD z (k + 1) (pos 0)) (addTo-set xs ys k a e (omega arith)) ∙ addTo-at (xs ++ (a ∷ [])) ys (k + 1) l
+
+pub small-none : Small 1 []
+small-none j = w-nat (lit≤ tt)
+
+pub small-two : (xs : List ℤ) (a b : ℤ) → Small 1 xs → Within a (1 * loudest) → Within b (1 * loudest) → Small 1 (xs ++ (a ∷ b ∷ []))
+small-two [] a b h p q zero = p
+small-two [] a b h p q (suc zero) = q
+small-two [] a b h p q (suc (suc j)) = w-nat (lit≤ tt)
+small-two (x ∷ xs) a b h p q zero = h zero
+small-two (x ∷ xs) a b h p q (suc j) = small-two xs a b (λ i. h (suc i)) p q j
+
+pub addTo-small : (xs ys : List ℤ) (b : ℕ) → Small 1 xs → Small b ys → Small (b + 1) (addTo xs ys)
+unfolding addTo
+addTo-small [] ys b h k j = w-le (k j) (omega arith)
+addTo-small (x ∷ xs) [] b h k j = w-nat (omega arith)
+addTo-small (x ∷ xs) (y ∷ ys) b h k zero = w-le (w-add (k zero) (h zero)) (omega arith)
+addTo-small (x ∷ xs) (y ∷ ys) b h k (suc j) = addTo-small xs ys b (λ m. h (suc m)) (λ m. k (suc m)) j
+
+-- 32 voices' sum fits 32 bits
+pub add-bits : (a z : ℤ) → Within a (31 * loudest) → Within z (1 * loudest)
+    → (toZ w32 (ofZ w32 a) +ℤ toZ w32 (ofZ w32 z) ≡ a +ℤ z) × SFits w32 (a +ℤ z) × (toZ w32 (ofZ w32 (a +ℤ z)) ≡ a +ℤ z)
+add-bits a z p q =
+    let one = w-back w32 p (lit< tt) in
+    let two = w-back w32 q (lit< tt) in
+    (rw (one, two), w-fits w32 (w-add p q) (lit< tt), w-back w32 (w-add p q) (lit< tt))
