@@ -11,11 +11,11 @@ use Rattle.curves.specs.Step.{stepOf, StepsAt}
 use Rattle.voice.specs.declared.Voice.{Voice}
 use Rattle.voice.specs.Stages.{past, released}
 use Rattle.voice.specs.Move.{pitchTotal, lifted, folds, folded}
 use Rattle.engine.specs.declared.Engine.{Engine}
 use Rattle.engine.specs.State.{slotAt, channelAt}
 use Rattle.engine.specs.NoteOn.{struck, layersOf}
 use Rattle.engine.specs.Render.{distance}
-use Rattle.engine.specs.Calls.{Call, noteOn, noteOff, control, program, bend, render, ask, does, next, run}
+use Rattle.promises.specs.Calls.{Call, noteOn, noteOff, control, program, bend, render, ask, does, next, run}
 
 -- the frames that a call renders: its distance, where it is done
 abbrev pub framesOf : Call → Engine → ℕ

@@ -29,23 +29,23 @@ use Rattle.voice.specs.Move.{bendCents, pitchTotal, lifted, step, folds, folded
 use Rattle.voice.specs.Run.{after, afterAt}
 use Rattle.voice.specs.RunLaws.{once}
 use Rattle.voice.specs.Advance.{Going, going, placeAfter, place-add, free-stays}
 use Rattle.engine.specs.declared.Engine.{Engine}
 use Rattle.engine.specs.declared.Answered.{Answered}
 use Rattle.engine.specs.State.{slotAt, slotsOf, withSlots, channelAt, withChannel, withClock}
 use Rattle.engine.specs.StateLaws.{slot-map, slot-other}
 use Rattle.engine.specs.Answers.{done, refused, answer, pastOne, pastTwo, pastBend}
 use Rattle.engine.specs.NoteOff.{mark, withVoice, letOff, ofChannel, held, heldKey, pedalDown, off, offKey, noteOff}
-use Rattle.engine.specs.Demand2Proof.{letOff-left}
+use Rattle.promises.specs.Demand2Proof.{letOff-left}
 use Rattle.engine.specs.Controls.{cut, pedalHeld, pedal, silence, controlled, controlChange}
 use Rattle.engine.specs.Channels.{withPedal, withProgram, withBend}
 use Rattle.engine.specs.Program.{programChange}
 use Rattle.engine.specs.Bend.{pitchBend}
 use Rattle.engine.specs.Slots.{seat, startIn}
 use Rattle.engine.specs.NoteOn.{Bank, Started, start, startAll, cleared, rival, struck, layersOf, noteOnNumber, noteOn}
 use Rattle.engine.specs.Render.{distance, window, slotAfter, played, renderNumber, render}
-use Rattle.engine.specs.Calls as Calls
-use Rattle.engine.specs.Calls.{Call, does, next, run}
-use Rattle.engine.specs.Demand3.{voiceIn, centsIn, framesOf, frames, starts, Keeps, KeepsAll, Moved, advance, PlaceHolds}
+use Rattle.promises.specs.Calls as Calls
+use Rattle.promises.specs.Calls.{Call, does, next, run}
+use Rattle.promises.specs.Demand3.{voiceIn, centsIn, framesOf, frames, starts, Keeps, KeepsAll, Moved, advance, PlaceHolds}
 
 -- ---- a voice that has gone on
 

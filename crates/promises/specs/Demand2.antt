@@ -4,10 +4,10 @@ use mathlib.Core.Bool.{Bool, true, false, cond}
 use mathlib.Core.Path.{_≡_}
 use Rattle.arith.specs.Loops.{countIf}
 use Rattle.voice.specs.Release.{release}
 use Rattle.engine.specs.declared.Engine.{Engine}
 use Rattle.engine.specs.State.{slotAt, slotsOf}
 use Rattle.engine.specs.NoteOff.{heldKey, pedalDown, mark}
-use Rattle.engine.specs.Calls.{noteOff, does, next}
+use Rattle.promises.specs.Calls.{noteOff, does, next}
 
 -- after a note-off that is done: each held voice of channel and key is released, or marked while the pedal is down; none is
 -- held any more; every other slot is as it was; the answer counts them

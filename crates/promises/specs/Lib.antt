@@ -1,0 +1,9 @@
+pub mod Calls
+pub mod Demand1
+pub mod Demand2
+pub mod Demand3
+pub mod Cuts
+pub mod Demand1Proof
+pub mod Demand2Proof
+pub mod Demand3Proof
+pub mod Runs
