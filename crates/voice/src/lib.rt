@@ -5,6 +5,7 @@ ghost use lib.ListN.{getD, length};
 ghost use lib.IntN.{pos, _*ℤ_, _+ℤ_};
 ghost use Rattle.arith.specs.Within.{Within};
 ghost use Rattle.arith.specs.Floor.{floorZ};
+ghost use Rattle.arith.specs.Over.{levelOf};
 ghost use Rattle.curves.specs.Gains.{gains};
 ghost use Rattle.curves.specs.Decibels.{gainOf, leastCb};
 ghost use Rattle.voice.specs.Release.{letGo, release};
@@ -13,11 +14,13 @@ ghost use Rattle.voice.specs.Sound.{total, gained, shaped, panOf, leftOf
 ghost use Rattle.voice.specs.Move.{folds, fold, folded, span, settled, ended};
 ghost use Rattle.voice.specs.StageLaws.{Room, Roomy};
 ghost use Rattle.voice.specs.Run.{afterAt, heardAt};
+ghost use Rattle.voice.specs.Panel.{stageShown, shown};
 ghost use Rattle.voice.specs.Sums.{addTo, Small};
 ghost use Rattle.voice.specs.Frame.{goOn, loud, frameAt, living, played};
 ghost use Rattle.voice.specs.State.{withMoved};
 ghost use Rattle.voice.specs.Stages.{levelAt, decayAt, releaseAt, envelope, fromDecay, fromHold, fromAttack, fromDelay, entered, dead, waiting, released, spent};
 use arith::biased_1000;
+use arith::level_unit;
 use arith::reading_of;
 
 // A stage, with the frames already spent in it (in delay: those left).
@@ -619,4 +622,48 @@ pub fn let_off(v: Voice, g: &[u32; 1441]) -> Voice
     let s = v.stage;
     let n = let_go(v, s, g);
     with_moved(v, n, v.place, false)
+}
+
+// A stage, with its level or its envelope's gain as a fraction of full.
+fn show_stage(v: Voice, s: Stage, g: &[u32; 1441]) -> Shown
+    requires { ⌜ now g ≡ gains ⌝ }
+    ensures { λ r. ⌜ r ≡ stageShown v s ⌝ }
+{
+    match s {
+        Stage::Delay { left: _ } => Shown::Delay,
+        Stage::Attack { t } => Shown::Attack {
+            level: level_unit(level_at(v.attack, t)),
+        },
+        Stage::Hold { t: _ } => Shown::Hold,
+        Stage::Decay { t } => Shown::Decay {
+            level: gain_unit(g, wide(decay_at(v.decay, v.sustain, t))),
+        },
+        Stage::Sustain => Shown::Sustain {
+            level: gain_unit(g, wide(v.sustain)),
+        },
+        Stage::Release { from, t } => Shown::Release {
+            level: gain_unit(g, release_at(v.release, from, t)),
+        },
+    }
+}
+
+// The gain of a cB, as a fraction of full.
+fn gain_unit(g: &[u32; 1441], a: u64) -> f32
+    requires { ⌜ now g ≡ gains ⌝ }
+    ensures { λ r. ⌜ r ≡ levelOf (gainOf a) ⌝ }
+{
+    level_unit(gain_of(g, a))
+}
+
+// What the panel is told of a slot.
+pub fn show(s: Slot, g: &[u32; 1441]) -> Shown
+    requires { ⌜ now g ≡ gains ⌝ }
+    ensures { λ r. ⌜ r ≡ shown s ⌝ }
+{
+    if !s.sounding {
+        return Shown::Free;
+    }
+    let v = s.voice;
+    let t = v.stage;
+    show_stage(v, t, g)
 }
