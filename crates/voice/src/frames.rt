@@ -82,6 +82,9 @@ pub fn run_at(
     let mut s = s0;
     let mut k: usize = 0;
     while k < n {
+        if !s.sounding {
+            return s;
+        }
         let f = frame_at(st, l, g, w, s);
         let t = f.slot;
         s = t;

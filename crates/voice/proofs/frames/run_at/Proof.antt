@@ -1,8 +1,11 @@
+-- A turn adds one frame into two sums; where the voice is freed the frames that are left add nothing.
 use Prim.Native.Nat.{ℕ, _≤_, _<_, _-_, _+_, _*_}
 use mathlib.Core.Path.{_≡_, refl, sym, ap, _∙_, subst}
+use mathlib.Core.Bool.{false}
 use mathlib.Core.List.{List, _∷_, [], _++_}
 use native.Mathlib.Omega.{arith}
 use borrow.Author.Needs.{needs}
+use borrow.Author.Tests.{not-true}
 use lib.Dec.{lit<, lit≤}
 use lib.ListN.{length, getD, set, length-set}
 use lib.IntN.{ℤ, pos, _+ℤ_}
@@ -14,6 +17,7 @@ use Rattle.voice.specs.declared.Framed.{Framed}
 use Rattle.voice.specs.Frame.{frameAt}
 use Rattle.voice.specs.Run.{afterAt, heardAt}
 use Rattle.voice.specs.RunLaws.{after-turn, heard-turn, heard-length}
+use Rattle.voice.specs.Silence.{stays, adds-nothing, stays-small}
 use Rattle.voice.specs.Sums.{addTo, Small, addTo-none, addTo-at, addTo-length, add-two, second, small-none, small-two, add-bits}
 use Rattle.voice.proofs.frames.run_at.Statement.{statement}
 use Rattle.voice.proofs.frames.run_at.Tie as tie
@@ -34,7 +38,7 @@ abbrev μ-loop : tie.MeasureT-loop
 -- a turn: what it finds in the sums, and what it stores
 module _ (c : tie.After-frame-at Inv-loop μ-loop) where
   abbrev lp : tie.At-loop Inv-loop μ-loop
-  lp = c .before .before
+  lp = c .before .before .before .before
 
   abbrev loss : ℤ
   loss = toZ w64 (ofZ w64 (lp .before .args .l))
@@ -82,7 +86,8 @@ unfolding afterAt heardAt
 loop-holds c = (refl, sym (addTo-none (c .args .acc .now)), refl, omega arith, omega arith, c .pre .3, small-none)
 
 frame-at-requires : tie.Need-frame-at-requires Inv-loop μ-loop
-frame-at-requires c κs = (c .before .before .pre .0, rw (w-back w64 (c .before .before .pre .1) (lit< tt)) (c .before .before .pre .1))
+frame-at-requires c κs =
+    let p = c .before .before .before .before .pre in (p .0, rw (w-back w64 (p .1) (lit< tt)) (p .1))
 
 mul-a : tie.Need-mul-a Inv-loop μ-loop
 mul-a c = omega arith
@@ -121,26 +126,26 @@ add-b-2 : tie.Need-add-b-2 Inv-loop μ-loop
 add-b-2 c = let b = (c .before .before .before .before .before .before .before) in rw (read0 b, sum0 b .0, sum0 b .2, read1 b, sum1 b .0) (sum1 b .1)
 
 mul-b-3 : tie.Need-mul-b-3 Inv-loop μ-loop
-mul-b-3 c = omega (arith, bytes (c .before .before .before .before .before .before .before))
+mul-b-3 c = omega (arith, bytes (c .before .before .before .before .before .before .before), room (c .before .before .before .before .before .before .before), lp (c .before .before .before .before .before .before .before) .loop .inv .2)
 
 add-b-3 : tie.Need-add-b-3 Inv-loop μ-loop
-add-b-3 c = omega (arith, bytes (c .before .before .before .before .before .before .before))
+add-b-3 c = omega (arith, bytes (c .before .before .before .before .before .before .before), room (c .before .before .before .before .before .before .before), lp (c .before .before .before .before .before .before .before) .loop .inv .2)
 
 mul-b-4 : tie.Need-mul-b-4 Inv-loop μ-loop
-mul-b-4 c = omega (arith, bytes (c .before .before .before .before .before .before .before))
+mul-b-4 c = omega (arith, bytes (c .before .before .before .before .before .before .before), room (c .before .before .before .before .before .before .before), lp (c .before .before .before .before .before .before .before) .loop .inv .2)
 
 slice-set-from-b : tie.Need-slice-set-from-b Inv-loop μ-loop
-slice-set-from-b c = simp length-set (omega (arith, bytes (c .before .before .before .before .before .before .before)))
+slice-set-from-b c = simp length-set (omega (arith, bytes (c .before .before .before .before .before .before .before), room (c .before .before .before .before .before .before .before), lp (c .before .before .before .before .before .before .before) .loop .inv .2))
 
 add-k : tie.Need-add-k Inv-loop μ-loop
-add-k c = omega (arith, bytes (c .before .before .before .before .before .before .before))
+add-k c = omega (arith, bytes (c .before .before .before .before .before .before .before), room (c .before .before .before .before .before .before .before), lp (c .before .before .before .before .before .before .before) .loop .inv .2)
 
 loop-less : tie.Need-loop-less Inv-loop μ-loop
-loop-less c = omega (arith, bytes (c .before .before .before .before .before .before .before))
+loop-less c = omega (arith, bytes (c .before .before .before .before .before .before .before), room (c .before .before .before .before .before .before .before), lp (c .before .before .before .before .before .before .before) .loop .inv .2)
 
 loop-again : tie.Need-loop-again Inv-loop μ-loop
 loop-again c = let b = (c .before .before .before .before .before .before .before) in
-    let l = b .before .before in
+    let l = lp b in
     let a = l .before .args in
     let w = a .w .now in
     let k = l .loop .k in
@@ -163,8 +168,29 @@ loop-again c = let b = (c .before .before .before .before .before .before .befor
 same-length : tie.Need-same-length Inv-loop μ-loop
 same-length c = search needs
 
+-- freed: the frames that are left add nothing
 returns : tie.Need-returns Inv-loop μ-loop
-returns c = let l = c .before in
+returns c =
+    let l = c .before .before .before in
+    let a = l .before .args in
+    let w = a .w .now in
+    let k = l .loop .k in
+    let z = toZ w64 (ofZ w64 (a .l)) in
+    let e : k + (a .n - k) ≡ a .n = omega arith in
+    let b = w-back w64 (l .before .pre .1) (lit< tt) in
+    let off : afterAt (a .st) z w k (a .s0) .sounding ≡ false =
+    sym (ap (λ (x : Slot). x .sounding) (l .loop .inv .0)) ∙ not-true (l .loop .s .sounding) (c .if1 .taken) in (
+      rw (e, b) at (l .loop .inv .0 ∙ sym (stays (a .st) z w k (a .s0) off (a .n - k))),
+      rw (e, b) at (l .loop .inv .1 ∙ sym (adds-nothing (a .st) z w k (a .s0) off (a .acc .now) (a .n - k))),
+      rw (e, b) at (stays-small (a .st) z w k (a .s0) off (a .n - k) (l .loop .inv .6)),
+    )
+
+same-length-2 : tie.Need-same-length-2 Inv-loop μ-loop
+same-length-2 c = search needs
+
+returns-2 : tie.Need-returns-2 Inv-loop μ-loop
+returns-2 c =
+    let l = c .before in
     let e : l .loop .k ≡ l .before .args .n = omega arith in
     let b = w-back w64 (l .before .pre .1) (lit< tt) in
     (rw (e, b) at (l .loop .inv .0), rw (e, b) at (l .loop .inv .1), rw (e, b) at (l .loop .inv .6))
@@ -176,6 +202,8 @@ run-at-spec =
     Inv-loop
     μ-loop
     loop-holds
+    same-length
+    returns
     frame-at-requires
     mul-a
     mul-a-2
@@ -196,5 +224,5 @@ run-at-spec =
     add-k
     loop-less
     loop-again
-    same-length
-    returns)
+    same-length-2
+    returns-2)
