@@ -27,12 +27,19 @@ pub fn is_folding(v: Voice, s: Stage) -> bool
     false
 }
 
-// A place folded into the loop from a to b, both in 2^-24 samples.
+// A place folded into the loop from a to b, both in 2^-24 samples. Most steps are shorter than a loop, and then it takes no division.
 fn fold_at(a: u64, b: u64, p: u64) -> u64
     requires { ⌜ a < b ⌝ }
     ensures { λ r. ⌜ (r ≡ fold a b p) × (r < b) ⌝ }
 {
-    if p < b { p } else { a + (p - a) % (b - a) }
+    if p < b {
+        return p;
+    }
+    let near = p - (b - a);
+    if near < b {
+        return near;
+    }
+    a + (p - a) % (b - a)
 }
 
 // The voice moved by its step, and folded or freed at once.
