@@ -1,3 +1,8 @@
+-- Each case has its own test.
+use mathlib.Core.Path.{_≡_, refl, sym, ap, _∙_}
+use mathlib.Core.Bool.{Bool}
+use Rattle.engine.specs.declared.Whom.{Whom}
+use Rattle.engine.specs.Whom.{picked}
 use borrow.Author.Needs.{needs}
 use Rattle.engine.proofs.keys.is_picked.Statement.{statement}
 use Rattle.engine.proofs.keys.is_picked.Tie as tie
@@ -26,13 +31,19 @@ is-pedal-held-requires : tie.Need-is-pedal-held-requires
 is-pedal-held-requires c κs = search needs
 
 returns : tie.Need-returns
-returns c = ?
+returns c =
+    let a = c .before .before .before .before .args in
+    c .is-held-key .ensures ∙ sym (ap (λ (w : Whom). picked (a .channel) w (a .s)) (c .before .before .whom .given .1))
 
 returns-2 : tie.Need-returns-2
-returns-2 c = ?
+returns-2 c =
+    let a = c .before .before .before .args in
+    c .is-held .ensures ∙ sym (ap (λ (w : Whom). picked (a .channel) w (a .s)) (c .before .enum-told .given .1))
 
 returns-3 : tie.Need-returns-3
-returns-3 c = ?
+returns-3 c =
+    let a = c .before .before .before .args in
+    c .is-pedal-held .ensures ∙ sym (ap (λ (w : Whom). picked (a .channel) w (a .s)) (c .before .enum-told2 .given .1))
 
 pub is-picked-spec : {M : Type 1} → statement M
 is-picked-spec =
