@@ -4,7 +4,7 @@ ghost use mathlib.Core.Bool.{cond};
 ghost use Prim.Native.Nat.{_<_};
 ghost use Rattle.curves.specs.Gains.{gains};
 ghost use Rattle.voice.specs.Release.{release};
-ghost use Rattle.engine.specs.NoteOff.{held, heldKey, pedalDown, mark, letOff, noteOff};
+ghost use Rattle.engine.specs.NoteOff.{held, heldKey, pedalDown, mark, letOff, offKey, noteOff};
 ghost use Rattle.engine.specs.Controls.{pedalHeld};
 ghost use Rattle.engine.specs.Whom.{picked, offAll};
 use crate::Answered;
@@ -17,6 +17,7 @@ use crate::slots::flag;
 use crate::slots::of_channel;
 use crate::slots::slot_of;
 use crate::slots::with_word;
+use curves::gains;
 use voice::Slot;
 use voice::Voice;
 use voice::is_released;
@@ -134,4 +135,23 @@ pub fn is_down(e: Engine, channel: u8) -> bool
 {
     let c = channel_of(e, channel);
     64 <= c.pedal
+}
+
+// A note-off past its tests.
+pub fn off_key(e: Engine, channel: u8, key: u8) -> Answered
+    ensures { λ r. ⌜ r ≡ offKey channel key e ⌝ }
+{
+    let g = gains();
+    let down = is_down(e, channel);
+    off_all(e, channel, Whom::Key { key }, down, &g)
+}
+
+// Note-off: releases each held voice of channel and key, or marks it while the pedal is down.
+pub fn note_off(e: Engine, channel: u8, key: u8) -> Answered
+    ensures { λ r. ⌜ r ≡ noteOff channel key e ⌝ }
+{
+    if past_one(channel, key) {
+        return refuse(2, e);
+    }
+    off_key(e, channel, key)
 }

@@ -7,6 +7,8 @@ mod controls; // controls.rt: control change
 
 pub use channels::pitch_bend;
 pub use channels::program_change;
+pub use controls::control_change;
+pub use keys::note_off;
 use voice::Channel;
 use voice::Voice;
 
