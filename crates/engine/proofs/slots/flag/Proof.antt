@@ -1,9 +1,9 @@
 use Rattle.arith.specs.Bit.{one-shl}
 use borrow.Author.Needs.{needs}
-use Rattle.engine.proofs.flag.Statement.{statement}
-use Rattle.engine.proofs.flag.Tie as tie
-use Rattle.engine.proofs.flag.Reads as reads
-use Rattle.engine.proofs.flag.Lts as lts
+use Rattle.engine.proofs.slots.flag.Statement.{statement}
+use Rattle.engine.proofs.slots.flag.Tie as tie
+use Rattle.engine.proofs.slots.flag.Reads as reads
+use Rattle.engine.proofs.slots.flag.Lts as lts
 
 -- src/lib.rt:65:13
 shl-result : tie.Need-shl-result
