@@ -4,15 +4,20 @@ use super::bank_builder::*;
 use super::chance::Chance;
 use super::script::{noise, Script};
 
-const RUNS: u64 = 85;
-const DAMAGED: u64 = 130;
+const RUNS: u64 = 78;
+const DAMAGED: u64 = 105;
 
 pub fn write(s: &mut Script) {
-    for seed in 0..RUNS {
-        run(s, seed);
-    }
+    runs(s, RUNS);
     for seed in 0..DAMAGED {
         damaged(s, seed);
+    }
+}
+
+/// The first so many of the runs.
+pub fn runs(s: &mut Script, count: u64) {
+    for seed in 0..count {
+        run(s, seed);
     }
 }
 
@@ -115,7 +120,7 @@ fn sample_plan(c: &mut Chance, length: i64) -> SamplePlan {
 }
 
 /// A bank of up to so many presets, instruments and samples; its first preset is of bank 0.
-fn bank(c: &mut Chance, length: i64, most: i64) -> BankPlan {
+pub fn bank(c: &mut Chance, length: i64, most: i64) -> BankPlan {
     let count = c.from(1, most);
     let samples: Vec<SamplePlan> = (0..count).map(|_| sample_plan(c, length)).collect();
     let count = c.from(1, most);

@@ -16,6 +16,7 @@ pub struct Script {
     pub banks: Vec<Lending>,
     name: String,
     clock: u32,
+    programs: [u8; 16],
 }
 
 impl Script {
@@ -81,6 +82,7 @@ impl Script {
 
     pub fn fresh(&mut self, clock: u32) {
         self.clock = clock;
+        self.programs = [0; 16];
         self.put(b'F', &clock.to_le_bytes());
     }
 
@@ -120,6 +122,16 @@ impl Script {
 
     pub fn program(&mut self, channel: u8, program: u8) {
         self.put(b'p', &[channel, program]);
+        if let Some(now) = self.programs.get_mut(channel as usize) {
+            *now = program;
+        }
+    }
+
+    /// A program change only where the channel has another program.
+    pub fn need_program(&mut self, channel: u8, program: u8) {
+        if self.programs[channel as usize] != program {
+            self.program(channel, program);
+        }
     }
 
     pub fn bend(&mut self, channel: u8, value: u16) {
@@ -129,6 +141,11 @@ impl Script {
 
     pub fn panel(&mut self, slot: u8) {
         self.put(b's', &[slot]);
+    }
+
+    /// The command of a strike file, which is none of a case file.
+    pub fn strike(&mut self, program: u8, bank: u8, key: u8, velocity: u8) {
+        self.put(b'k', &[program, bank, key, velocity]);
     }
 
     /// A render that is done: n frames on, into an output of just as many.
