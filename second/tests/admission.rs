@@ -177,7 +177,7 @@ fn the_listing_gives_each_preset_and_then_the_end() {
     let mut plan = plan();
     plan.presets[1].program = 300;
     plan.presets[1].bank = 0xffff;
-    let bank = admit(&plan.bytes()).ok().expect("admitted");
+    let bank = admit(&plan.bytes()).expect("admitted");
     assert_eq!(list(&bank, 0), Some((0, 0, 1)));
     assert_eq!(list(&bank, 1), Some((300, 0xffff, 2)));
     for place in [2, 3, u32::MAX] {

@@ -15,7 +15,7 @@ use second::voice::Stage;
 /// An engine in the middle of a run by chance: some keys struck, some let go, some frames played.
 fn in_the_middle(chance: &mut Chance) -> Rig {
     let plan = bank(chance, 90, 4);
-    let mut rig = Rig::new(&plan, &noise(90, chance.next()));
+    let mut rig = Rig::new(&plan, &noise(90, chance.number()));
     rig.engine.clock = chance.pick(&[0, 77, 0xffff_fff8]);
     for _ in 0..chance.from(2, 9) {
         let key = chance.from(50, 70) as u8;

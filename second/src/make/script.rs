@@ -188,7 +188,7 @@ impl Script {
 /// A sample memory of n numbers that differ from their neighbours, the ends of the 16-bit range among them.
 pub fn noise(n: usize, seed: u64) -> Vec<i16> {
     let mut chance = super::chance::Chance::new(seed);
-    let mut samples: Vec<i16> = (0..n).map(|_| chance.next() as i16).collect();
+    let mut samples: Vec<i16> = (0..n).map(|_| chance.number() as i16).collect();
     for (place, value) in [(1, 32_767), (2, -32_768), (5, -1), (6, 0), (7, 1)] {
         if place < n {
             samples[place] = value;
