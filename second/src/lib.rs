@@ -6,5 +6,6 @@ pub mod case;
 pub mod key_to_layers;
 pub mod make;
 pub mod slots_keys_clock;
+pub mod strike;
 pub mod tables_and_steps;
 pub mod voice;

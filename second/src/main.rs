@@ -1,11 +1,12 @@
 //! The second program's commands: play a case, strike keys, make the stored cases and their traces.
 
-use second::{case, make};
+use second::{case, make, strike};
 use std::io::{self, BufReader, BufWriter};
 use std::path::Path;
 use std::process::ExitCode;
 
 const USAGE: &str = "usage: second play < CASE > TRACE
+       second strike < STRIKES > LINES
        second make DIR";
 
 /// The status is 0 for a damaged case too, whose trace ends with `bad`; 1 where reading or writing fails; 2 for usage.
@@ -14,6 +15,10 @@ fn main() -> ExitCode {
     let words: Vec<&str> = arguments.iter().map(String::as_str).collect();
     let done = match words.as_slice() {
         ["play"] => case::play(
+            BufReader::new(io::stdin().lock()),
+            BufWriter::new(io::stdout().lock()),
+        ),
+        ["strike"] => strike::play(
             BufReader::new(io::stdin().lock()),
             BufWriter::new(io::stdout().lock()),
         ),

@@ -87,7 +87,7 @@ impl Tables {
         }
         let held = timecents.clamp(-12_000, top);
         let (o, i) = (held.div_euclid(1200), held.rem_euclid(1200));
-        self.octave(i) * 44_100 >> (30 - o)
+        self.octave(i) * 44_100 / (1 << (30 - o))
     }
 
     /// Gain of an attenuation of 0 or more; 0 above 1,440.

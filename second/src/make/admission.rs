@@ -473,10 +473,8 @@ fn long_banks() -> Vec<Named> {
     for length in [65_536, 65_538] {
         let mut plan = base();
         let room = length - plan.bytes().len();
-        // 10 and 4 bytes at a time: modulators of the first preset's zone, then generators of it.
-        let mods = (0..5)
-            .find(|m| room >= 10 * m && (room - 10 * m) % 4 == 0)
-            .unwrap_or(0);
+        // Four bytes at a time with generators; a modulator of ten bytes where two bytes would be left.
+        let mods = (room % 4) / 2;
         plan.presets[0].zones[0].mods += mods;
         let gens = (room - 10 * mods) / 4;
         plan.presets[0].zones[0].gens.extend(vec![(48, 7); gens]);

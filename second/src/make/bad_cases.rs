@@ -3,6 +3,7 @@
 use super::bank_builder::{one_zone, quick, sample};
 use super::script::{noise, Script};
 use crate::case::{BANK_ROOM, MEMORY_ROOM, OUTPUT_ROOM};
+use std::collections::BTreeSet;
 
 /// The commands with the number of bytes that follow the letter; those with a length are cut off further below.
 const FIXED: [(u8, usize); 13] = [
@@ -25,7 +26,8 @@ const FIXED: [(u8, usize); 13] = [
 pub fn all() -> Vec<(String, Vec<u8>)> {
     let mut list = vec![("empty".to_string(), Vec::new())];
     for (letter, bytes) in FIXED {
-        for short in 0..bytes {
+        let shorts: BTreeSet<usize> = [0, bytes / 2, bytes - 1].into();
+        for short in shorts {
             let name = format!("cut-{}-{short}", file_letter(letter));
             list.push((
                 name,

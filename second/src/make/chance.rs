@@ -10,7 +10,7 @@ impl Chance {
         Chance { state: seed }
     }
 
-    pub fn next(&mut self) -> u64 {
+    pub fn number(&mut self) -> u64 {
         self.state = self.state.wrapping_add(0x9e37_79b9_7f4a_7c15);
         let mut z = self.state;
         z = (z ^ (z >> 30)).wrapping_mul(0xbf58_476d_1ce4_e5b9);
@@ -20,15 +20,15 @@ impl Chance {
 
     /// A number from low to high, both included.
     pub fn from(&mut self, low: i64, high: i64) -> i64 {
-        low + (self.next() % (high - low + 1) as u64) as i64
+        low + (self.number() % (high - low + 1) as u64) as i64
     }
 
     /// True once in `n` times.
-    pub fn once_in(&mut self, n: u64) -> bool {
-        self.next().is_multiple_of(n)
+    pub fn once_in(&mut self, n: i64) -> bool {
+        self.from(1, n) == 1
     }
 
     pub fn pick<T: Copy>(&mut self, list: &[T]) -> T {
-        list[(self.next() % list.len() as u64) as usize]
+        list[(self.number() % list.len() as u64) as usize]
     }
 }

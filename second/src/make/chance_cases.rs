@@ -4,15 +4,20 @@ use super::bank_builder::*;
 use super::chance::Chance;
 use super::script::{noise, Script};
 
-const RUNS: u64 = 85;
-const DAMAGED: u64 = 130;
+const RUNS: u64 = 78;
+const DAMAGED: u64 = 105;
 
 pub fn write(s: &mut Script) {
-    for seed in 0..RUNS {
-        run(s, seed);
-    }
+    runs(s, RUNS);
     for seed in 0..DAMAGED {
         damaged(s, seed);
+    }
+}
+
+/// The first so many of the runs.
+pub fn runs(s: &mut Script, count: u64) {
+    for seed in 0..count {
+        run(s, seed);
     }
 }
 
@@ -109,13 +114,13 @@ fn sample_plan(c: &mut Chance, length: i64) -> SamplePlan {
         rate: c.pick(&[400, 8_000, 22_050, 44_100, 44_100, 48_000, 50_000]),
         root: c.pick(&[60, 60, 48, 72, 0, 127, 200]),
         correction: c.from(-128, 127) as i8,
-        link: c.next() as u16,
+        link: c.number() as u16,
         kind: c.pick(&[1, 2, 4, 0x8001, 0x8004]),
     }
 }
 
 /// A bank of up to so many presets, instruments and samples; its first preset is of bank 0.
-fn bank(c: &mut Chance, length: i64, most: i64) -> BankPlan {
+pub fn bank(c: &mut Chance, length: i64, most: i64) -> BankPlan {
     let count = c.from(1, most);
     let samples: Vec<SamplePlan> = (0..count).map(|_| sample_plan(c, length)).collect();
     let count = c.from(1, most);
@@ -199,7 +204,7 @@ fn damaged(s: &mut Script, seed: u64) {
     for _ in 0..c.from(1, 4) {
         let place = c.from(0, bytes.len() as i64 - 1) as usize;
         bytes[place] = match c.from(0, 3) {
-            0 => c.next() as u8,
+            0 => c.number() as u8,
             1 => bytes[place] ^ 1 << c.from(0, 7),
             2 => bytes[place].wrapping_add(1),
             _ => bytes[place].wrapping_sub(1),

@@ -57,7 +57,7 @@ fn begin(s: &mut Script, name: &str) {
 
 /// A strike of so many layers.
 fn chord(s: &mut Script, layers: u8, channel: u8, key: u8, velocity: u8) {
-    s.program(channel, layers - 1);
+    s.need_program(channel, layers - 1);
     s.on(channel, key, velocity);
 }
 
@@ -129,7 +129,7 @@ fn taking_by_age(s: &mut Script) {
     }
     s.silence(2);
     for key in 70..80 {
-        chord(s, 2, 9, key, 80);
+        chord(s, 2, 8, key, 80);
         chord(s, 2, 3, key, 80);
         s.go(1);
     }

@@ -29,45 +29,60 @@ mod admission;
 mod bad_cases;
 pub mod bank_builder;
 pub mod chance;
-mod chance_cases;
+pub mod chance_cases;
 mod key_cases;
 mod layer_cases;
 mod number_lines;
 mod numbers_of_table;
 pub mod script;
+mod strike_cases;
 mod value_cases;
 mod voice_cases;
 
 use crate::bank_admission::admit;
-use crate::case::play;
+use crate::{case, strike};
 use script::{Lending, Script};
 use std::collections::HashSet;
 use std::fs;
 use std::io;
 use std::path::Path;
 
-/// Writes drive/, list_banks/ and numbers/ into the directory.
+/// Writes drive/, list_banks/, strike/ and numbers/ into the directory.
 pub fn write_all(directory: &Path) -> io::Result<()> {
     let script = all_cases();
-    write_pair(&directory.join("drive"), "stdin", "stdout", &script.bytes)?;
+    write_case(&directory.join("drive"), "stdin", "stdout", &script.bytes)?;
     let banks = list_banks(&script.banks);
-    write_pair(&directory.join("list_banks"), "stdin", "stdout", &banks)?;
+    write_case(&directory.join("list_banks"), "stdin", "stdout", &banks)?;
     for (name, bytes) in bad_cases::all() {
         let [case, trace] = ["case", "trace"].map(|end| format!("{name}.{end}"));
-        write_pair(&directory.join("drive/bad"), &case, &trace, &bytes)?;
+        write_case(&directory.join("drive/bad"), &case, &trace, &bytes)?;
     }
-    let numbers = directory.join("numbers");
-    fs::create_dir_all(&numbers)?;
-    fs::write(numbers.join("stdout"), number_lines::lines())
+    write_strikes(&directory.join("strike"), &strike_cases::strikes())?;
+    let numbers = number_lines::lines();
+    write_file(&directory.join("numbers/stdout"), numbers.as_bytes())
 }
 
 /// A case and the trace that playing it gives.
-fn write_pair(directory: &Path, case: &str, trace: &str, bytes: &[u8]) -> io::Result<()> {
+fn write_case(directory: &Path, case: &str, trace: &str, bytes: &[u8]) -> io::Result<()> {
     let mut played = Vec::new();
-    play(bytes, &mut played)?;
-    fs::create_dir_all(directory)?;
-    fs::write(directory.join(case), bytes)?;
-    fs::write(directory.join(trace), played)
+    case::play(bytes, &mut played)?;
+    write_file(&directory.join(case), bytes)?;
+    write_file(&directory.join(trace), &played)
+}
+
+/// A strike file and its lines.
+fn write_strikes(directory: &Path, bytes: &[u8]) -> io::Result<()> {
+    let mut played = Vec::new();
+    strike::play(bytes, &mut played)?;
+    write_file(&directory.join("stdin"), bytes)?;
+    write_file(&directory.join("stdout"), &played)
+}
+
+fn write_file(path: &Path, bytes: &[u8]) -> io::Result<()> {
+    if let Some(parent) = path.parent() {
+        fs::create_dir_all(parent)?;
+    }
+    fs::write(path, bytes)
 }
 
 /// All cases, one behind the other.

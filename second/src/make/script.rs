@@ -16,6 +16,7 @@ pub struct Script {
     pub banks: Vec<Lending>,
     name: String,
     clock: u32,
+    programs: [u8; 16],
 }
 
 impl Script {
@@ -81,6 +82,7 @@ impl Script {
 
     pub fn fresh(&mut self, clock: u32) {
         self.clock = clock;
+        self.programs = [0; 16];
         self.put(b'F', &clock.to_le_bytes());
     }
 
@@ -120,6 +122,16 @@ impl Script {
 
     pub fn program(&mut self, channel: u8, program: u8) {
         self.put(b'p', &[channel, program]);
+        if let Some(now) = self.programs.get_mut(channel as usize) {
+            *now = program;
+        }
+    }
+
+    /// A program change only where the channel has another program.
+    pub fn need_program(&mut self, channel: u8, program: u8) {
+        if self.programs[channel as usize] != program {
+            self.program(channel, program);
+        }
     }
 
     pub fn bend(&mut self, channel: u8, value: u16) {
@@ -129,6 +141,11 @@ impl Script {
 
     pub fn panel(&mut self, slot: u8) {
         self.put(b's', &[slot]);
+    }
+
+    /// The command of a strike file, which is none of a case file.
+    pub fn strike(&mut self, program: u8, bank: u8, key: u8, velocity: u8) {
+        self.put(b'k', &[program, bank, key, velocity]);
     }
 
     /// A render that is done: n frames on, into an output of just as many.
@@ -171,7 +188,7 @@ impl Script {
 /// A sample memory of n numbers that differ from their neighbours, the ends of the 16-bit range among them.
 pub fn noise(n: usize, seed: u64) -> Vec<i16> {
     let mut chance = super::chance::Chance::new(seed);
-    let mut samples: Vec<i16> = (0..n).map(|_| chance.next() as i16).collect();
+    let mut samples: Vec<i16> = (0..n).map(|_| chance.number() as i16).collect();
     for (place, value) in [(1, 32_767), (2, -32_768), (5, -1), (6, 0), (7, 1)] {
         if place < n {
             samples[place] = value;
