@@ -1,5 +1,8 @@
 pub mod Calls
 pub mod EachSlot
+pub mod Kept
+pub mod Age
+pub mod AgeLaws
 pub mod Demand1
 pub mod Demand2
 pub mod Demand3
