@@ -1,17 +1,16 @@
 -- Moving a slot behind all others keeps the order an order, and makes it the newest.
-use Prim.Native.Nat.{ℕ, zero, suc, _+_, _-_, _%_, _≤_, _<_}
-use mathlib.Core.Path.{_≡_, refl, sym, ap, _∙_, subst}
+use Prim.Native.Nat.{ℕ, zero, suc, _+_, _%_, _≤_, _<_}
+use mathlib.Core.Path.{_≡_, refl, sym, ap, _∙_}
 use mathlib.Core.Bool.{Bool, true, false, cond}
 use mathlib.Core.List.{List, [], _∷_, _++_, map}
 use native.Mathlib.Nat.{zero-add, mod-eq-of-lt, suc-inj, suc-ne-zero}
 use native.Mathlib.Omega.{arith}
 use borrow.Author.Tests.{eqb-true, eqb-false, eq-eqb, ne-eqb}
-use lib.Dec.{T, eqb}
+use lib.Dec.{eqb}
 use lib.ListN.{length, take, length-append}
 use Rattle.arith.specs.Loops.{countIf}
-use Rattle.engine.specs.declared.Engine.{Engine}
-use Rattle.engine.specs.Slots.{orderOf, without, renewed}
-use Rattle.promises.specs.Age.{Slots, Ordered, older, startedLast}
+use Rattle.engine.specs.Slots.{without, renewed}
+use Rattle.promises.specs.Age.{Slots, Ordered, older}
 
 eqb-self : (i : ℕ) → eqb i i ≡ true
 eqb-self i = eq-eqb i i refl
@@ -114,7 +113,7 @@ module _ (i j : ℕ) (apart : i ≡ j → ⊥) where
       by false e false f r =
           let m : eqb i y ≡ false = ne-eqb i y (λ q. eqb-false y i e (sym q)) in
           let n : eqb j y ≡ false = ne-eqb j y (λ q. eqb-false y j f (sym q)) in
-          r (rw (m, n, zero-add, zero-add) at h)
+          r (omega (arith, rw (m, n) at h))
 
   -- another slot taken out
   without-older : (x : ℕ) (o : List ℕ) → eqb x i ≡ false → eqb x j ≡ false → older (without x o) i j ≡ older o i j

@@ -1,13 +1,12 @@
 -- Demand 2: every number is right. The definitions are 01's rules; here stands what a doubter asks of them.
 use Prim.Native.Nat.{ℕ, _+_, _*_, _≤_, _<_}
-use mathlib.Core.Bool.{Bool, true, false, cond, _||_}
+use mathlib.Core.Bool.{Bool, true, false, cond}
 use mathlib.Core.List.{List, [], _∷_, _++_}
-use mathlib.Core.Logic.{_⊎_}
 use mathlib.Core.Path.{_≡_}
 use lib.Count.{ones}
 use lib.Dec.{eqb, ltb}
 use lib.Ieee.{Float}
-use lib.IntN.{ℤ, pos}
+use lib.IntN.{ℤ}
 use lib.ListN.{length, getD, take, drop}
 use Rattle.arith.specs.Bit.{bit}
 use Rattle.arith.specs.Loops.{countIf}
@@ -23,7 +22,7 @@ use Rattle.engine.specs.State.{slotAt, slotsOf, channelAt, fresh}
 use Rattle.engine.specs.NoteOff.{ofChannel, held, heldKey, pedalDown, mark}
 use Rattle.engine.specs.Controls.{pedalHeld}
 use Rattle.engine.specs.Slots.{seat}
-use Rattle.engine.specs.NoteOn.{Bank, Started, start, cleared, rival, layersOf}
+use Rattle.engine.specs.NoteOn.{Bank, Started, start, cleared, rival}
 use Rattle.engine.specs.Render.{distance, leftSum, rightSum, mixed}
 use Rattle.promises.specs.Age.{Ordered, older, startedLast}
 use Rattle.promises.specs.Calls.{Call, noteOn, noteOff, control, program, bend, render, ask, does, written, next, run, voiceIn, frames, framesOf, begun, channelOf, startsIn, among, history}

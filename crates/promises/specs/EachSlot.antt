@@ -37,9 +37,9 @@ use Rattle.promises.specs.Calls as Calls
 use Rattle.promises.specs.Calls.{Call, does, next, framesOf, begun, seats, startsIn, among, voiceIn, channelOf}
 
 -- v is one of a list
-pub data Among (v : Voice) : List Voice → Type 0 where
-  here : {vs : List Voice} → Among v (v ∷ vs)
-  later : {u : Voice} {vs : List Voice} → Among v vs → Among v (u ∷ vs)
+abbrev pub Among : Voice → List Voice → Type 0
+Among v [] = ⊥
+Among v (u ∷ us) = (u ≡ v) ⊎ Among v us
 
 -- ---- tests of slots that are picked, and slots that are not
 
@@ -107,11 +107,11 @@ layered (v ∷ vs) x i =
     t = slotAt (startAll vs (start v x) .engine) i
 
     more : Placed i vs (start v x) t → Placed i (v ∷ vs) x t
-    more p = record { voice = p .voice; is = p .is; from = later (p .from); into = rw (p .into) (or-later (eqb j i)) }
+    more p = record { voice = p .voice; is = p .is; from = inr (p .from); into = rw (p .into) (or-later (eqb j i)) }
 
     one : t ≡ slotAt (start v x .engine) i → (b : Bool) → eqb j i ≡ b → (t ≡ slotAt (x .engine) i) ⊎ Placed i (v ∷ vs) x t
     one h true e =
-        ⊎-elim (λ k. inr (record { voice = v; is = h ∙ k; from = here; into = ap (λ (b : Bool). b || among i (seats vs (start v x))) e })) (λ k. inl (h ∙ k))
+        ⊎-elim (λ k. inr (record { voice = v; is = h ∙ k; from = inl refl; into = ap (λ (b : Bool). b || among i (seats vs (start v x))) e })) (λ k. inl (h ∙ k))
         (start-here v x i (sym (eqb-true j i e)))
     one h false e = inl (h ∙ start-there v x i (λ q. eqb-false j i e (sym q)))
 

@@ -1,18 +1,18 @@
 -- What every call keeps: a property of states that each of the four things that calls are made of keeps.
-use Prim.Native.Nat.{ℕ, zero, suc, _+_, _*_, _^_, _≤_, _<_}
-use mathlib.Core.Path.{_≡_, refl, sym, ap, _∙_, subst}
-use mathlib.Core.Bool.{Bool, true, false, cond}
+use Prim.Native.Nat.{ℕ, _^_, _<_}
+use mathlib.Core.Path.{_≡_, _∙_, subst}
+use mathlib.Core.Bool.{false, cond}
 use mathlib.Core.List.{List, [], _∷_, map}
 use native.Mathlib.Omega.{arith}
 use lib.Dec.{eqb, ltb}
-use lib.ListN.{length, set, length-map, length-set, replicate, length-replicate}
+use lib.ListN.{length, set, length-map, length-set, length-replicate}
 use Rattle.voice.specs.declared.Voice.{Voice}
 use Rattle.voice.specs.declared.Channel.{Channel}
 use Rattle.voice.specs.declared.Slot.{Slot}
 use Rattle.voice.specs.State.{sounds, blank}
 use Rattle.engine.specs.declared.Engine.{Engine}
 use Rattle.engine.specs.declared.Answered.{Answered}
-use Rattle.engine.specs.State.{slotsOf, withSlots, channelAt, withChannel, withClock, wordOf, voicesOf, fresh, freshChannel, upFrom}
+use Rattle.engine.specs.State.{slotsOf, withSlots, channelAt, withChannel, withClock, wordOf, fresh, freshChannel}
 use Rattle.engine.specs.SlotLoop.{paired-length, word-lt}
 use Rattle.engine.specs.Answers.{done, refused, answer, pastOne, pastTwo, pastBend}
 use Rattle.engine.specs.NoteOff.{letOff, pedalDown, heldKey, held, off, offKey, noteOff, ofChannel}
@@ -21,7 +21,7 @@ use Rattle.engine.specs.Channels.{withStored, withVolume, withExpression, withP
 use Rattle.engine.specs.Program.{programChange}
 use Rattle.engine.specs.Bend.{pitchBend}
 use Rattle.engine.specs.Slots.{seat, startIn}
-use Rattle.engine.specs.NoteOn.{Bank, Started, start, startAll, cleared, rival, struck, layersOf, noteOnNumber, noteOn}
+use Rattle.engine.specs.NoteOn.{Started, start, startAll, cleared, rival, struck, layersOf, noteOnNumber, noteOn}
 use Rattle.engine.specs.Render.{distance, slotAfter, played, renderNumber, render}
 use Rattle.promises.specs.Calls as Calls
 use Rattle.promises.specs.Calls.{Call, next, run}

@@ -10,4 +10,5 @@ pub mod Cuts
 pub mod Demand1Proof
 pub mod Demand2Proof
 pub mod Demand3Proof
+pub mod Banks
 pub mod Runs
