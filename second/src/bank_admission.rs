@@ -78,11 +78,7 @@ pub fn admit(bytes: &[u8]) -> Result<Bank, Fault> {
     let chunks = nine_chunks(bytes)?;
     test_records(&chunks)?;
     test_indexes(&chunks)?;
-    let bank = Bank {
-        presets: presets(&chunks),
-        instruments: instruments(&chunks),
-        samples: samples(&chunks),
-    };
+    let bank = Bank { presets: presets(&chunks), instruments: instruments(&chunks), samples: samples(&chunks) };
     test_numbers(&bank)?;
     test_rates(&bank)?;
     test_windows(&bank)?;
@@ -147,12 +143,7 @@ impl<'a> Chunk<'a> {
         let size = self.record_size();
         let body_place = self.place + 8;
         let pieces = self.body.chunks_exact(size).enumerate();
-        pieces
-            .map(|(i, bytes)| Record {
-                place: body_place + i * size,
-                bytes,
-            })
-            .collect()
+        pieces.map(|(i, bytes)| Record { place: body_place + i * size, bytes }).collect()
     }
 
     /// The number of the terminal record.
@@ -175,11 +166,7 @@ fn nine_chunks(bytes: &[u8]) -> Result<Vec<Chunk<'_>>, Fault> {
             return fault(Kind::Chunk, place);
         }
         let body = &rest[8..8 + size];
-        chunks.push(Chunk {
-            number,
-            place,
-            body,
-        });
+        chunks.push(Chunk { number, place, body });
         place += 8 + size;
     }
     if place < bytes.len() {
@@ -202,14 +189,8 @@ fn test_records(chunks: &[Chunk]) -> Result<(), Fault> {
 /// "Bag indexes never fall along phdr (and inst), and the terminal one names the last bag; the same for a bag's
 /// generator and modulator indexes." Among several faults the one at the smallest place is told.
 fn test_indexes(chunks: &[Chunk]) -> Result<(), Fault> {
-    let lists = [
-        (PHDR, 24, PBAG),
-        (PBAG, 0, PGEN),
-        (PBAG, 2, PMOD),
-        (INST, 20, IBAG),
-        (IBAG, 0, IGEN),
-        (IBAG, 2, IMOD),
-    ];
+    let lists =
+        [(PHDR, 24, PBAG), (PBAG, 0, PGEN), (PBAG, 2, PMOD), (INST, 20, IBAG), (IBAG, 0, IGEN), (IBAG, 2, IMOD)];
     let faults = lists.map(|(from, at, to)| index_fault(&chunks[from], at, chunks[to].terminal()));
     match faults.iter().flatten().min() {
         Some(&place) => fault(Kind::Index, place),
@@ -254,36 +235,23 @@ fn zones(chunks: &[Chunk], bags: usize, from: u16, to: u16, last: u16) -> Zones 
 fn stored_zone(records: &[Record], last: u16) -> StoredZone {
     let mut generators = Vec::new();
     for record in records {
-        let generator = Generator {
-            operator: record.u16_at(0),
-            amount: record.u16_at(2),
-        };
+        let generator = Generator { operator: record.u16_at(0), amount: record.u16_at(2) };
         if generator.operator == last {
             let end = Some((generator.amount as usize, record.place));
             return StoredZone { generators, end };
         }
         generators.push(generator);
     }
-    StoredZone {
-        generators,
-        end: None,
-    }
+    StoredZone { generators, end: None }
 }
 
 /// "The first of two or more zones, if not sounding, is global. Every other zone without one is ignored."
 fn sort_zones(stored: Vec<StoredZone>) -> Zones {
-    let mut zones = Zones {
-        global: Vec::new(),
-        sounding: Vec::new(),
-    };
+    let mut zones = Zones { global: Vec::new(), sounding: Vec::new() };
     let several = stored.len() >= 2;
     for (i, zone) in stored.into_iter().enumerate() {
         if let Some((number, place)) = zone.end {
-            zones.sounding.push(SoundingZone {
-                generators: zone.generators,
-                number,
-                place,
-            });
+            zones.sounding.push(SoundingZone { generators: zone.generators, number, place });
         } else if i == 0 && several {
             zones.global = zone.generators;
         }
@@ -303,8 +271,7 @@ fn presets(chunks: &[Chunk]) -> Vec<Preset> {
 
 fn instruments(chunks: &[Chunk]) -> Vec<Zones> {
     let heads = chunks[INST].records();
-    let instrument =
-        |pair: &[Record]| zones(chunks, IBAG, pair[0].u16_at(20), pair[1].u16_at(20), 53);
+    let instrument = |pair: &[Record]| zones(chunks, IBAG, pair[0].u16_at(20), pair[1].u16_at(20), 53);
     heads.windows(2).map(instrument).collect()
 }
 

@@ -132,9 +132,7 @@ pub fn play(input: impl Read, output: impl Write) -> io::Result<()> {
         ram: Memory::default(),
         rom: Memory::default(),
     };
-    run(input, output, |letter, commands| {
-        player.command(letter, commands)
-    })
+    run(input, output, |letter, commands| player.command(letter, commands))
 }
 
 /// Reads commands to the end and writes what each answers.
@@ -224,21 +222,12 @@ impl Player {
     }
 
     fn note_on(&mut self, channel: u8, key: u8, velocity: u8) -> Answer {
-        let lent = Lent {
-            bank: &self.bank,
-            ram: self.ram.part(),
-            rom: self.rom.part(),
-        };
-        self.engine
-            .note_on(self.tables, &lent, channel, key, velocity)
+        let lent = Lent { bank: &self.bank, ram: self.ram.part(), rom: self.rom.part() };
+        self.engine.note_on(self.tables, &lent, channel, key, velocity)
     }
 
     fn render(&mut self, clock: u32, length: usize) -> String {
-        let lent = Lent {
-            bank: &self.bank,
-            ram: self.ram.part(),
-            rom: self.rom.part(),
-        };
+        let lent = Lent { bank: &self.bank, ram: self.ram.part(), rom: self.rom.part() };
         let mut output = vec![f32::from_bits(BEFORE); length];
         let answer = self.engine.render(self.tables, &lent, clock, &mut output);
         let number = answer.err().unwrap_or(0);

@@ -32,12 +32,8 @@ fn in_range(range: u16, value: u8) -> bool {
 /// "A local range replaces the global one; default 0..127."
 fn zone_matches(zones: &Zones, zone: &SoundingZone, key: u8, velocity: u8) -> bool {
     const ALL: u16 = 127 << 8;
-    let keys = key_range(&zone.generators)
-        .or(key_range(&zones.global))
-        .unwrap_or(ALL);
-    let velocities = velocity_range(&zone.generators)
-        .or(velocity_range(&zones.global))
-        .unwrap_or(ALL);
+    let keys = key_range(&zone.generators).or(key_range(&zones.global)).unwrap_or(ALL);
+    let velocities = velocity_range(&zone.generators).or(velocity_range(&zones.global)).unwrap_or(ALL);
     in_range(keys, key) && in_range(velocities, velocity)
 }
 
@@ -100,9 +96,7 @@ fn default_value(operator: u16) -> i64 {
 
 /// The instrument's part of a value: local, else global, else default.
 pub fn instrument_value(instrument: &Zones, zone: &SoundingZone, operator: u16) -> i64 {
-    amount(&zone.generators, operator)
-        .or(amount(&instrument.global, operator))
-        .unwrap_or(default_value(operator))
+    amount(&zone.generators, operator).or(amount(&instrument.global, operator)).unwrap_or(default_value(operator))
 }
 
 /// "Generators 0-4, 12, 45, 46, 47, 50, 54, 57, 58 count in instruments only."
@@ -131,9 +125,8 @@ impl Layer<'_> {
         if in_instruments_only(operator) {
             return own;
         }
-        let added = amount(&self.preset_zone.generators, operator)
-            .or(amount(&self.preset.global, operator))
-            .unwrap_or(0);
+        let added =
+            amount(&self.preset_zone.generators, operator).or(amount(&self.preset.global, operator)).unwrap_or(0);
         held(operator, own + added)
     }
 

@@ -14,14 +14,8 @@ fn main() -> ExitCode {
     let arguments: Vec<String> = std::env::args().skip(1).collect();
     let words: Vec<&str> = arguments.iter().map(String::as_str).collect();
     let done = match words.as_slice() {
-        ["play"] => case::play(
-            BufReader::new(io::stdin().lock()),
-            BufWriter::new(io::stdout().lock()),
-        ),
-        ["strike"] => strike::play(
-            BufReader::new(io::stdin().lock()),
-            BufWriter::new(io::stdout().lock()),
-        ),
+        ["play"] => case::play(BufReader::new(io::stdin().lock()), BufWriter::new(io::stdout().lock())),
+        ["strike"] => strike::play(BufReader::new(io::stdin().lock()), BufWriter::new(io::stdout().lock())),
         ["make", directory] => make::write_all(Path::new(directory)),
         _ => {
             eprintln!("{USAGE}");

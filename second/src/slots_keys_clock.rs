@@ -63,28 +63,15 @@ pub struct Engine {
 impl Engine {
     /// "Fresh: clock 0, program and bank 0, bend 8,192, control 7 at 100, 11 at 127, 64 at 0." A case may name the clock.
     pub fn fresh(clock: u32) -> Engine {
-        let channel = Channel {
-            program: 0,
-            bank: 0,
-            stored_bank: 0,
-            bend: 8_192,
-            volume: 100,
-            expression: 127,
-            pedal: 0,
-        };
-        Engine {
-            slots: vec![None; 32],
-            channels: vec![channel; 16],
-            clock,
-            started: 0,
-        }
+        let channel =
+            Channel { program: 0, bank: 0, stored_bank: 0, bend: 8_192, volume: 100, expression: 127, pedal: 0 };
+        Engine { slots: vec![None; 32], channels: vec![channel; 16], clock, started: 0 }
     }
 
     /// "Which slots sound is one 32-bit word, a bit for each slot."
     pub fn word(&self) -> u32 {
         let bits = self.slots.iter().enumerate();
-        bits.map(|(slot, voice)| u32::from(voice.is_some()) << slot)
-            .sum()
+        bits.map(|(slot, voice)| u32::from(voice.is_some()) << slot).sum()
     }
 
     fn voices(&mut self) -> impl Iterator<Item = &mut Voice> {
@@ -102,14 +89,7 @@ impl Engine {
     // Note-on
 
     /// The tests come in the table's order. "Velocity 0, once the ranges are tested, is a note-off and needs no bank."
-    pub fn note_on(
-        &mut self,
-        tables: &Tables,
-        lent: &Lent,
-        channel: u8,
-        key: u8,
-        velocity: u8,
-    ) -> Answer {
+    pub fn note_on(&mut self, tables: &Tables, lent: &Lent, channel: u8, key: u8, velocity: u8) -> Answer {
         if channel > 15 || key > 127 || velocity > 127 {
             return Err(PAST_RANGE);
         }
@@ -279,13 +259,7 @@ impl Engine {
     }
 
     /// "Render is told the clock value to reach; the distance is modulo 2^32."
-    pub fn render(
-        &mut self,
-        tables: &Tables,
-        lent: &Lent,
-        clock: u32,
-        output: &mut [f32],
-    ) -> Answer {
+    pub fn render(&mut self, tables: &Tables, lent: &Lent, clock: u32, output: &mut [f32]) -> Answer {
         let distance = clock.wrapping_sub(self.clock);
         if distance >= 1 << 31 {
             return Err(TOO_FAR);
@@ -316,11 +290,7 @@ impl Engine {
             let Some(voice) = slot else { continue };
             let memory = lent.memory(voice.numbers.window.rom);
             let channel = &self.channels[voice.channel as usize];
-            let controls = Controls {
-                bend: channel.bend,
-                volume: channel.volume,
-                expression: channel.expression,
-            };
+            let controls = Controls { bend: channel.bend, volume: channel.volume, expression: channel.expression };
             let (left, right) = slot_frame(slot, tables, memory, controls);
             sums = (sums.0 + left, sums.1 + right);
         }

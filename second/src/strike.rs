@@ -11,16 +11,10 @@ use std::io::{self, Read, Write};
 /// Plays a strike file; a damaged one ends with the line `bad`, as a case does.
 pub fn play(input: impl Read, output: impl Write) -> io::Result<()> {
     let mut bank = admit(&[]);
-    run(input, output, |letter, commands| {
-        command(letter, commands, &mut bank)
-    })
+    run(input, output, |letter, commands| command(letter, commands, &mut bank))
 }
 
-fn command<R: Read>(
-    letter: u8,
-    c: &mut Commands<R>,
-    bank: &mut Result<Bank, Fault>,
-) -> Result<Vec<u8>, Stop> {
+fn command<R: Read>(letter: u8, c: &mut Commands<R>, bank: &mut Result<Bank, Fault>) -> Result<Vec<u8>, Stop> {
     match letter {
         b'B' => *bank = admit(&c.bank()?),
         b't' => return name_line(c),

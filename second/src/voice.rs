@@ -120,9 +120,7 @@ impl Voice {
         match self.stage {
             Stage::Delay { .. } | Stage::Hold { .. } => None,
             Stage::Attack { spent } => Some(self.attack_level(spent)),
-            Stage::Decay { .. } | Stage::Sustain | Stage::Release { .. } => {
-                Some(tables.gain(self.envelope()))
-            }
+            Stage::Decay { .. } | Stage::Sustain | Stage::Release { .. } => Some(tables.gain(self.envelope())),
         }
     }
 
@@ -192,10 +190,7 @@ impl Voice {
             u = (u * self.attack_level(spent)).div_euclid(FULL);
         }
         let pan = self.numbers.pan;
-        (
-            (u * (500 - pan)).div_euclid(1_000),
-            (u * (500 + pan)).div_euclid(1_000),
-        )
+        ((u * (500 - pan)).div_euclid(1_000), (u * (500 + pan)).div_euclid(1_000))
     }
 
     /// One frame of this voice: what it adds left and right, and whether it still sounds behind the frame.
@@ -227,12 +222,7 @@ pub fn least_attenuation(tables: &Tables, level: i64) -> i64 {
 }
 
 /// One frame of a slot: what it adds left and right. The slot is emptied where its voice is freed; a free one is silent.
-pub fn slot_frame(
-    slot: &mut Option<Voice>,
-    tables: &Tables,
-    memory: &[i16],
-    controls: Controls,
-) -> (i64, i64) {
+pub fn slot_frame(slot: &mut Option<Voice>, tables: &Tables, memory: &[i16], controls: Controls) -> (i64, i64) {
     let Some(voice) = slot else { return (0, 0) };
     let (left, right, sounds) = voice.frame(tables, memory, controls);
     if !sounds {

@@ -5,16 +5,11 @@ use second::make::bank_builder::*;
 
 /// Two presets and two instruments, each of a global and a sounding zone, and two samples.
 fn plan() -> BankPlan {
-    let preset = |program| PresetPlan {
-        program,
-        bank: 0,
-        zones: vec![zone(&[(48, 1)]), zone_to(&[], 41, program as i32)],
-    };
+    let preset =
+        |program| PresetPlan { program, bank: 0, zones: vec![zone(&[(48, 1)]), zone_to(&[], 41, program as i32)] };
     BankPlan {
         presets: vec![preset(0), preset(1)],
-        instruments: [0, 1]
-            .map(|n| vec![zone(&[(48, 1)]), zone_to(&[(17, 5)], 53, n)])
-            .to_vec(),
+        instruments: [0, 1].map(|n| vec![zone(&[(48, 1)]), zone_to(&[(17, 5)], 53, n)]).to_vec(),
         samples: vec![sample(0, 8), sample(2, 9)],
     }
 }
@@ -75,11 +70,7 @@ fn records_that_are_broken_or_too_few() {
             raw.chunks[chunk].body.push(0);
             begin(raw, chunk)
         });
-        let least = if [PHDR, INST, SHDR].contains(&chunk) {
-            1
-        } else {
-            0
-        };
+        let least = if [PHDR, INST, SHDR].contains(&chunk) { 1 } else { 0 };
         check(Kind::Records, |raw| {
             let size = raw.chunks[chunk].record;
             raw.chunks[chunk].body.truncate(least * size);
@@ -90,14 +81,7 @@ fn records_that_are_broken_or_too_few() {
 
 #[test]
 fn indexes_that_fall_or_end_wrong() {
-    for (chunk, at) in [
-        (PHDR, 24),
-        (PBAG, 0),
-        (PBAG, 2),
-        (INST, 20),
-        (IBAG, 0),
-        (IBAG, 2),
-    ] {
+    for (chunk, at) in [(PHDR, 24), (PBAG, 0), (PBAG, 2), (INST, 20), (IBAG, 0), (IBAG, 2)] {
         check(Kind::Index, |raw| {
             raw.set(chunk, 0, at, 9_999);
             place(raw, chunk, 1)

@@ -74,10 +74,7 @@ fn the_hash_is_over_all_of_the_output() {
     for byte in [0, 0, 0, 0, 0, 0, 0, 0, 0x78, 0x56, 0x34, 0x12] {
         hash = ((hash ^ byte) * 0x100_0000_01b3) % (1 << 64);
     }
-    assert_eq!(
-        trace(&s.bytes),
-        format!("r 0 {hash:016x} | 00000001 00000000\n")
-    );
+    assert_eq!(trace(&s.bytes), format!("r 0 {hash:016x} | 00000001 00000000\n"));
 }
 
 #[test]
@@ -122,12 +119,10 @@ fn what_there_is_room_for() {
     s.rom(&vec![1; 65_536]);
     s.go_into(4_096, 8_448);
     assert!(!trace(&s.bytes).contains("bad"));
-    let commands: [&dyn Fn(&mut Script); 4] = [
-        &|s| s.bank(&vec![0; 66_001]),
-        &|s| s.ram(&vec![1; 65_537]),
-        &|s| s.rom(&vec![1; 65_537]),
-        &|s| s.go_into(1, 8_449),
-    ];
+    let commands: [&dyn Fn(&mut Script); 4] =
+        [&|s| s.bank(&vec![0; 66_001]), &|s| s.ram(&vec![1; 65_537]), &|s| s.rom(&vec![1; 65_537]), &|s| {
+            s.go_into(1, 8_449)
+        }];
     for command in commands {
         let mut s = Script::default();
         s.admission();

@@ -96,10 +96,7 @@ fn run_distances() {
 
 #[test]
 fn run_counts_of_layers() {
-    let mut plan = BankPlan {
-        samples: vec![sample(0, 8)],
-        ..BankPlan::default()
-    };
+    let mut plan = BankPlan { samples: vec![sample(0, 8)], ..BankPlan::default() };
     for (program, count) in [(0, 0), (1, 32), (2, 33)] {
         plan.strike_plan(program, &[], vec![zone_to(&[], 53, 0); count]);
     }

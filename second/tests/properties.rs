@@ -38,10 +38,8 @@ fn again(rig: &Rig, engine: &Engine) -> Rig {
     }
 }
 
-const NO_BANK: second::bank_admission::Fault = second::bank_admission::Fault {
-    kind: second::bank_admission::Kind::Chunk,
-    place: 0,
-};
+const NO_BANK: second::bank_admission::Fault =
+    second::bank_admission::Fault { kind: second::bank_admission::Kind::Chunk, place: 0 };
 
 #[test]
 fn every_cut_of_a_render_gives_the_same_frames() {
@@ -164,14 +162,8 @@ fn the_advance_keeps_demand_3s_bound() {
     let chance = &mut Chance::new(4);
     for _ in 0..150 {
         let rate = chance.from(400, 50_000) as u32;
-        let tuning = [
-            (51, chance.from(-100, 60) as i32),
-            (52, chance.from(-99, 99) as i32),
-        ];
-        let window = SamplePlan {
-            rate,
-            ..sample(0, 50)
-        };
+        let tuning = [(51, chance.from(-100, 60) as i32), (52, chance.from(-99, 99) as i32)];
+        let window = SamplePlan { rate, ..sample(0, 50) };
         let gens = quick(&[&tuning[..], &[(54, 1), (33, -12_000)]].concat());
         let mut rig = Rig::new(&one_zone(&gens, window), &noise(50, 1));
         let bend = chance.from(0, 16_383) as u16;
@@ -184,11 +176,7 @@ fn the_advance_keeps_demand_3s_bound() {
         let cents = (pitch + bend_cents(bend)).clamp(-9_600, 4_800);
         let advance = n * tables().step(cents, rate as u64);
         rig.render(n as u32);
-        assert_eq!(
-            rig.voice(0).place,
-            advance % (50 << 24),
-            "the advance, folded"
-        );
+        assert_eq!(rig.voice(0).place, advance % (50 << 24), "the advance, folded");
         assert!(within(advance, n, cents, rate as u64));
         assert!(!within(advance + 2 * n, n, cents, rate as u64));
         assert!(!within(advance.saturating_sub(2 * n), n, cents, rate as u64) || advance < 2 * n);

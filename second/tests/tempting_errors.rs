@@ -107,12 +107,7 @@ fn plain_less_than_on_the_clock() {
 #[test]
 fn folding_once() {
     for length in 1..=7u32 {
-        let window = SamplePlan {
-            loop_start: 2,
-            loop_end: 2 + length,
-            rate: 50_000,
-            ..sample(0, 16)
-        };
+        let window = SamplePlan { loop_start: 2, loop_end: 2 + length, rate: 50_000, ..sample(0, 16) };
         let memory: Vec<i16> = (0..16).map(|i| 100 * i).collect();
         let mut rig = Rig::new(&looped(&[], window), &memory).at_full();
         assert_eq!(rig.on(0, 108, 127), Ok(1));

@@ -29,10 +29,7 @@ pub fn all() -> Vec<(String, Vec<u8>)> {
         let shorts: BTreeSet<usize> = [0, bytes / 2, bytes - 1].into();
         for short in shorts {
             let name = format!("cut-{}-{short}", file_letter(letter));
-            list.push((
-                name,
-                after_start(letter, &[1, 0, 0, 0, 0, 0, 0, 0][..short]),
-            ));
+            list.push((name, after_start(letter, &[1, 0, 0, 0, 0, 0, 0, 0][..short])));
         }
     }
     list.extend(unknown_letters());
@@ -63,8 +60,7 @@ fn after_start(letter: u8, bytes: &[u8]) -> Vec<u8> {
 fn unknown_letters() -> Vec<(String, Vec<u8>)> {
     let letters = [0u8, b'\n', b' ', b'A', b'N', b'f', b'q', b'z', 0x80, 0xff];
     let list = letters.iter();
-    list.map(|&l| (format!("unknown-{l:02x}"), after_start(l, &[])))
-        .collect()
+    list.map(|&l| (format!("unknown-{l:02x}"), after_start(l, &[]))).collect()
 }
 
 /// Lengths that promise more bytes than come.
@@ -74,10 +70,7 @@ fn cut_bodies() -> Vec<(String, Vec<u8>)> {
         for have in [0, body] {
             let mut bytes = vec![if letter == b'B' { 6 } else { 5 }, 0, 0, 0];
             bytes.extend(vec![7; have]);
-            list.push((
-                format!("body-{}-{have}", file_letter(letter)),
-                after_start(letter, &bytes),
-            ));
+            list.push((format!("body-{}-{have}", file_letter(letter)), after_start(letter, &bytes)));
         }
     }
     list.push(("body-t".to_string(), after_start(b't', b"\x05name")));
@@ -89,37 +82,13 @@ fn too_large() -> Vec<(String, Vec<u8>)> {
     let number = |n: u32| n.to_le_bytes().to_vec();
     let render = |n: u32| [number(3), number(n)].concat();
     vec![
-        (
-            "large-bb".to_string(),
-            after_start(b'B', &number(BANK_ROOM + 1)),
-        ),
-        (
-            "large-bb-most".to_string(),
-            after_start(b'B', &number(u32::MAX)),
-        ),
-        (
-            "large-mm".to_string(),
-            after_start(b'M', &number(MEMORY_ROOM + 1)),
-        ),
-        (
-            "large-mm-most".to_string(),
-            after_start(b'M', &number(u32::MAX)),
-        ),
-        (
-            "large-oo".to_string(),
-            after_start(b'O', &number(MEMORY_ROOM + 1)),
-        ),
-        (
-            "large-oo-half".to_string(),
-            after_start(b'O', &number(0x8000_0001)),
-        ),
-        (
-            "large-r".to_string(),
-            after_start(b'r', &render(OUTPUT_ROOM + 1)),
-        ),
-        (
-            "large-r-most".to_string(),
-            after_start(b'r', &render(u32::MAX)),
-        ),
+        ("large-bb".to_string(), after_start(b'B', &number(BANK_ROOM + 1))),
+        ("large-bb-most".to_string(), after_start(b'B', &number(u32::MAX))),
+        ("large-mm".to_string(), after_start(b'M', &number(MEMORY_ROOM + 1))),
+        ("large-mm-most".to_string(), after_start(b'M', &number(u32::MAX))),
+        ("large-oo".to_string(), after_start(b'O', &number(MEMORY_ROOM + 1))),
+        ("large-oo-half".to_string(), after_start(b'O', &number(0x8000_0001))),
+        ("large-r".to_string(), after_start(b'r', &render(OUTPUT_ROOM + 1))),
+        ("large-r-most".to_string(), after_start(b'r', &render(u32::MAX))),
     ]
 }

@@ -11,10 +11,7 @@ pub struct ZonePlan {
 
 /// A zone of these generators, without modulators.
 pub fn zone(gens: &[Gen]) -> ZonePlan {
-    ZonePlan {
-        gens: gens.to_vec(),
-        mods: 0,
-    }
+    ZonePlan { gens: gens.to_vec(), mods: 0 }
 }
 
 /// A zone with these generators and behind them 41 or 53 with a number.
@@ -46,17 +43,7 @@ pub struct SamplePlan {
 
 /// A mono sample in RAM of rate 44,100 and root 60, its loop the whole window.
 pub fn sample(start: u32, end: u32) -> SamplePlan {
-    SamplePlan {
-        start,
-        end,
-        loop_start: start,
-        loop_end: end,
-        rate: 44_100,
-        root: 60,
-        correction: 0,
-        link: 0,
-        kind: 1,
-    }
+    SamplePlan { start, end, loop_start: start, loop_end: end, rate: 44_100, root: 60, correction: 0, link: 0, kind: 1 }
 }
 
 #[derive(Clone, Default)]
@@ -106,16 +93,9 @@ const SHAPES: [(&[u8; 4], usize); 9] = [
 
 impl RawBank {
     fn empty() -> RawBank {
-        let chunk = |(name, record): (&[u8; 4], usize)| RawChunk {
-            name: *name,
-            record,
-            body: Vec::new(),
-            size_error: 0,
-        };
-        RawBank {
-            chunks: SHAPES.map(chunk).to_vec(),
-            behind: Vec::new(),
-        }
+        let chunk =
+            |(name, record): (&[u8; 4], usize)| RawChunk { name: *name, record, body: Vec::new(), size_error: 0 };
+        RawBank { chunks: SHAPES.map(chunk).to_vec(), behind: Vec::new() }
     }
 
     /// How many records a chunk has.
@@ -230,10 +210,7 @@ impl BankPlan {
         for (i, plan) in self.samples.iter().enumerate() {
             raw.push_sample(&format!("s{i}"), plan);
         }
-        let terminal = SamplePlan {
-            rate: 0,
-            ..sample(0, 0)
-        };
+        let terminal = SamplePlan { rate: 0, ..sample(0, 0) };
         raw.push_sample("EOS", &terminal);
         raw
     }
@@ -246,11 +223,7 @@ impl BankPlan {
     pub fn strike_plan(&mut self, program: u16, preset: &[Gen], zones: Vec<ZonePlan>) {
         let number = self.instruments.len() as i32;
         self.instruments.push(zones);
-        self.presets.push(PresetPlan {
-            program,
-            bank: 0,
-            zones: vec![zone_to(preset, 41, number)],
-        });
+        self.presets.push(PresetPlan { program, bank: 0, zones: vec![zone_to(preset, 41, number)] });
     }
 }
 
@@ -264,10 +237,7 @@ pub fn quick(more: &[Gen]) -> Vec<Gen> {
 
 /// A bank of one preset (bank 0, program 0), one instrument with one zone, one sample.
 pub fn one_zone(gens: &[Gen], plan: SamplePlan) -> BankPlan {
-    let mut bank = BankPlan {
-        samples: vec![plan],
-        ..BankPlan::default()
-    };
+    let mut bank = BankPlan { samples: vec![plan], ..BankPlan::default() };
     bank.strike_plan(0, &[], vec![zone_to(gens, 53, 0)]);
     bank
 }

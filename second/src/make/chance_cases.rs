@@ -26,11 +26,7 @@ pub fn runs(s: &mut Script, count: u64) {
 /// Generators whose offsets leave the loop inside its window: samples have room for two places either way.
 fn generator(c: &mut Chance, preset: bool) -> Gen {
     const TIMES: [i64; 7] = [-32_768, -32_768, -12_000, -11_000, -10_000, -9_000, 0];
-    let times = if preset {
-        [0, 100, -500, 700, -20_768, 1, -1]
-    } else {
-        TIMES
-    };
+    let times = if preset { [0, 100, -500, 700, -20_768, 1, -1] } else { TIMES };
     match c.from(0, 21) {
         n @ 0..=3 => (33 + n as u16, c.pick(&times) as i32),
         4 | 5 => (38, c.pick(&times) as i32),
@@ -48,10 +44,7 @@ fn generator(c: &mut Chance, preset: bool) -> Gen {
         17 => (58, c.from(-1, 128) as i32),
         18 | 19 => (54, c.from(-4, 7) as i32),
         20 => (c.from(0, 3) as u16, c.from(-2, 2) as i32),
-        _ => (
-            c.pick(&[5, 8, 15, 16, 21, 43, 44, 60]),
-            c.from(-32_768, 32_767) as i32,
-        ),
+        _ => (c.pick(&[5, 8, 15, 16, 21, 43, 44, 60]), c.from(-32_768, 32_767) as i32),
     }
 }
 
@@ -83,11 +76,7 @@ fn zones(c: &mut Chance, last: u16, numbers: usize) -> Vec<ZonePlan> {
         list.push(zone(&generators(c, preset)));
     }
     for _ in 0..c.pick(&[0, 1, 1, 2, 2, 3, 4, 6]) {
-        let mut plan = zone_to(
-            &generators(c, preset),
-            last,
-            c.from(0, numbers as i64 - 1) as i32,
-        );
+        let mut plan = zone_to(&generators(c, preset), last, c.from(0, numbers as i64 - 1) as i32);
         if c.once_in(6) {
             plan.gens.push(generator(c, preset));
         }
@@ -129,19 +118,11 @@ pub fn bank(c: &mut Chance, length: i64, most: i64) -> BankPlan {
     for i in 0..c.from(1, most) as u16 {
         presets.push(PresetPlan {
             program: i,
-            bank: if i == 0 {
-                0
-            } else {
-                c.pick(&[0, 0, 0, 0, 1, 128])
-            },
+            bank: if i == 0 { 0 } else { c.pick(&[0, 0, 0, 0, 1, 128]) },
             zones: zones(c, 41, instruments.len()),
         });
     }
-    BankPlan {
-        presets,
-        instruments,
-        samples,
-    }
+    BankPlan { presets, instruments, samples }
 }
 
 // Runs by chance
@@ -151,10 +132,7 @@ fn run(s: &mut Script, seed: u64) {
     let c = &mut Chance::new(10_000 + seed);
     let length = c.from(70, 120);
     let plan = bank(c, length, 4);
-    let (ram, rom) = (
-        noise(length as usize, seed),
-        noise(length as usize, seed + 500),
-    );
+    let (ram, rom) = (noise(length as usize, seed), noise(length as usize, seed + 500));
     s.begin(&format!("run {seed}"), &plan.bytes(), &ram, &rom);
     s.fresh(c.pick(&[0, 1_000, 0xffff_ff80]));
     for channel in [0, 1, 9] {
@@ -210,12 +188,7 @@ fn damaged(s: &mut Script, seed: u64) {
             _ => bytes[place].wrapping_sub(1),
         };
     }
-    s.begin(
-        &format!("damaged bank {seed}"),
-        &bytes,
-        &noise(70, seed),
-        &noise(45, seed),
-    );
+    s.begin(&format!("damaged bank {seed}"), &bytes, &noise(70, seed), &noise(45, seed));
     s.admission();
     s.list(0);
     for key in [40, 60, 80] {

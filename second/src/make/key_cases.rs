@@ -30,23 +30,13 @@ pub fn write(s: &mut Script) {
 /// Program n - 1 has n layers that sound on, for n from 1 to 32. They stand in hold, which keeps the traces short.
 fn chords() -> BankPlan {
     let held = quick(&[(35, 5_000), (54, 1), (38, -6_000)]);
-    let mut plan = BankPlan {
-        samples: vec![sample(0, 16)],
-        ..BankPlan::default()
-    };
+    let mut plan = BankPlan { samples: vec![sample(0, 16)], ..BankPlan::default() };
     let layer = zone_to(&[], 53, 0);
-    plan.instruments = vec![
-        vec![zone(&held), layer.clone()],
-        [vec![zone(&held)], vec![layer; 4]].concat(),
-    ];
+    plan.instruments = vec![vec![zone(&held), layer.clone()], [vec![zone(&held)], vec![layer; 4]].concat()];
     for n in 1..=32 {
         let fours = vec![zone_to(&[], 41, 1); n / 4];
         let ones = vec![zone_to(&[], 41, 0); n % 4];
-        plan.presets.push(PresetPlan {
-            program: n as u16 - 1,
-            bank: 0,
-            zones: [fours, ones].concat(),
-        });
+        plan.presets.push(PresetPlan { program: n as u16 - 1, bank: 0, zones: [fours, ones].concat() });
     }
     plan
 }
@@ -241,20 +231,8 @@ fn taking_by_chance(s: &mut Script) {
 fn faded_voices_stand(s: &mut Script) {
     let mut plan = one_zone(&quick(&[(54, 1), (38, -32_768), (57, 3)]), sample(0, 16));
     plan.strike_plan(1, &[], vec![zone_to(&quick(&[(54, 1)]), 53, 0)]);
-    plan.strike_plan(
-        2,
-        &[],
-        vec![zone_to(
-            &quick(&[(54, 1), (37, 1_000), (36, -12_000)]),
-            53,
-            0,
-        )],
-    );
-    s.begin_plan(
-        "faded voices stand until the next frame",
-        &plan,
-        &noise(16, 81),
-    );
+    plan.strike_plan(2, &[], vec![zone_to(&quick(&[(54, 1), (37, 1_000), (36, -12_000)]), 53, 0)]);
+    s.begin_plan("faded voices stand until the next frame", &plan, &noise(16, 81));
     s.on(0, 60, 100);
     s.on(1, 60, 100);
     s.go(1);
@@ -281,26 +259,10 @@ fn faded_voices_stand(s: &mut Script) {
 
 /// Classes cut within a channel, before slots are taken, in any stage; not across channels, and not class 0.
 fn classes(s: &mut Script) {
-    let mut plan = BankPlan {
-        samples: vec![sample(0, 16)],
-        ..BankPlan::default()
-    };
-    let groups: [&[i32]; 10] = [
-        &[0],
-        &[1],
-        &[2],
-        &[1, 1],
-        &[1, 2],
-        &[0, 1],
-        &[-1],
-        &[-32_768],
-        &[256],
-        &[1, 0, 2, 1],
-    ];
+    let mut plan = BankPlan { samples: vec![sample(0, 16)], ..BankPlan::default() };
+    let groups: [&[i32]; 10] = [&[0], &[1], &[2], &[1, 1], &[1, 2], &[0, 1], &[-1], &[-32_768], &[256], &[1, 0, 2, 1]];
     for (program, group) in groups.into_iter().enumerate() {
-        let zones = group
-            .iter()
-            .map(|&class| zone_to(&quick(&[(54, 1), (57, class)]), 53, 0));
+        let zones = group.iter().map(|&class| zone_to(&quick(&[(54, 1), (57, class)]), 53, 0));
         plan.strike_plan(program as u16, &[], zones.collect());
     }
     s.begin_plan("classes", &plan, &noise(16, 82));
@@ -347,17 +309,10 @@ fn full_with_classes(s: &mut Script, plan: &BankPlan) {
 /// A refused note-on cuts nothing; a strike without layers cuts nothing.
 fn class_refusals(s: &mut Script) {
     let ranged = [(43, 0x3c3c)];
-    let mut plan = BankPlan {
-        samples: vec![sample(0, 16), sample(0, 20)],
-        ..BankPlan::default()
-    };
+    let mut plan = BankPlan { samples: vec![sample(0, 16), sample(0, 20)], ..BankPlan::default() };
     let cutting = quick(&[(54, 1), (57, 4)]);
     plan.strike_plan(0, &[], vec![zone_to(&cutting, 53, 0)]);
-    plan.strike_plan(
-        1,
-        &[],
-        vec![zone_to(&cutting, 53, 0), zone_to(&cutting, 53, 1)],
-    );
+    plan.strike_plan(1, &[], vec![zone_to(&cutting, 53, 0), zone_to(&cutting, 53, 1)]);
     plan.strike_plan(2, &ranged, vec![zone_to(&cutting, 53, 0)]);
     plan.strike_plan(3, &[], vec![zone_to(&cutting, 53, 0); 33]);
     s.begin_plan("classes and refusals", &plan, &noise(16, 84));
@@ -515,12 +470,7 @@ fn other_controls(s: &mut Script) {
     s.off(0, 60);
     chord(s, 1, 0, 61, 100);
     s.go(1);
-    let without = (1..7)
-        .chain(8..11)
-        .chain(12..64)
-        .chain(65..120)
-        .chain([121, 122])
-        .chain(124..128);
+    let without = (1..7).chain(8..11).chain(12..64).chain(65..120).chain([121, 122]).chain(124..128);
     for control in without {
         s.control(0, control, if control % 2 == 0 { 0 } else { 127 });
     }
@@ -533,20 +483,8 @@ fn other_controls(s: &mut Script) {
 /// The October night, scaled down: a drone sounds through the hour that comes twice, and its piece is played over itself,
 /// so that each key is struck again while it sounds and let go only then. At the end no voice is left.
 fn october_night(s: &mut Script) {
-    let drone = [
-        (33, -32_768),
-        (34, -9_000),
-        (35, -32_768),
-        (36, -8_000),
-        (37, 200),
-        (38, -9_000),
-        (54, 1),
-    ];
-    s.begin_plan(
-        "October night: a drone over itself",
-        &one_zone(&drone, sample(0, 16)),
-        &noise(16, 85),
-    );
+    let drone = [(33, -32_768), (34, -9_000), (35, -32_768), (36, -8_000), (37, 200), (38, -9_000), (54, 1)];
+    s.begin_plan("October night: a drone over itself", &one_zone(&drone, sample(0, 16)), &noise(16, 85));
     s.fresh(0xffff_e000);
     s.on(0, 36, 70);
     s.go_far(8_000);

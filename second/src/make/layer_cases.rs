@@ -16,17 +16,12 @@ pub fn write(s: &mut Script) {
 
 /// n sounding zones, told apart by their pan.
 fn many(n: usize, last: u16) -> Vec<ZonePlan> {
-    (0..n)
-        .map(|i| zone_to(&quick(&[(17, 15 * i as i32 - 240)]), last, 0))
-        .collect()
+    (0..n).map(|i| zone_to(&quick(&[(17, 15 * i as i32 - 240)]), last, 0)).collect()
 }
 
 /// 0, 1, 32, 33 layers and around, as preset zones times instrument zones.
 fn counts(s: &mut Script) {
-    let mut plan = BankPlan {
-        samples: vec![sample(0, 16)],
-        ..BankPlan::default()
-    };
+    let mut plan = BankPlan { samples: vec![sample(0, 16)], ..BankPlan::default() };
     let shapes = [
         (0, 0),
         (0, 5),
@@ -50,11 +45,7 @@ fn counts(s: &mut Script) {
     for (program, (presets, zones)) in shapes.into_iter().enumerate() {
         plan.instruments.push(many(zones, 53));
         let preset_zone = zone_to(&[], 41, program as i32);
-        plan.presets.push(PresetPlan {
-            program: program as u16,
-            bank: 0,
-            zones: vec![preset_zone; presets],
-        });
+        plan.presets.push(PresetPlan { program: program as u16, bank: 0, zones: vec![preset_zone; presets] });
     }
     s.begin_plan("counts of layers", &plan, &noise(16, 30));
     for program in 0..shapes.len() as u8 {
@@ -84,10 +75,7 @@ fn counts_with_ranges(s: &mut Script) {
 
 /// The first phdr record with bank and program; numbers out of reach are never played.
 fn which_preset(s: &mut Script) {
-    let mut plan = BankPlan {
-        samples: vec![sample(0, 16)],
-        ..BankPlan::default()
-    };
+    let mut plan = BankPlan { samples: vec![sample(0, 16)], ..BankPlan::default() };
     let pairs = [
         (0, 0),
         (0, 0),
@@ -104,11 +92,7 @@ fn which_preset(s: &mut Script) {
     ];
     for (i, (program, bank)) in pairs.into_iter().enumerate() {
         plan.instruments.push(many(i + 1, 53));
-        plan.presets.push(PresetPlan {
-            program,
-            bank,
-            zones: vec![zone_to(&[], 41, i as i32)],
-        });
+        plan.presets.push(PresetPlan { program, bank, zones: vec![zone_to(&[], 41, i as i32)] });
     }
     s.begin_plan("which preset", &plan, &noise(16, 32));
     for channel in [0, 9, 15] {
@@ -125,20 +109,10 @@ fn which_preset(s: &mut Script) {
 
 /// Control 0 stores a bank that the next program change takes, and stays stored; channel 9 stands at 128.
 fn bank_select(s: &mut Script) {
-    let mut plan = BankPlan {
-        samples: vec![sample(0, 16)],
-        ..BankPlan::default()
-    };
-    for (i, (program, bank)) in [(0, 0), (0, 3), (1, 3), (0, 128), (1, 128)]
-        .into_iter()
-        .enumerate()
-    {
+    let mut plan = BankPlan { samples: vec![sample(0, 16)], ..BankPlan::default() };
+    for (i, (program, bank)) in [(0, 0), (0, 3), (1, 3), (0, 128), (1, 128)].into_iter().enumerate() {
         plan.instruments.push(many(i + 1, 53));
-        plan.presets.push(PresetPlan {
-            program,
-            bank,
-            zones: vec![zone_to(&[], 41, i as i32)],
-        });
+        plan.presets.push(PresetPlan { program, bank, zones: vec![zone_to(&[], 41, i as i32)] });
     }
     s.begin_plan("bank select", &plan, &noise(16, 33));
     for channel in [4, 9] {
@@ -171,63 +145,55 @@ fn strike(s: &mut Script, program: u8, key: u8, velocity: u8, frames: u32) {
     s.silence(0);
 }
 
-/// Global, ignored and repeated zones and generators, on the instrument's side and on the preset's.
-fn zone_kinds(s: &mut Script) {
-    let shapes = |last: u16| -> Vec<Vec<ZonePlan>> {
-        let sound = |gens: &[Gen]| zone_to(gens, last, 0);
-        vec![
-            vec![],
-            vec![zone(&[])],
-            vec![zone(&[(48, 50)])],
-            vec![zone(&[]), sound(&[])],
-            vec![zone(&[(48, 50)]), sound(&[])],
-            vec![zone(&[(48, 50), (48, 70)]), sound(&[])],
-            vec![zone(&[(48, 50)]), sound(&[(48, 20)])],
-            vec![zone(&[(48, 50)]), sound(&[(48, 0)])],
-            vec![zone(&[(48, 50)]), sound(&[(48, 20), (48, 30)])],
-            vec![zone(&[(48, 50)]), zone(&[(48, 90)]), sound(&[])],
-            vec![zone(&[(48, 50)]), zone(&[(48, 90)])],
-            vec![sound(&[(48, 20)]), zone(&[(48, 50)])],
-            vec![sound(&[(48, 20)]), zone(&[(48, 50)]), sound(&[])],
-            vec![sound(&[]), sound(&[(48, 50)])],
-            vec![
-                zone(&[(48, 50)]),
-                sound(&[]),
-                zone(&[(48, 90)]),
-                sound(&[(17, 80)]),
-            ],
-            vec![zone(&[(last, 0), (48, 50)]), sound(&[])],
-            vec![zone(&[(48, 20), (last, 0), (48, 50), (17, 99), (last, 0)])],
-            vec![zone(&[(94 - last, 0), (48, 20)]), sound(&[])],
-            vec![zone(&[(94 - last, 0)]), sound(&[(94 - last, 7), (48, 20)])],
-        ]
-    };
-    for (side, last) in [("instrument", 53), ("preset", 41)] {
-        let mut plan = BankPlan {
-            samples: vec![sample(0, 16)],
-            instruments: vec![vec![zone(&quick(&[])), zone_to(&[(48, 5)], 53, 0)]],
-            ..BankPlan::default()
+/// A plan with one sample and instrument 0, to which lists of zones are added as programs, on one side or the other.
+fn side_plan(last: u16, instrument: Vec<ZonePlan>, lists: Vec<Vec<ZonePlan>>) -> BankPlan {
+    let mut plan = BankPlan { samples: vec![sample(0, 16)], instruments: vec![instrument], ..BankPlan::default() };
+    for (program, zones) in lists.into_iter().enumerate() {
+        let own = if last == 53 {
+            plan.instruments.push(zones);
+            vec![zone_to(&[], 41, program as i32 + 1)]
+        } else {
+            zones
         };
-        for (program, zones) in shapes(last).into_iter().enumerate() {
-            let own = if last == 53 {
-                plan.instruments.push(zones);
-                vec![zone_to(&[], 41, program as i32 + 1)]
-            } else {
-                zones
-            };
-            plan.presets.push(PresetPlan {
-                program: program as u16,
-                bank: 0,
-                zones: own,
-            });
-        }
-        s.begin_plan(
-            &format!("zones of each kind: {side}"),
-            &plan,
-            &noise(16, 34),
-        );
+        plan.presets.push(PresetPlan { program: program as u16, bank: 0, zones: own });
+    }
+    plan
+}
+
+/// Lists of zones: global, ignored and repeated ones, repeated generators, generators behind the last one that counts.
+fn zone_lists(last: u16) -> Vec<Vec<ZonePlan>> {
+    let other = if last == 53 { 41 } else { 53 };
+    let sound = |gens: &[Gen]| zone_to(gens, last, 0);
+    vec![
+        vec![],
+        vec![zone(&[])],
+        vec![zone(&[(48, 50)])],
+        vec![zone(&[]), sound(&[])],
+        vec![zone(&[(48, 50)]), sound(&[])],
+        vec![zone(&[(48, 50), (48, 70)]), sound(&[])],
+        vec![zone(&[(48, 50)]), sound(&[(48, 20)])],
+        vec![zone(&[(48, 50)]), sound(&[(48, 0)])],
+        vec![zone(&[(48, 50)]), sound(&[(48, 20), (48, 30)])],
+        vec![zone(&[(48, 50)]), zone(&[(48, 90)]), sound(&[])],
+        vec![zone(&[(48, 50)]), zone(&[(48, 90)])],
+        vec![sound(&[(48, 20)]), zone(&[(48, 50)])],
+        vec![sound(&[(48, 20)]), zone(&[(48, 50)]), sound(&[])],
+        vec![sound(&[]), sound(&[(48, 50)])],
+        vec![zone(&[(48, 50)]), sound(&[]), zone(&[(48, 90)]), sound(&[(17, 80)])],
+        vec![zone(&[(last, 0), (48, 50)]), sound(&[])],
+        vec![zone(&[(48, 20), (last, 0), (48, 50), (17, 99), (last, 0)])],
+        vec![zone(&[(other, 0), (48, 20)]), sound(&[])],
+        vec![zone(&[(other, 0)]), sound(&[(other, 7), (48, 20)])],
+    ]
+}
+
+/// Zones of each kind, on the instrument's side and on the preset's.
+fn zone_kinds(s: &mut Script) {
+    for (side, last, frames) in [("instrument", 53, 100), ("preset", 41, 8)] {
+        let instrument = vec![zone(&quick(&[])), zone_to(&[(48, 5)], 53, 0)];
+        let plan = side_plan(last, instrument, zone_lists(last));
+        s.begin_plan(&format!("zones of each kind: {side}"), &plan, &noise(16, 34));
         for program in 0..plan.presets.len() as u8 {
-            let frames = if last == 53 { 100 } else { 8 };
             strike(s, program, 60, 127, frames);
         }
     }
@@ -268,34 +234,16 @@ fn range_places() -> Vec<Vec<Gen>> {
 fn ranges_in_places(s: &mut Script) {
     for (last, side) in [(53, "instrument"), (41, "preset")] {
         for (global, kind) in [(false, "local"), (true, "global")] {
-            let mut plan = BankPlan {
-                samples: vec![sample(0, 16)],
-                instruments: vec![vec![zone_to(&[], 53, 0)]],
-                ..BankPlan::default()
-            };
-            for (program, gens) in range_places().into_iter().enumerate() {
-                let zones = if global {
+            let zones = |gens: Vec<Gen>| {
+                if global {
                     vec![zone(&gens), zone_to(&[], last, 0)]
                 } else {
                     vec![zone_to(&gens, last, 0)]
-                };
-                let own = if last == 53 {
-                    plan.instruments.push(zones);
-                    vec![zone_to(&[], 41, program as i32 + 1)]
-                } else {
-                    zones
-                };
-                plan.presets.push(PresetPlan {
-                    program: program as u16,
-                    bank: 0,
-                    zones: own,
-                });
-            }
-            s.begin_plan(
-                &format!("ranges in places: {side}, {kind}"),
-                &plan,
-                &noise(16, 35),
-            );
+                }
+            };
+            let lists = range_places().into_iter().map(zones).collect();
+            let plan = side_plan(last, vec![zone_to(&[], 53, 0)], lists);
+            s.begin_plan(&format!("ranges in places: {side}, {kind}"), &plan, &noise(16, 35));
             for program in 0..plan.presets.len() as u8 {
                 s.program(0, program);
                 for (key, velocity) in [(62, 70), (62, 100), (20, 70), (20, 100)] {
@@ -309,23 +257,10 @@ fn ranges_in_places(s: &mut Script) {
 
 /// Both ends of a range, ranges turned round, and bytes above 127.
 fn range_edges(s: &mut Script) {
-    let ranges = [
-        (60, 64),
-        (60, 60),
-        (64, 60),
-        (0, 0),
-        (127, 127),
-        (0, 127),
-        (0, 255),
-        (128, 255),
-        (255, 0),
-        (100, 200),
-    ];
+    let ranges =
+        [(60, 64), (60, 60), (64, 60), (0, 0), (127, 127), (0, 127), (0, 255), (128, 255), (255, 0), (100, 200)];
     for operator in [43u16, 44] {
-        let mut plan = BankPlan {
-            samples: vec![sample(0, 16)],
-            ..BankPlan::default()
-        };
+        let mut plan = BankPlan { samples: vec![sample(0, 16)], ..BankPlan::default() };
         for (program, (low, high)) in ranges.into_iter().enumerate() {
             let range = (operator, low | high << 8);
             plan.strike_plan(program as u16, &[], vec![zone_to(&[range], 53, 0)]);
@@ -348,34 +283,17 @@ fn range_edges(s: &mut Script) {
 
 /// A local range replaces the global one, key and velocity each by itself, wider or narrower.
 fn local_and_global_ranges(s: &mut Script) {
-    let globals: [&[Gen]; 3] = [
-        &[(43, 0x403c)],
-        &[(44, 0x5a32)],
-        &[(43, 0x403c), (44, 0x5a32)],
-    ];
-    let locals: [&[Gen]; 5] = [
-        &[],
-        &[(43, 0x7f00)],
-        &[(44, 0x7f00)],
-        &[(43, 0x3e3e), (44, 0x4646)],
-        &[(48, 1), (43, 0x7f00)],
-    ];
-    let mut plan = BankPlan {
-        samples: vec![sample(0, 16)],
-        instruments: vec![vec![zone_to(&[], 53, 0)]],
-        ..BankPlan::default()
-    };
+    let globals: [&[Gen]; 3] = [&[(43, 0x403c)], &[(44, 0x5a32)], &[(43, 0x403c), (44, 0x5a32)]];
+    let locals: [&[Gen]; 5] =
+        [&[], &[(43, 0x7f00)], &[(44, 0x7f00)], &[(43, 0x3e3e), (44, 0x4646)], &[(48, 1), (43, 0x7f00)]];
+    let mut plan =
+        BankPlan { samples: vec![sample(0, 16)], instruments: vec![vec![zone_to(&[], 53, 0)]], ..BankPlan::default() };
     for global in globals {
         for local in locals {
             let number = plan.instruments.len() as i32;
-            plan.instruments
-                .push(vec![zone(global), zone_to(local, 53, 0)]);
+            plan.instruments.push(vec![zone(global), zone_to(local, 53, 0)]);
             let program = plan.presets.len() as u16;
-            plan.presets.push(PresetPlan {
-                program,
-                bank: 0,
-                zones: vec![zone_to(&[], 41, number)],
-            });
+            plan.presets.push(PresetPlan { program, bank: 0, zones: vec![zone_to(&[], 41, number)] });
             plan.presets.push(PresetPlan {
                 program: program + 1,
                 bank: 0,
@@ -395,26 +313,13 @@ fn local_and_global_ranges(s: &mut Script) {
 
 /// Layers come in file order of preset zones, and within each of instrument zones: seen by a different delay in each.
 fn order_of_layers(s: &mut Script) {
-    let mut plan = BankPlan {
-        samples: vec![sample(0, 16)],
-        ..BankPlan::default()
-    };
+    let mut plan = BankPlan { samples: vec![sample(0, 16)], ..BankPlan::default() };
     for base in [0, 3] {
-        let zones = (0..3).map(|i| {
-            zone_to(
-                &[(33, -11_000 + 600 * (base + (i * 2) % 3)), (54, 1)],
-                53,
-                0,
-            )
-        });
+        let zones = (0..3).map(|i| zone_to(&[(33, -11_000 + 600 * (base + (i * 2) % 3)), (54, 1)], 53, 0));
         plan.instruments.push(zones.collect());
     }
     let zones = [1, 0, 1].map(|number| zone_to(&[(33, 200 * number)], 41, number));
-    plan.presets.push(PresetPlan {
-        program: 0,
-        bank: 0,
-        zones: zones.to_vec(),
-    });
+    plan.presets.push(PresetPlan { program: 0, bank: 0, zones: zones.to_vec() });
     s.begin_plan("order of layers", &plan, &noise(16, 38));
     s.on(0, 60, 100);
     for _ in 0..40 {

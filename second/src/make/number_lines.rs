@@ -18,12 +18,8 @@ fn list(single: &[i64], first: i64, step: usize, last: i64) -> Vec<i64> {
 }
 
 fn steps() -> String {
-    const CENTS: [i64; 12] = [
-        -9_600, -9_599, -1_201, -1_200, -1_199, -1, 0, 1, 1_199, 1_200, 4_799, 4_800,
-    ];
-    const RATES: [u64; 10] = [
-        400, 401, 8_000, 22_050, 44_099, 44_100, 44_101, 48_000, 49_999, 50_000,
-    ];
+    const CENTS: [i64; 12] = [-9_600, -9_599, -1_201, -1_200, -1_199, -1, 0, 1, 1_199, 1_200, 4_799, 4_800];
+    const RATES: [u64; 10] = [400, 401, 8_000, 22_050, 44_099, 44_100, 44_101, 48_000, 49_999, 50_000];
     let mut text = String::new();
     for cents in list(&CENTS, -9_600, 97, 4_800) {
         for rate in RATES {
@@ -35,8 +31,8 @@ fn steps() -> String {
 
 fn frames() -> String {
     const TIMES: [i64; 22] = [
-        -40_000, -32_769, -32_768, -32_767, -12_001, -12_000, -11_999, -1_201, -1_200, -1_199, -1,
-        0, 1, 1_199, 1_200, 4_999, 5_000, 5_001, 7_999, 8_000, 8_001, 20_000,
+        -40_000, -32_769, -32_768, -32_767, -12_001, -12_000, -11_999, -1_201, -1_200, -1_199, -1, 0, 1, 1_199, 1_200,
+        4_999, 5_000, 5_001, 7_999, 8_000, 8_001, 20_000,
     ];
     let mut text = String::new();
     for t in list(&TIMES, -12_000, 131, 8_000) {
@@ -48,9 +44,7 @@ fn frames() -> String {
 
 fn gains() -> String {
     let gains = 0..=1_445;
-    gains
-        .map(|a| format!("gain {a} = {}\n", tables().gain(a)))
-        .collect()
+    gains.map(|a| format!("gain {a} = {}\n", tables().gain(a))).collect()
 }
 
 fn attenuations() -> String {
@@ -60,21 +54,12 @@ fn attenuations() -> String {
 }
 
 fn least() -> String {
-    const LEVELS: [i64; 11] = [
-        0, 1, 2, 166, 167, 168, 1_677_720, 1_677_721, 1_677_722, 16_777_215, 16_777_216,
-    ];
-    let levels = LEVELS
-        .into_iter()
-        .chain((0..=97).map(|t| (1 << 24) * t / 97));
-    levels
-        .map(|l| format!("least {l} = {}\n", least_attenuation(tables(), l)))
-        .collect()
+    const LEVELS: [i64; 11] = [0, 1, 2, 166, 167, 168, 1_677_720, 1_677_721, 1_677_722, 16_777_215, 16_777_216];
+    let levels = LEVELS.into_iter().chain((0..=97).map(|t| (1 << 24) * t / 97));
+    levels.map(|l| format!("least {l} = {}\n", least_attenuation(tables(), l))).collect()
 }
 
 fn bends() -> String {
     let bends = list(&[0, 1, 8_191, 8_192, 8_193, 16_383], 0, 41, 16_383);
-    bends
-        .iter()
-        .map(|&b| format!("bend {b} = {}\n", bend_cents(b as u16)))
-        .collect()
+    bends.iter().map(|&b| format!("bend {b} = {}\n", bend_cents(b as u16))).collect()
 }

@@ -1,8 +1,6 @@
 //! Cases of 01's table: every number at both sides of its boundary, in the order of the tests, and the clock.
 
-use super::bank_builder::{
-    one_zone, quick, sample, zone, zone_to, BankPlan, PresetPlan, SamplePlan,
-};
+use super::bank_builder::{one_zone, quick, sample, zone, zone_to, BankPlan, PresetPlan, SamplePlan};
 use super::script::{noise, Script};
 
 pub fn write(s: &mut Script) {
@@ -23,51 +21,34 @@ fn plain_bank() -> BankPlan {
     one_zone(&quick(&[(54, 1)]), sample(0, 16))
 }
 
-/// 2: channel 15, bend 16,383, slot 31, others 127.
+/// 2: channel 15, bend 16,383, slot 31, others 127. First keys.
 fn ranges(s: &mut Script) {
     s.begin_plan("number 2: ranges", &plain_bank(), &noise(16, 1));
-    let on = [
-        (15, 127, 127),
-        (16, 60, 100),
-        (255, 60, 100),
-        (0, 128, 100),
-        (0, 255, 100),
-        (0, 60, 128),
-        (0, 60, 255),
-        (0, 0, 1),
-    ];
-    for (channel, key, velocity) in on {
-        s.on(channel, key, velocity);
+    for (channel, key) in [(15, 127), (16, 60), (255, 60), (0, 128), (0, 255), (0, 0)] {
+        s.on(channel, key, 100);
+    }
+    for velocity in [127, 128, 255, 1] {
+        s.on(0, 60, velocity);
     }
     s.go(3);
     for (channel, key) in [(16, 127), (255, 0), (15, 128), (15, 255), (15, 127), (0, 0)] {
         s.off(channel, key);
     }
-    let controls = [
-        (15, 127, 127),
-        (16, 7, 0),
-        (0, 128, 0),
-        (0, 7, 128),
-        (0, 64, 255),
-        (255, 255, 255),
-        (16, 120, 0),
-        (0, 120, 128),
-        (15, 123, 128),
-    ];
-    for (channel, control, value) in controls {
+    ranges_of_controls(s);
+}
+
+/// Controls, programs, bends and slots at and past their ranges.
+fn ranges_of_controls(s: &mut Script) {
+    for (channel, control, value) in [(15, 127, 127), (16, 7, 0), (0, 128, 0), (0, 7, 128), (0, 64, 255)] {
+        s.control(channel, control, value);
+    }
+    for (channel, control, value) in [(255, 255, 255), (16, 120, 0), (0, 120, 128), (15, 123, 128)] {
         s.control(channel, control, value);
     }
     for (channel, program) in [(15, 127), (16, 0), (0, 128), (255, 255), (0, 127)] {
         s.program(channel, program);
     }
-    for (channel, bend) in [
-        (15, 16_383),
-        (16, 0),
-        (0, 16_384),
-        (0, 65_535),
-        (0, 0),
-        (255, 8_192),
-    ] {
+    for (channel, bend) in [(15, 16_383), (16, 0), (0, 16_384), (0, 65_535), (0, 0), (255, 8_192)] {
         s.bend(channel, bend);
     }
     for slot in [0, 1, 2, 31, 32, 255] {
@@ -95,10 +76,7 @@ fn velocity_zero(s: &mut Script) {
 
 /// A preset zone for each count of layers: program n has n layers, each with the sample of that number.
 fn layers_bank(counts: &[u16], plan: SamplePlan) -> BankPlan {
-    let mut bank = BankPlan {
-        samples: vec![plan, sample(0, 16)],
-        ..BankPlan::default()
-    };
+    let mut bank = BankPlan { samples: vec![plan, sample(0, 16)], ..BankPlan::default() };
     for &count in counts {
         let mut zones = vec![zone_to(&quick(&[(54, 1)]), 53, 1); count as usize];
         if let Some(last) = zones.last_mut() {
@@ -146,14 +124,8 @@ fn order_of_note_on(s: &mut Script) {
 
 /// 8 at note-on: a window may end where its memory ends, and not one sample behind; each memory by itself.
 fn memory_edge_of_note_on(s: &mut Script) {
-    for (kind, name) in [
-        (1, "number 8: note-on, RAM"),
-        (0x8001, "number 8: note-on, ROM"),
-    ] {
-        let plan = SamplePlan {
-            kind,
-            ..sample(2, 10)
-        };
+    for (kind, name) in [(1, "number 8: note-on, RAM"), (0x8001, "number 8: note-on, ROM")] {
+        let plan = SamplePlan { kind, ..sample(2, 10) };
         let bank = one_zone(&quick(&[(54, 1)]), plan).bytes();
         s.begin(name, &bank, &noise(12, 4), &noise(12, 5));
         for n in [12, 11, 10, 9, 0, 10] {
@@ -179,29 +151,10 @@ fn memory_edge_of_note_on(s: &mut Script) {
 fn output_lengths(s: &mut Script) {
     s.begin_plan("number 7: output lengths", &plain_bank(), &noise(16, 6));
     s.on(0, 64, 100);
-    for (distance, length) in [
-        (1, 0),
-        (1, 1),
-        (3, 5),
-        (4_096, 8_191),
-        (2, 2),
-        (4_096, 0),
-        (100, 199),
-    ] {
+    for (distance, length) in [(1, 0), (1, 1), (3, 5), (4_096, 8_191), (2, 2), (4_096, 0), (100, 199)] {
         s.ask(distance, length);
     }
-    for (distance, length) in [
-        (0, 0),
-        (0, 1),
-        (0, 2),
-        (0, 9),
-        (1, 2),
-        (1, 3),
-        (3, 6),
-        (3, 7),
-        (3, 100),
-        (5, 8_448),
-    ] {
+    for (distance, length) in [(0, 0), (0, 1), (0, 2), (0, 9), (1, 2), (1, 3), (3, 6), (3, 7), (3, 100), (5, 8_448)] {
         s.go_into(distance, length);
     }
     s.go_into(4_096, 8_192);
@@ -210,31 +163,14 @@ fn output_lengths(s: &mut Script) {
 
 /// 5 and 6: distances 0, 1, 4,095, 4,096, 4,097, 2^31 - 1, 2^31, one back, from several clock values.
 fn distances(s: &mut Script) {
-    for start in [
-        0u32,
-        1,
-        5_000,
-        0x7fff_ffff,
-        0x8000_0000,
-        0xffff_f000,
-        0xffff_ffff,
-    ] {
+    for start in [0u32, 1, 5_000, 0x7fff_ffff, 0x8000_0000, 0xffff_f000, 0xffff_ffff] {
         let name = format!("distances from clock {start:08x}");
         s.begin_plan(&name, &plain_bank(), &noise(16, 7));
         s.fresh(start);
         s.on(3, 50, 90);
         s.go(3);
-        let refused = [
-            4_097,
-            4_098,
-            8_192,
-            0x7fff_ffff,
-            0x8000_0000,
-            0x8000_0001,
-            0xffff_fffe,
-            0xffff_ffff,
-            0xffff_f000,
-        ];
+        let refused =
+            [4_097, 4_098, 8_192, 0x7fff_ffff, 0x8000_0000, 0x8000_0001, 0xffff_fffe, 0xffff_ffff, 0xffff_f000];
         for distance in refused {
             s.ask(distance, 8_448);
         }
@@ -266,19 +202,11 @@ fn order_of_render(s: &mut Script) {
 /// 8 at render: each sounding slot, in delay and at distance 0 too, and no free slot; the bank is not looked at.
 fn memory_edge_of_render(s: &mut Script) {
     let mut bank = one_zone(&quick(&[]), sample(0, 16));
-    let rom = SamplePlan {
-        kind: 0x8000,
-        ..sample(0, 30)
-    };
+    let rom = SamplePlan { kind: 0x8000, ..sample(0, 30) };
     bank.samples.push(rom);
     let slow = vec![zone_to(&[(33, -9_000), (54, 1)], 53, 1)];
     bank.strike_plan(1, &[], slow);
-    s.begin(
-        "number 8: render",
-        &bank.bytes(),
-        &noise(16, 9),
-        &noise(30, 10),
-    );
+    s.begin("number 8: render", &bank.bytes(), &noise(16, 9), &noise(30, 10));
     s.on(0, 60, 100);
     s.program(1, 1);
     s.on(1, 60, 100);
@@ -308,18 +236,8 @@ fn memory_edge_of_render(s: &mut Script) {
 
 /// The clock rolls over; voices go on across it, and their stages and age order with them.
 fn clock_wrap(s: &mut Script) {
-    let gens = [
-        (33, -12_000),
-        (34, -12_000),
-        (36, -9_000),
-        (37, 300),
-        (54, 1),
-    ];
-    s.begin_plan(
-        "clock wrap",
-        &one_zone(&gens, sample(0, 16)),
-        &noise(16, 11),
-    );
+    let gens = [(33, -12_000), (34, -12_000), (36, -9_000), (37, 300), (54, 1)];
+    s.begin_plan("clock wrap", &one_zone(&gens, sample(0, 16)), &noise(16, 11));
     s.fresh(0xffff_ffc0);
     s.on(0, 60, 100);
     for n in [20, 20, 20, 3, 1, 1, 1, 40, 40, 40] {
@@ -343,11 +261,7 @@ fn clock_wrap(s: &mut Script) {
 fn listing(s: &mut Script) {
     let mut bank = plain_bank();
     for (program, number) in [(127, 128), (128, 0), (65_535, 65_535), (0, 0), (5, 129)] {
-        bank.presets.push(PresetPlan {
-            program,
-            bank: number,
-            zones: vec![zone(&[])],
-        });
+        bank.presets.push(PresetPlan { program, bank: number, zones: vec![zone(&[])] });
     }
     s.begin_plan("listing", &bank, &noise(16, 12));
     for place in (0..9).chain([255, 256, 65_536, 0x7fff_ffff, 0x8000_0000, 0xffff_ffff]) {

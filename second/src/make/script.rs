@@ -51,11 +51,7 @@ impl Script {
     }
 
     pub fn bank(&mut self, bytes: &[u8]) {
-        self.banks.push(Lending {
-            case: self.name.clone(),
-            bytes: bytes.to_vec(),
-            examined: false,
-        });
+        self.banks.push(Lending { case: self.name.clone(), bytes: bytes.to_vec(), examined: false });
         self.put_long(b'B', bytes.len(), bytes);
     }
 

@@ -29,10 +29,7 @@ fn strikes_of(script: &mut Script, lending: &Lending) {
     let Ok(bank) = admit(&lending.bytes) else {
         return;
     };
-    let reachable = bank
-        .presets
-        .iter()
-        .filter(|p| p.program <= 127 && p.bank <= 128);
+    let reachable = bank.presets.iter().filter(|p| p.program <= 127 && p.bank <= 128);
     let presets: Vec<_> = reachable.map(|p| (p.program as u8, p.bank as u8)).collect();
     let strokes = [(60, 127), (77, 90), (41, 1), (127, 64)];
     let count = if presets.len() <= 4 { 4 } else { 2 };

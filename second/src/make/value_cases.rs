@@ -29,20 +29,14 @@ fn strike_all(s: &mut Script, plan: &BankPlan, key: u8, velocity: u8, pieces: &[
 }
 
 fn empty_plan() -> BankPlan {
-    BankPlan {
-        samples: vec![sample(0, 40)],
-        ..BankPlan::default()
-    }
+    BankPlan { samples: vec![sample(0, 40)], ..BankPlan::default() }
 }
 
 /// A preset with global and local generators over an instrument with global and local generators, all quick.
 fn add_four(plan: &mut BankPlan, parts: [&[Gen]; 4]) {
     let number = plan.instruments.len() as i32;
     let [instrument_global, instrument_local, preset_global, preset_local] = parts;
-    plan.instruments.push(vec![
-        zone(&quick(instrument_global)),
-        zone_to(instrument_local, 53, 0),
-    ]);
+    plan.instruments.push(vec![zone(&quick(instrument_global)), zone_to(instrument_local, 53, 0)]);
     plan.presets.push(PresetPlan {
         program: number as u16,
         bank: 0,
@@ -52,12 +46,9 @@ fn add_four(plan: &mut BankPlan, parts: [&[Gen]; 4]) {
 
 /// Instrument local, else global, else default, plus the preset's local, else global, else 0: in all sixteen ways.
 fn adding(s: &mut Script) {
-    for (operator, values) in [
-        (17, [100, -60, 200, -150]),
-        (52, [40, 10, -70, -9]),
-        (48, [60, 200, 31, 77]),
-        (56, [10, 50, -30, 20]),
-    ] {
+    for (operator, values) in
+        [(17, [100, -60, 200, -150]), (52, [40, 10, -70, -9]), (48, [60, 200, 31, 77]), (56, [10, 50, -30, 20])]
+    {
         let mut plan = empty_plan();
         for choice in 0..16 {
             let part = |i: usize| {
@@ -70,11 +61,7 @@ fn adding(s: &mut Script) {
             let parts: Vec<Vec<Gen>> = (0..4).map(part).collect();
             add_four(&mut plan, [&parts[0], &parts[1], &parts[2], &parts[3]]);
         }
-        s.begin_plan(
-            &format!("adding: generator {operator}"),
-            &plan,
-            &noise(40, 40),
-        );
+        s.begin_plan(&format!("adding: generator {operator}"), &plan, &noise(40, 40));
         strike_all(s, &plan, 67, 120, &[6]);
     }
 }
@@ -82,11 +69,7 @@ fn adding(s: &mut Script) {
 /// "Generators 0-4, 12, 45, 46, 47, 50, 54, 57, 58 count in instruments only": in a preset they change nothing.
 fn instruments_only(s: &mut Script) {
     let mut plan = empty_plan();
-    plan.samples[0] = SamplePlan {
-        loop_start: 8,
-        loop_end: 20,
-        ..sample(2, 30)
-    };
+    plan.samples[0] = SamplePlan { loop_start: 8, loop_end: 20, ..sample(2, 30) };
     let own: [Gen; 13] = [
         (0, 3),
         (1, -4),
@@ -106,10 +89,7 @@ fn instruments_only(s: &mut Script) {
         add_four(&mut plan, [&[(54, 1)], &[], &[], &[(operator, amount)]]);
         add_four(&mut plan, [&[(54, 1)], &[], &[(operator, amount)], &[]]);
         add_four(&mut plan, [&[(54, 1)], &[(operator, amount)], &[], &[]]);
-        add_four(
-            &mut plan,
-            [&[(54, 1)], &[(operator, amount)], &[], &[(operator, 1)]],
-        );
+        add_four(&mut plan, [&[(54, 1)], &[(operator, amount)], &[], &[(operator, 1)]]);
     }
     s.begin_plan("generators in instruments only", &plan, &noise(40, 41));
     strike_all(s, &plan, 60, 90, &[40]);
@@ -125,26 +105,12 @@ fn instruments_only(s: &mut Script) {
 
 /// Each held total at and past its limits: by the instrument alone, and by a preset's value that leads past them.
 fn held_totals(s: &mut Script) {
-    let limits: [(u16, i32, i32); 5] = [
-        (17, -500, 500),
-        (37, 0, 1_000),
-        (51, -120, 120),
-        (52, -99, 99),
-        (56, 0, 1_200),
-    ];
+    let limits: [(u16, i32, i32); 5] =
+        [(17, -500, 500), (37, 0, 1_000), (51, -120, 120), (52, -99, 99), (56, 0, 1_200)];
     for (operator, low, high) in limits {
         let mut plan = empty_plan();
-        plan.samples[0].root = 66;
-        let around = [
-            low - 1,
-            low,
-            low + 1,
-            high - 1,
-            high,
-            high + 1,
-            -32_768,
-            32_767,
-        ];
+        plan.samples[0].root = 100;
+        let around = [low - 1, low, low + 1, high - 1, high, high + 1, -32_768, 32_767];
         for own in around {
             add_four(&mut plan, [&[(54, 1)], &[(operator, own)], &[], &[]]);
         }
@@ -159,24 +125,22 @@ fn held_totals(s: &mut Script) {
             (-32_768, -32_768),
             (32_767, -32_768),
         ] {
-            add_four(
-                &mut plan,
-                [&[(54, 1)], &[(operator, own)], &[], &[(operator, added)]],
-            );
+            add_four(&mut plan, [&[(54, 1)], &[(operator, own)], &[], &[(operator, added)]]);
         }
         s.begin_plan(&format!("held total: {operator}"), &plan, &noise(40, 42));
-        strike_all(s, &plan, 67, 127, &[1, 5]);
+        // Far from the root the pitch total stays within its own limits although the coarse tuning is at its ends.
+        let keys: &[u8] = if operator == 51 { &[0, 127] } else { &[101] };
+        for &key in keys {
+            strike_all(s, &plan, key, 127, &[1, 5]);
+        }
     }
 }
 
 /// Generators that are read and have no effect: filter, LFOs, modulation envelope, effects, unused numbers.
 fn no_effect(s: &mut Script) {
     let mut plan = empty_plan();
-    let without: Vec<u16> = (5..=11)
-        .chain(13..=16)
-        .chain(18..=32)
-        .chain([42, 49, 55, 59, 60, 61, 100, 32_768, 65_535])
-        .collect();
+    let without: Vec<u16> =
+        (5..=11).chain(13..=16).chain(18..=32).chain([42, 49, 55, 59, 60, 61, 100, 32_768, 65_535]).collect();
     let all: Vec<Gen> = without.iter().map(|&g| (g, 777 - 31 * g as i32)).collect();
     add_four(&mut plan, [&[], &[], &[], &[]]);
     add_four(&mut plan, [&all, &[], &[], &[]]);
@@ -205,21 +169,9 @@ fn times(s: &mut Script) {
     for operator in [33u16, 34, 35, 36, 38] {
         let mut plan = empty_plan();
         for (own, added) in sums {
-            add_four(
-                &mut plan,
-                [
-                    &[(54, 1), (37, 600), (operator, own)],
-                    &[],
-                    &[],
-                    &[(operator, added)],
-                ],
-            );
+            add_four(&mut plan, [&[(54, 1), (37, 600), (operator, own)], &[], &[], &[(operator, added)]]);
         }
-        s.begin_plan(
-            &format!("times: generator {operator}"),
-            &plan,
-            &noise(40, 44),
-        );
+        s.begin_plan(&format!("times: generator {operator}"), &plan, &noise(40, 44));
         for (program, (own, added)) in sums.into_iter().enumerate() {
             let frames = tables().frames((own + added) as i64, 5_000);
             s.program(0, program as u8);
@@ -243,10 +195,7 @@ fn times(s: &mut Script) {
 fn longest_delay_and_hold(s: &mut Script) {
     let mut plan = empty_plan();
     add_four(&mut plan, [&[(54, 1), (33, 5_001)], &[], &[], &[]]);
-    add_four(
-        &mut plan,
-        [&[(54, 1), (35, 4_000)], &[], &[], &[(35, 4_000)]],
-    );
+    add_four(&mut plan, [&[(54, 1), (35, 4_000)], &[], &[], &[(35, 4_000)]]);
     s.begin_plan("times: delay and hold at their top", &plan, &noise(40, 51));
     s.on(0, 60, 127);
     s.program(0, 1);
@@ -259,14 +208,8 @@ fn long_times(s: &mut Script) {
     let mut plan = empty_plan();
     for own in [4_999, 5_000, 5_001, 7_999, 8_000, 8_001, 32_767] {
         add_four(&mut plan, [&[(54, 1), (34, own)], &[], &[], &[]]);
-        add_four(
-            &mut plan,
-            [&[(54, 1), (36, own), (37, 1_000)], &[], &[], &[]],
-        );
-        add_four(
-            &mut plan,
-            [&[(54, 1), (38, own), (37, 100)], &[], &[], &[(38, 1)]],
-        );
+        add_four(&mut plan, [&[(54, 1), (36, own), (37, 1_000)], &[], &[], &[]]);
+        add_four(&mut plan, [&[(54, 1), (38, own), (37, 100)], &[], &[], &[(38, 1)]]);
     }
     s.begin_plan("times: the longest", &plan, &noise(40, 45));
     for program in 0..plan.presets.len() as u8 {
@@ -287,45 +230,19 @@ fn long_times(s: &mut Script) {
 
 /// Hold and decay add (60 - key)·39 or 40, each held to -1,200..1,200 first; the key is generator 46's where it stands.
 fn key_times(s: &mut Script) {
-    let own = [
-        0, 1, -1, 100, -100, 1_199, 1_200, 1_201, -1_200, -1_201, 32_767, -32_768,
-    ];
+    let own = [0, 1, -1, 100, -100, 1_199, 1_200, 1_201, -1_200, -1_201, 32_767, -32_768];
     for (time, per_key) in [(35u16, 39u16), (36, 40)] {
         let mut plan = empty_plan();
         for amount in own {
             let gens = [(54, 1), (37, 1_000), (time, -12_000), (per_key, amount)];
             add_four(&mut plan, [&gens, &[], &[], &[]]);
         }
-        add_four(
-            &mut plan,
-            [
-                &[(54, 1), (37, 999), (time, -12_000), (per_key, 1_190)],
-                &[],
-                &[],
-                &[(per_key, 11)],
-            ],
-        );
-        add_four(
-            &mut plan,
-            [
-                &[(54, 1), (37, 999), (time, -12_000), (per_key, 90), (46, 58)],
-                &[],
-                &[],
-                &[],
-            ],
-        );
-        s.begin_plan(
-            &format!("times by key: generator {per_key}"),
-            &plan,
-            &noise(40, 46),
-        );
+        add_four(&mut plan, [&[(54, 1), (37, 999), (time, -12_000), (per_key, 1_190)], &[], &[], &[(per_key, 11)]]);
+        add_four(&mut plan, [&[(54, 1), (37, 999), (time, -12_000), (per_key, 90), (46, 58)], &[], &[], &[]]);
+        s.begin_plan(&format!("times by key: generator {per_key}"), &plan, &noise(40, 46));
         for program in 0..plan.presets.len() {
-            for key in [59u8, 60, 61, 77, 78, 55] {
-                let amount = own
-                    .get(program)
-                    .copied()
-                    .unwrap_or(1_200)
-                    .clamp(-1_200, 1_200);
+            for key in [59u8, 60, 61, 64, 56, 77] {
+                let amount = own.get(program).copied().unwrap_or(1_200).clamp(-1_200, 1_200);
                 let total = -12_000 + (60 - key as i64) * amount as i64;
                 let frames = tables().frames(total, 5_000);
                 s.program(0, program as u8);
@@ -352,14 +269,9 @@ fn pitch(s: &mut Script) {
         (40, 50, (58, 32_767)),
     ];
     for (i, (root, correction, own)) in roots.into_iter().enumerate() {
-        plan.samples.push(SamplePlan {
-            root,
-            correction,
-            ..sample(0, 40)
-        });
+        plan.samples.push(SamplePlan { root, correction, ..sample(0, 40) });
         let number = plan.instruments.len() as i32;
-        plan.instruments
-            .push(vec![zone_to(&quick(&[own, (54, 1)]), 53, i as i32)]);
+        plan.instruments.push(vec![zone_to(&quick(&[own, (54, 1)]), 53, i as i32)]);
         plan.presets.push(PresetPlan {
             program: number as u16,
             bank: 0,
@@ -394,23 +306,11 @@ fn pitch_limits(s: &mut Script) {
         (0, 0, 0),
         (1, 0, 0),
     ] {
-        add_four(
-            &mut plan,
-            [
-                &[(54, 1), (56, scale), (51, coarse), (52, fine)],
-                &[],
-                &[],
-                &[],
-            ],
-        );
+        add_four(&mut plan, [&[(54, 1), (56, scale), (51, coarse), (52, fine)], &[], &[], &[]]);
     }
     for rate in [400, 44_100, 50_000] {
         plan.samples[0].rate = rate;
-        s.begin_plan(
-            &format!("pitch: limits and bend at rate {rate}"),
-            &plan,
-            &noise(40, 48),
-        );
+        s.begin_plan(&format!("pitch: limits and bend at rate {rate}"), &plan, &noise(40, 48));
         for bend in [0, 8_191, 8_192, 8_193, 16_383] {
             s.bend(0, bend);
             strike_all(s, &plan, 60, 127, &[9]);
@@ -446,15 +346,9 @@ fn attenuation(s: &mut Script) {
         add_four(&mut plan, [&[(54, 1), (48, own)], &[], &[], &[(48, added)]]);
     }
     s.begin_plan("attenuation", &plan, &noise(40, 49));
-    for (volume, expression, velocity) in [
-        (127, 127, 127),
-        (100, 127, 111),
-        (0, 127, 127),
-        (127, 0, 1),
-        (64, 1, 64),
-        (0, 0, 127),
-        (1, 126, 2),
-    ] {
+    for (volume, expression, velocity) in
+        [(127, 127, 127), (100, 127, 111), (0, 127, 127), (127, 0, 1), (64, 1, 64), (0, 0, 127), (1, 126, 2)]
+    {
         s.control(0, 7, volume);
         s.control(0, 11, expression);
         strike_all(s, &plan, 60, velocity, &[7]);
@@ -467,15 +361,7 @@ fn fixed_key_and_velocity(s: &mut Script) {
     for fixed in [-32_768, -1, 0, 1, 60, 126, 127, 128, 32_767] {
         add_four(&mut plan, [&[(54, 1)], &[(46, fixed)], &[], &[]]);
         add_four(&mut plan, [&[(54, 1)], &[(47, fixed)], &[], &[]]);
-        add_four(
-            &mut plan,
-            [
-                &[(54, 1), (47, 99), (46, 70)],
-                &[(47, fixed), (46, fixed)],
-                &[],
-                &[],
-            ],
-        );
+        add_four(&mut plan, [&[(54, 1), (47, 99), (46, 70)], &[(47, fixed), (46, fixed)], &[], &[]]);
     }
     s.begin_plan("fixed key and velocity", &plan, &noise(40, 50));
     for program in 0..plan.presets.len() as u8 {

@@ -27,20 +27,8 @@ pub fn write(s: &mut Script) {
 
 /// All six stages, frame by frame around each change.
 fn envelope(s: &mut Script) {
-    let gens = [
-        (33, -12_000),
-        (34, -11_500),
-        (35, -11_000),
-        (36, -10_500),
-        (37, 400),
-        (38, -10_000),
-        (54, 1),
-    ];
-    s.begin_plan(
-        "envelope: all stages",
-        &one_zone(&gens, sample(0, 16)),
-        &noise(16, 60),
-    );
+    let gens = [(33, -12_000), (34, -11_500), (35, -11_000), (36, -10_500), (37, 400), (38, -10_000), (54, 1)];
+    s.begin_plan("envelope: all stages", &one_zone(&gens, sample(0, 16)), &noise(16, 60));
     s.on(0, 60, 100);
     for timecents in [-12_000, -11_500, -11_000] {
         s.around(tables().frames(timecents, 5_000) - 3);
@@ -54,10 +42,7 @@ fn envelope(s: &mut Script) {
 
 /// Delay, attack, hold and decay of no frames or of some, in all sixteen ways.
 fn stages_of_no_frames(s: &mut Script) {
-    let mut plan = BankPlan {
-        samples: vec![sample(0, 16)],
-        ..BankPlan::default()
-    };
+    let mut plan = BankPlan { samples: vec![sample(0, 16)], ..BankPlan::default() };
     for choice in 0..16 {
         let time = |i: i32| {
             if choice >> i & 1 == 1 {
@@ -83,10 +68,7 @@ fn stages_of_no_frames(s: &mut Script) {
 
 /// Sustain 0, 1, 999 and 1,000, behind a decay of no frames and of some.
 fn sustain_values(s: &mut Script) {
-    let mut plan = BankPlan {
-        samples: vec![sample(0, 16)],
-        ..BankPlan::default()
-    };
+    let mut plan = BankPlan { samples: vec![sample(0, 16)], ..BankPlan::default() };
     for decay in [-32_768, -12_000] {
         for sustain in [0, 1, 23, 24, 500, 999, 1_000, 1_440] {
             let gens = quick(&[(36, decay), (37, sustain), (54, 1)]);
@@ -109,26 +91,12 @@ fn sustain_values(s: &mut Script) {
 
 /// A release after each number of frames from 0 up to well into sustain, looked at in the frames behind it.
 fn release_in_every_stage(s: &mut Script) {
-    let all = [
-        (33, -12_000),
-        (34, -12_000),
-        (35, -12_000),
-        (36, -12_000),
-        (37, 700),
-        (54, 1),
-    ];
+    let all = [(33, -12_000), (34, -12_000), (35, -12_000), (36, -12_000), (37, 700), (54, 1)];
     for (name, release) in [("of no frames", -32_768), ("of some frames", -12_000)] {
         let gens = [&all[..], &[(38, release)]].concat();
         let plan = one_zone(&gens, sample(0, 16));
-        s.begin_plan(
-            &format!("release {name} in every stage"),
-            &plan,
-            &noise(16, 63),
-        );
-        let early = [
-            0, 1, 42, 43, 44, 45, 64, 85, 86, 87, 88, 128, 129, 130, 131, 132, 150, 158, 159, 160,
-            161, 175,
-        ];
+        s.begin_plan(&format!("release {name} in every stage"), &plan, &noise(16, 63));
+        let early = [0, 1, 42, 43, 44, 45, 64, 85, 86, 87, 88, 128, 129, 130, 131, 132, 150, 158, 159, 160, 161, 175];
         for n in early {
             s.on(0, 60, 127);
             s.go(n);
@@ -149,10 +117,7 @@ fn release_in_every_stage(s: &mut Script) {
 
 /// The least a whose gain is at most the level, 1,000 if above that: levels of a slow attack around 167.
 fn release_in_slow_attack(s: &mut Script) {
-    let plan = one_zone(
-        &quick(&[(34, 8_000), (38, -12_000), (54, 1)]),
-        sample(0, 16),
-    );
+    let plan = one_zone(&quick(&[(34, 8_000), (38, -12_000), (54, 1)]), sample(0, 16));
     s.begin_plan("release in a slow attack", &plan, &noise(16, 65));
     for n in [1, 2, 43, 44, 45, 46, 60, 400, 4_000] {
         s.on(0, 60, 127);
@@ -176,10 +141,7 @@ fn release_in_slow_attack(s: &mut Script) {
 
 /// "A released voice is free after at most N + 1 rendered frames": just so where the release begins at 0 cB.
 fn release_lengths(s: &mut Script) {
-    let mut plan = BankPlan {
-        samples: vec![sample(0, 16)],
-        ..BankPlan::default()
-    };
+    let mut plan = BankPlan { samples: vec![sample(0, 16)], ..BankPlan::default() };
     let times = [-32_768, -12_000, -11_999, -10_000, -7_000];
     for (program, time) in times.into_iter().enumerate() {
         let gens = quick(&[(38, time), (54, 1)]);
@@ -197,14 +159,8 @@ fn release_lengths(s: &mut Script) {
 
 /// A window 2..22 with a loop 7..13 in it, in every mode, at several pitches, released or not.
 fn modes(s: &mut Script) {
-    let mut plan = BankPlan {
-        samples: vec![SamplePlan {
-            loop_start: 7,
-            loop_end: 13,
-            ..sample(2, 22)
-        }],
-        ..BankPlan::default()
-    };
+    let mut plan =
+        BankPlan { samples: vec![SamplePlan { loop_start: 7, loop_end: 13, ..sample(2, 22) }], ..BankPlan::default() };
     for mode in [0, 1, 2, 3, 4, 5, 6, 7, -1, -2, -3, -4, 32_766, -32_765] {
         let program = plan.presets.len() as u16;
         plan.strike_plan(program, &[], vec![zone_to(&quick(&[(54, mode)]), 53, 0)]);
@@ -229,17 +185,9 @@ fn modes(s: &mut Script) {
 /// Mode 3 released at each frame: in front of the loop, in it, at its last sample, after folds, with a tail and without.
 fn mode_three_release(s: &mut Script) {
     for (name, end) in [("with a tail", 16), ("loop up to the end", 12)] {
-        let plan = SamplePlan {
-            loop_start: 6,
-            loop_end: 12,
-            ..sample(3, end)
-        };
+        let plan = SamplePlan { loop_start: 6, loop_end: 12, ..sample(3, end) };
         let gens = quick(&[(54, 3), (38, -12_000)]);
-        s.begin_plan(
-            &format!("mode 3 released: {name}"),
-            &one_zone(&gens, plan),
-            &noise(20, 68),
-        );
+        s.begin_plan(&format!("mode 3 released: {name}"), &one_zone(&gens, plan), &noise(20, 68));
         for key in [53, 60, 67, 84] {
             for n in 0..18 {
                 s.on(0, key, 127);
@@ -286,16 +234,9 @@ fn short_loops(s: &mut Script) {
 
 /// Windows of one sample: read towards 0 where it does not loop, towards itself where it does.
 fn one_sample_windows(s: &mut Script) {
-    let mut plan = BankPlan {
-        samples: vec![sample(3, 4)],
-        ..BankPlan::default()
-    };
+    let mut plan = BankPlan { samples: vec![sample(3, 4)], ..BankPlan::default() };
     for mode in 0..4 {
-        plan.strike_plan(
-            mode as u16,
-            &[],
-            vec![zone_to(&quick(&[(54, mode)]), 53, 0)],
-        );
+        plan.strike_plan(mode as u16, &[], vec![zone_to(&quick(&[(54, mode)]), 53, 0)]);
     }
     s.begin_plan("windows of one sample", &plan, &noise(4, 70));
     for program in 0..4 {
@@ -330,19 +271,10 @@ fn ends_of_windows(s: &mut Script) {
 /// RAM and ROM by bit 15 of the type, whatever the other bits; read as they are lent to each render.
 fn memories(s: &mut Script) {
     let mut plan = BankPlan::default();
-    for kind in [
-        1, 2, 4, 8, 0, 0x7fff, 0x8001, 0x8002, 0x8004, 0x8008, 0x8000, 0xffff,
-    ] {
+    for kind in [1, 2, 4, 8, 0, 0x7fff, 0x8001, 0x8002, 0x8004, 0x8008, 0x8000, 0xffff] {
         let program = plan.presets.len() as u16;
-        plan.samples.push(SamplePlan {
-            kind,
-            ..sample(1, 9)
-        });
-        plan.strike_plan(
-            program,
-            &[],
-            vec![zone_to(&quick(&[(54, 1)]), 53, program as i32)],
-        );
+        plan.samples.push(SamplePlan { kind, ..sample(1, 9) });
+        plan.strike_plan(program, &[], vec![zone_to(&quick(&[(54, 1)]), 53, program as i32)]);
     }
     s.begin("memories", &plan.bytes(), &noise(10, 72), &noise(10, 73));
     for program in 0..plan.presets.len() as u8 {
@@ -365,26 +297,9 @@ fn memories(s: &mut Script) {
 /// Coarse offsets: back from far places into a small memory, and forward into a long one.
 fn coarse_offsets(s: &mut Script) {
     let far = |steps: u32, place: u32| 32_768 * steps + place;
-    let plan = SamplePlan {
-        loop_start: far(3, 6),
-        loop_end: far(4, 11),
-        ..sample(far(1, 2), far(2, 20))
-    };
-    let mut bank = one_zone(
-        &quick(&[(4, -1), (12, -2), (45, -3), (50, -4), (54, 1)]),
-        plan,
-    );
-    let offsets = [
-        (4, -1),
-        (12, -2),
-        (45, -3),
-        (50, -4),
-        (0, 3),
-        (1, -5),
-        (2, -1),
-        (3, 2),
-        (54, 3),
-    ];
+    let plan = SamplePlan { loop_start: far(3, 6), loop_end: far(4, 11), ..sample(far(1, 2), far(2, 20)) };
+    let mut bank = one_zone(&quick(&[(4, -1), (12, -2), (45, -3), (50, -4), (54, 1)]), plan);
+    let offsets = [(4, -1), (12, -2), (45, -3), (50, -4), (0, 3), (1, -5), (2, -1), (3, 2), (54, 3)];
     bank.strike_plan(1, &[], vec![zone_to(&quick(&offsets), 53, 0)]);
     s.begin_plan("coarse offsets back", &bank, &noise(20, 76));
     for program in 0..2 {
@@ -395,11 +310,7 @@ fn coarse_offsets(s: &mut Script) {
         s.go(20);
         s.silence(0);
     }
-    let plan = SamplePlan {
-        loop_start: 4,
-        loop_end: 9,
-        ..sample(2, 12)
-    };
+    let plan = SamplePlan { loop_start: 4, loop_end: 9, ..sample(2, 12) };
     let bank = one_zone(&quick(&[(4, 1), (12, 1), (45, 1), (50, 1), (54, 1)]), plan);
     let mut ram = vec![0; 32_768];
     ram.extend(noise(12, 77));
@@ -413,14 +324,9 @@ fn coarse_offsets(s: &mut Script) {
 
 /// Negative readings, odd gains, pans and attack levels: every quotient is rounded down and not toward zero.
 fn rounding(s: &mut Script) {
-    let ram = [
-        -1, 0, -3, 2, -32_768, 32_767, -32_767, 1, -2, -7, 5, -5, 3, -32_768, -1, -1,
-    ];
+    let ram = [-1, 0, -3, 2, -32_768, 32_767, -32_767, 1, -2, -7, 5, -5, 3, -32_768, -1, -1];
     for (name, attack) in [("at full", -32_768), ("in attack", -11_000)] {
-        let mut plan = BankPlan {
-            samples: vec![sample(0, 16)],
-            ..BankPlan::default()
-        };
+        let mut plan = BankPlan { samples: vec![sample(0, 16)], ..BankPlan::default() };
         for (pan, attenuation) in [
             (0, 0),
             (1, 3),
@@ -471,18 +377,11 @@ fn run_examples(s: &mut Script) {
 
 /// Sums past both ends are held to -2^23..2^23, both included; sums of opposite voices are 0.
 fn mix_is_held(s: &mut Script) {
-    let mut plan = BankPlan {
-        samples: vec![sample(0, 1), sample(1, 2), sample(2, 3)],
-        ..BankPlan::default()
-    };
+    let mut plan = BankPlan { samples: vec![sample(0, 1), sample(1, 2), sample(2, 3)], ..BankPlan::default() };
     for (program, pan) in [(0, 0), (1, -500), (2, 500)] {
         for number in 0..3 {
             let gens = quick(&[(17, pan), (54, 1)]);
-            plan.strike_plan(
-                3 * program + number,
-                &[],
-                vec![zone_to(&gens, 53, number as i32)],
-            );
+            plan.strike_plan(3 * program + number, &[], vec![zone_to(&gens, 53, number as i32)]);
         }
     }
     s.begin_plan("the mix is held", &plan, &[32_767, -32_768, 1]);
@@ -517,11 +416,7 @@ fn mix_is_held(s: &mut Script) {
 /// Bend, 7 and 11 count as they stand at the frame, of the voice's own channel.
 fn controls_at_the_frame(s: &mut Script) {
     let gens = quick(&[(34, -10_000), (54, 1)]);
-    s.begin_plan(
-        "controls at the frame",
-        &one_zone(&gens, sample(0, 16)),
-        &noise(16, 78),
-    );
+    s.begin_plan("controls at the frame", &one_zone(&gens, sample(0, 16)), &noise(16, 78));
     s.on(0, 60, 127);
     s.on(1, 64, 127);
     s.go(5);
@@ -539,14 +434,7 @@ fn controls_at_the_frame(s: &mut Script) {
         s.control(channel, control, value);
         s.go(5);
     }
-    for (channel, bend) in [
-        (0, 0),
-        (1, 16_383),
-        (0, 8_191),
-        (2, 0),
-        (1, 8_192),
-        (0, 12_345),
-    ] {
+    for (channel, bend) in [(0, 0), (1, 16_383), (0, 8_191), (2, 0), (1, 8_192), (0, 12_345)] {
         s.bend(channel, bend);
         s.go(5);
     }
@@ -554,19 +442,8 @@ fn controls_at_the_frame(s: &mut Script) {
 
 /// The same 120 frames, cut in many ways: the words, clocks and stages at the end are one, and so are single frames.
 fn cuts(s: &mut Script) {
-    let gens = [
-        (33, -12_000),
-        (34, -12_000),
-        (35, -32_768),
-        (36, -10_500),
-        (37, 300),
-        (54, 3),
-    ];
-    let window = SamplePlan {
-        loop_start: 3,
-        loop_end: 10,
-        ..sample(0, 16)
-    };
+    let gens = [(33, -12_000), (34, -12_000), (35, -32_768), (36, -10_500), (37, 300), (54, 3)];
+    let window = SamplePlan { loop_start: 3, loop_end: 10, ..sample(0, 16) };
     let mut bank = one_zone(&gens, window);
     bank.strike_plan(1, &[], vec![zone_to(&quick(&[(37, 50)]), 53, 0)]);
     for piece in [1, 2, 3, 5, 7, 11, 12, 13, 24, 40, 43, 44, 60, 119, 120] {

@@ -25,11 +25,7 @@ impl Rig {
     }
 
     pub fn on(&mut self, channel: u8, key: u8, velocity: u8) -> Answer {
-        let lent = Lent {
-            bank: &self.bank,
-            ram: &self.ram,
-            rom: &self.rom,
-        };
+        let lent = Lent { bank: &self.bank, ram: &self.ram, rom: &self.rom };
         let engine = &mut self.engine;
         engine.note_on(tables(), &lent, channel, key, velocity)
     }
@@ -44,11 +40,7 @@ impl Rig {
 
     /// A render to a clock value into an output as it is.
     pub fn render_to(&mut self, clock: u32, output: &mut [f32]) -> Answer {
-        let lent = Lent {
-            bank: &self.bank,
-            ram: &self.ram,
-            rom: &self.rom,
-        };
+        let lent = Lent { bank: &self.bank, ram: &self.ram, rom: &self.rom };
         self.engine.render(tables(), &lent, clock, output)
     }
 
@@ -69,9 +61,7 @@ impl Rig {
 
     /// The voice in a slot that sounds.
     pub fn voice(&self, slot: usize) -> &Voice {
-        self.engine.slots[slot]
-            .as_ref()
-            .expect("the slot is to sound")
+        self.engine.slots[slot].as_ref().expect("the slot is to sound")
     }
 
     /// Controls 7 and 11 take nothing away.
