@@ -1,3 +1,4 @@
+-- The tables' lists, the definitions (Octaves to Largest), and the laws.
 pub mod OctaveList
 pub mod GainList
 pub mod VelocityList
@@ -19,4 +20,5 @@ pub mod BoundLaws
 pub mod Step
 pub mod LiftLaws
 pub mod FramesLaws
+pub mod PlaceLaws
 pub mod LeastLaws

@@ -1,6 +1,6 @@
 -- The rule of the velocity table, for every velocity.
 use mathlib.Core.Bool.{Bool}
-use Prim.Native.Nat.{ℕ, zero, suc, _+_, _*_, _^_, _≤_}
+use Prim.Native.Nat.{ℕ, zero, suc, _*_, _^_, _≤_}
 use native.Mathlib.Nat.{not-suc-le-zero, mul-le-mul-right, pow-le-pow-right}
 use lib.Dec.{T, lit<}
 use Rattle.curves.specs.Decibels.{cbOf}
