@@ -9,3 +9,5 @@ pub mod Clamp
 pub mod Bit
 pub mod Loops
 pub mod Put
+pub mod Word
+pub mod WordLaws

@@ -1,3 +1,4 @@
+-- A level times 2^-24, with nothing rounded.
 use lib.Dec.{lit<, lit≤}
 use mathlib.Core.Path.{_≡_, refl}
 use mathlib.Core.Bool.{false}
