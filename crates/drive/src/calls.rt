@@ -114,7 +114,11 @@ pub fn listing(bank: &[u8], room: &mut [u8; 65536], text: &mut [u8; 65536], run:
         return next;
     }
     let e = run.engine;
-    let at = row(text, run.at, crate::stand_in::listed(first_bytes(bank, run.bank), wanted.value));
+    let at = row(
+        text,
+        run.at,
+        crate::stand_in::listed(first_bytes(bank, run.bank), wanted.value),
+    );
     next.at = trace::state(text, at, e);
     next
 }
@@ -173,7 +177,12 @@ pub fn control_change(room: &mut [u8; 65536], text: &mut [u8; 65536], run: Run) 
         return next;
     }
     let e = run.engine;
-    counted(text, b'c', engine::control_change(e, g.one, g.two, g.three), next)
+    counted(
+        text,
+        b'c',
+        engine::control_change(e, g.one, g.two, g.three),
+        next,
+    )
 }
 
 // p: program change.
@@ -201,7 +210,12 @@ pub fn pitch_bend(room: &mut [u8; 65536], text: &mut [u8; 65536], run: Run) -> R
         return next;
     }
     let e = run.engine;
-    counted(text, b'b', engine::pitch_bend(e, channel.value, bend.value), next)
+    counted(
+        text,
+        b'b',
+        engine::pitch_bend(e, channel.value, bend.value),
+        next,
+    )
 }
 
 // Each number of the output holds the binary32 of bits 12345678 (hex) before a render.

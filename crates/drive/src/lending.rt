@@ -5,7 +5,7 @@ use cases::Place;
 
 // A memory that was read, and the place behind it.
 pub struct Stored {
-    pub count: usize,
+    pub memory: Memory,
     pub place: Place,
 }
 
@@ -56,20 +56,25 @@ pub fn lend_bank(bank: &mut [u8], room: &mut [u8; 65536], run: Run) -> Run {
     next
 }
 
-// A memory of samples.
+// A memory of n samples, all of them lent.
+fn whole(n: usize) -> Memory {
+    Memory { held: n, lent: n }
+}
+
+// A memory's samples.
 fn store(samples: &mut [i16], room: &mut [u8; 65536], from: Place) -> Stored {
     let size = cases::next_u32(room, from);
     let place = size.place;
     let n = size.value as usize;
     if samples.len() < n {
         return Stored {
-            count: 0,
+            memory: whole(0),
             place: spoilt(place),
         };
     }
     let behind = cases::next_samples(room, place, &mut samples[..n]);
     Stored {
-        count: n,
+        memory: whole(n),
         place: behind,
     }
 }
@@ -79,10 +84,8 @@ pub fn lend_ram(ram: &mut [i16], room: &mut [u8; 65536], run: Run) -> Run {
     let from = run.place;
     let s = store(ram, room, from);
     let mut next = moved(run, s.place);
-    next.ram = Memory {
-        held: s.count,
-        lent: s.count,
-    };
+    let m = s.memory;
+    next.ram = m;
     next
 }
 
@@ -91,10 +94,8 @@ pub fn lend_rom(rom: &mut [i16], room: &mut [u8; 65536], run: Run) -> Run {
     let from = run.place;
     let s = store(rom, room, from);
     let mut next = moved(run, s.place);
-    next.rom = Memory {
-        held: s.count,
-        lent: s.count,
-    };
+    let m = s.memory;
+    next.rom = m;
     next
 }
 
@@ -106,10 +107,7 @@ fn cut_to(m: Memory, n: usize) -> Memory {
             lent: n,
         };
     }
-    Memory {
-        held: m.held,
-        lent: m.held,
-    }
+    whole(m.held)
 }
 
 // m: only the first samples of the RAM.

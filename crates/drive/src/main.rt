@@ -112,7 +112,15 @@ fn main() {
     let mut run = begin();
     let mut turns = u64::MAX;
     while turns > 0 && !run.over {
-        run = step(&mut bank, &mut ram, &mut rom, &mut out, &mut room, &mut text, run);
+        run = step(
+            &mut bank,
+            &mut ram,
+            &mut rom,
+            &mut out,
+            &mut room,
+            &mut text,
+            run,
+        );
         turns -= 1;
     }
     cases::flush(&text, run.at);

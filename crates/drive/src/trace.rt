@@ -1,4 +1,5 @@
 // The lines of a trace: what a call answers, and the state behind it.
+ghost use Prim.Native.Nat.{_<_};
 use crate::Run;
 use engine::Engine;
 use voice::Shown;
@@ -56,16 +57,23 @@ fn slot(text: &mut [u8; 65536], at: usize, e: Engine, i: u32) -> usize
     stage(text, to, crate::stand_in::panel(e, i as u8))
 }
 
+// The slots that sound, in order.
+fn slots(text: &mut [u8; 65536], at: usize, e: Engine) -> usize {
+    let mut to = at;
+    let mut i: u32 = 0;
+    while i < 32 {
+        to = slot(text, to, e, i);
+        i += 1;
+    }
+    to
+}
+
 // The state, to the line's end.
 pub fn state(text: &mut [u8; 65536], at: usize, e: Engine) -> usize {
     let mut to = cases::word(text, at, b" | ");
     to = cases::hex(text, to, e.clock as u64, 8);
     to = cases::put(text, to, b' ');
     to = cases::hex(text, to, e.sounding as u64, 8);
-    let mut i: u32 = 0;
-    while i < 32 {
-        to = slot(text, to, e, i);
-        i += 1;
-    }
+    to = slots(text, to, e);
     cases::put(text, to, b'\n')
 }
