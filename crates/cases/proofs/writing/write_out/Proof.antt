@@ -3,8 +3,8 @@ use borrow.Author.Needs.{needs}
 use mathlib.Core.Path.{sym}
 use native.Mathlib.Omega.{arith}
 use lib.Seq.{length-take-le}
-use Rattle.cases.proofs.writing.flush.Statement.{statement}
-use Rattle.cases.proofs.writing.flush.Tie as tie
+use Rattle.cases.proofs.writing.write_out.Statement.{statement}
+use Rattle.cases.proofs.writing.write_out.Tie as tie
 
 slice-aggregate-write-all : tie.Need-slice-aggregate-write-all
 slice-aggregate-write-all c = sym (length-take-le _ _ (omega arith))
@@ -21,7 +21,7 @@ returns c = search needs
 returns-2 : tie.Need-returns-2
 returns-2 c = search needs
 
-pub flush-spec : {M : Type 1} → statement M
-flush-spec =
+pub write-out-spec : {M : Type 1} → statement M
+write-out-spec =
     tie.close
     (tie.spec slice-aggregate-write-all write-all-requires write-all-requires-2 returns returns-2)
