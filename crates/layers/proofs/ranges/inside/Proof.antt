@@ -2,10 +2,10 @@ use Rattle.records.specs.Whole.{between}
 use Rattle.layers.specs.Ranges.{inside}
 use mathlib.Core.Path.{_≡_, refl, sym, ap, _∙_}
 use borrow.Author.Tests.{lt-ltb, le-ltb, le-leb, lt-leb}
-use Rattle.layers.proofs.inside.Statement.{statement}
-use Rattle.layers.proofs.inside.Tie as tie
-use Rattle.layers.proofs.inside.Reads as reads
-use Rattle.layers.proofs.inside.Lts as lts
+use Rattle.layers.proofs.ranges.inside.Statement.{statement}
+use Rattle.layers.proofs.ranges.inside.Tie as tie
+use Rattle.layers.proofs.ranges.inside.Reads as reads
+use Rattle.layers.proofs.ranges.inside.Lts as lts
 
 -- src/lib.rt:80:9
 returns : tie.Need-returns

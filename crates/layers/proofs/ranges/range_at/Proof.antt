@@ -1,10 +1,10 @@
 use Rattle.layers.specs.Ranges.{rangeAt}
 use mathlib.Core.Path.{_≡_, refl, sym, ap, _∙_}
 use borrow.Author.Needs.{needs}
-use Rattle.layers.proofs.range_at.Statement.{statement}
-use Rattle.layers.proofs.range_at.Tie as tie
-use Rattle.layers.proofs.range_at.Reads as reads
-use Rattle.layers.proofs.range_at.Lts as lts
+use Rattle.layers.proofs.ranges.range_at.Statement.{statement}
+use Rattle.layers.proofs.ranges.range_at.Tie as tie
+use Rattle.layers.proofs.ranges.range_at.Reads as reads
+use Rattle.layers.proofs.ranges.range_at.Lts as lts
 use Rattle.records.proofs.amount.Reads as amount-reads
 
 -- src/lib.rt:72:9

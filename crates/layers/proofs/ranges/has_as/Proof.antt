@@ -2,10 +2,10 @@ use Rattle.layers.specs.Ranges.{hasAs}
 use mathlib.Core.Path.{_≡_, refl, sym, ap, _∙_}
 use borrow.Author.Tests.{lt-ltb, le-ltb, le-leb, lt-leb}
 use borrow.Author.Needs.{needs}
-use Rattle.layers.proofs.has_as.Statement.{statement}
-use Rattle.layers.proofs.has_as.Tie as tie
-use Rattle.layers.proofs.has_as.Reads as reads
-use Rattle.layers.proofs.has_as.Lts as lts
+use Rattle.layers.proofs.ranges.has_as.Statement.{statement}
+use Rattle.layers.proofs.ranges.has_as.Tie as tie
+use Rattle.layers.proofs.ranges.has_as.Reads as reads
+use Rattle.layers.proofs.ranges.has_as.Lts as lts
 use Rattle.records.proofs.has.Reads as has-reads
 
 -- src/lib.rt:63:36
