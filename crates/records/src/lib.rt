@@ -16,6 +16,20 @@ ghost use Rattle.records.specs.Whole.{between, modZ};
 ghost use Rattle.records.specs.Window.{shifted, moved, goodPlaces, modeOf, loops, goodWindow};
 ghost use Rattle.records.specs.Zones.{has, zoneCount, genCount, closingOf, zoneAt, globalOf, lastOf, amountIn, value, linkAt, firstZone};
 
+pub mod amounts;
+pub mod headers;
+pub mod memory;
+
+pub use amounts::operator;
+pub use amounts::poured;
+pub use headers::bank_of;
+pub use headers::correction_of;
+pub use headers::program_of;
+pub use headers::rate_of;
+pub use headers::rom_of;
+pub use headers::root_byte;
+pub use memory::window_of;
+
 // A number that was looked for.
 pub enum Found {
     Nothing,

@@ -1,32 +1,24 @@
+-- `records::amount` meets its contract.
 use Rattle.records.specs.Sides.{amount}
 use borrow.Author.Needs.{needs}
 use Rattle.records.proofs.amount.Statement.{statement}
 use Rattle.records.proofs.amount.Tie as tie
-use Rattle.records.proofs.amount.Reads as reads
-use Rattle.records.proofs.amount.Lts as lts
-use Rattle.records.proofs.u16_at.Reads as u16-at-reads
 
--- src/lib.rt:132:16
 cast-u16-at : tie.Need-cast-u16-at
 cast-u16-at c = search needs
 
--- src/lib.rt:132:35
 mul-u16-at : tie.Need-mul-u16-at
 mul-u16-at c = search needs
 
--- src/lib.rt:132:15
 add-u16-at : tie.Need-add-u16-at
 add-u16-at c = search needs
 
--- src/lib.rt:132:15
 add-u16-at-2 : tie.Need-add-u16-at-2
 add-u16-at-2 c = search needs
 
--- src/lib.rt:132:5
 u16-at-requires : tie.Need-u16-at-requires
 u16-at-requires c κs = search needs
 
--- src/lib.rt:128:1
 returns : tie.Need-returns
 unfolding amount
 returns c = c .u16-at .ensures

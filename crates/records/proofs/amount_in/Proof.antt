@@ -1,3 +1,4 @@
+-- `records::amount_in` meets its contract.
 use Rattle.records.specs.Bytes.{i16At}
 use Rattle.records.specs.Sides.{signed, amount}
 use mir.Val.{toZ}
@@ -7,29 +8,20 @@ use Rattle.records.specs.declared.Found.the-variants.{Nothing, At}
 use Rattle.records.specs.Zones.{lastOf, amountIn}
 use Rattle.records.specs.ZoneLaws.{last-of-is}
 use native.Mathlib.Omega.{arith}
-use mathlib.Core.Path.{_≡_, refl, sym, ap, _∙_}
+use mathlib.Core.Path.{_≡_, refl, ap, _∙_}
 use borrow.Author.Needs.{needs, sfits-of}
 use Rattle.records.proofs.amount_in.Statement.{statement}
 use Rattle.records.proofs.amount_in.Tie as tie
-use Rattle.records.proofs.amount_in.Reads as reads
-use Rattle.records.proofs.amount_in.Lts as lts
-use Rattle.records.proofs.amount.Reads as amount-reads
-use Rattle.records.proofs.last_of.Reads as last-of-reads
-use Rattle.records.proofs.signed16.Reads as signed16-reads
 
--- src/lib.rt:348:11
 last-of-requires : tie.Need-last-of-requires
 last-of-requires c κs = search needs
 
--- src/lib.rt:349:27
 enum-told : tie.Need-enum-told
 enum-told c = search needs
 
--- src/lib.rt:350:19
 enum-known-g : tie.Need-enum-known-g
 enum-known-g c = search needs
 
--- src/lib.rt:350:34
 amount-requires : tie.Need-amount-requires
 amount-requires c κs =
     let a = c .before .before .before .before .before .args in
@@ -38,11 +30,9 @@ amount-requires c κs =
     let h = last-of-is (a .b .now) (a .s) (a .z) (a .o) g e in
     omega arith
 
--- src/lib.rt:350:25
 signed16-requires : tie.Need-signed16-requires
 signed16-requires c κs = search needs
 
--- src/lib.rt:345:1
 returns : tie.Need-returns
 unfolding amountIn
 returns c =
@@ -51,7 +41,6 @@ returns c =
     let e : lastOf (a .b .now) (a .s) (a .z) (a .o) ≡ Nothing = cc in
     rw (toZ-ofZ (k .fits .d), e) refl
 
--- src/lib.rt:345:1
 returns-2 : tie.Need-returns-2
 unfolding amountIn signed i16At amount
 returns-2 c =

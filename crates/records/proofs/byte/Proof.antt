@@ -1,3 +1,4 @@
+-- `records::byte` meets its contract.
 use Rattle.records.specs.Bytes.{u8At}
 use native.Mathlib.Omega.{arith}
 use mathlib.Core.Path.{refl, sym}
@@ -5,19 +6,14 @@ use lib.ListN.{List·getD-eq-default}
 use borrow.Author.Needs.{needs}
 use Rattle.records.proofs.byte.Statement.{statement}
 use Rattle.records.proofs.byte.Tie as tie
-use Rattle.records.proofs.byte.Reads as reads
-use Rattle.records.proofs.byte.Lts as lts
 
--- src/lib.rt:63:16
 shared-slice-read-result : tie.Need-shared-slice-read-result
 shared-slice-read-result c = search needs
 
--- src/lib.rt:63:9
 returns : tie.Need-returns
 unfolding u8At
 returns c = refl
 
--- src/lib.rt:59:1
 returns-2 : tie.Need-returns-2
 unfolding u8At
 returns-2 c = sym (List·getD-eq-default (c .before .args .b .now) 0 {n = c .before .args .at} (omega arith))

@@ -1,14 +1,12 @@
+-- `records::chunk_at` meets its contract.
 use Rattle.records.specs.Chunks.{chunkAt}
 use Rattle.records.specs.ChunkLaws.{chunk-first, chunk-next}
 use Prim.Native.Nat.{_+_, _-_, _*_, _≤_}
 use native.Mathlib.Omega.{arith}
-use mathlib.Core.Path.{_≡_, refl, sym, ap, _∙_}
+use mathlib.Core.Path.{_≡_, sym}
 use borrow.Author.Needs.{needs}
 use Rattle.records.proofs.chunk_at.Statement.{statement}
 use Rattle.records.proofs.chunk_at.Tie as tie
-use Rattle.records.proofs.chunk_at.Reads as reads
-use Rattle.records.proofs.chunk_at.Lts as lts
-use Rattle.records.proofs.u32_at.Reads as u32-at-reads
 
 abbrev Inv-loop : tie.InvT-loop
 Inv-loop b k at₀ n₀ at n = (at ≡ chunkAt b n) × (at ≤ n * 4294967303) × (n ≤ k) × (k ≤ 9)
@@ -16,39 +14,30 @@ Inv-loop b k at₀ n₀ at n = (at ≡ chunkAt b n) × (at ≤ n * 4294967303) �
 abbrev μ-loop : tie.MeasureT-loop
 μ-loop b k at₀ n₀ at n = k - n
 
--- src/lib.rt:408:5
 loop-holds : tie.Need-loop-holds Inv-loop μ-loop
 loop-holds c = (sym (chunk-first _), search needs, search needs, search needs)
 
--- src/lib.rt:409:14
 add-at : tie.Need-add-at Inv-loop μ-loop
 add-at c = search needs
 
--- src/lib.rt:409:34
 add-u32-at : tie.Need-add-u32-at Inv-loop μ-loop
 add-u32-at c = search needs
 
--- src/lib.rt:409:24
 u32-at-requires : tie.Need-u32-at-requires Inv-loop μ-loop
 u32-at-requires c κs = search needs
 
--- src/lib.rt:409:24
 cast-at : tie.Need-cast-at Inv-loop μ-loop
 cast-at c = search needs
 
--- src/lib.rt:409:14
 add-at-2 : tie.Need-add-at-2 Inv-loop μ-loop
 add-at-2 c = search needs
 
--- src/lib.rt:410:13
 add-n : tie.Need-add-n Inv-loop μ-loop
 add-n c = search needs
 
--- src/lib.rt:408:5
 loop-less : tie.Need-loop-less Inv-loop μ-loop
 loop-less c = search needs
 
--- src/lib.rt:408:5
 loop-again : tie.Need-loop-again Inv-loop μ-loop
 loop-again c =
     let l = c .before .before in
@@ -56,7 +45,6 @@ loop-again c =
     let e : l .loop .at + 8 + c .u32-at .result ≡ chunkAt b (l .loop .n + 1) = cc (chunk-next b (l .loop .n)) in
     (e, omega (arith, c .u32-at .ok), search needs, search needs)
 
--- src/lib.rt:402:1
 returns : tie.Need-returns Inv-loop μ-loop
 returns c =
     let l = c .before in

@@ -1,36 +1,26 @@
+-- `records::global_of` meets its contract.
 use Rattle.records.specs.Zones.{zoneAt, globalOf, zoneCount}
-use mathlib.Core.Path.{_≡_, refl, sym, ap, _∙_}
+use mathlib.Core.Path.{_≡_, ap, _∙_}
 use native.Mathlib.Omega.{arith}
 use lib.Dec.{leb}
-use Prim.Native.Nat.{_≤_, _<_}
 use mathlib.Core.Bool.{true, false}
 use borrow.Author.Tests.{lt-leb, le-leb}
 use borrow.Author.Needs.{needs}
 use Rattle.records.proofs.global_of.Statement.{statement}
 use Rattle.records.proofs.global_of.Tie as tie
-use Rattle.records.proofs.global_of.Reads as reads
-use Rattle.records.proofs.global_of.Lts as lts
-use Rattle.records.proofs.bag_of.Reads as bag-of-reads
-use Rattle.records.proofs.zone_at.Reads as zone-at-reads
-use Rattle.records.proofs.zone_count.Reads as zone-count-reads
 
--- src/lib.rt:208:9
 zone-count-requires : tie.Need-zone-count-requires
 zone-count-requires c κs = search needs
 
--- src/lib.rt:209:27
 bag-of-requires : tie.Need-bag-of-requires
 bag-of-requires c κs = search needs
 
--- src/lib.rt:209:27
 cast-zone-at : tie.Need-cast-zone-at
 cast-zone-at c = search needs
 
--- src/lib.rt:209:9
 zone-at-requires : tie.Need-zone-at-requires
 zone-at-requires c κs = search needs
 
--- src/lib.rt:211:9
 returns : tie.Need-returns
 unfolding globalOf
 returns c =
@@ -38,7 +28,6 @@ returns c =
     let e : leb 2 (zoneCount (a .b .now) (a .s) (a .h)) ≡ false = lt-leb 2 (zoneCount (a .b .now) (a .s) (a .h)) (omega arith) in
     simp e
 
--- src/lib.rt:214:9
 returns-2 : tie.Need-returns-2
 unfolding globalOf
 returns-2 c =
@@ -47,7 +36,6 @@ returns-2 c =
     let z = c .before .before .zone-at .ensures ∙ ap (zoneAt (a .b .now) (a .s)) (c .before .before .before .bag-of .ensures) in
     simp (e, rw z at (c .if2 .taken))
 
--- src/lib.rt:205:1
 returns-3 : tie.Need-returns-3
 unfolding globalOf
 returns-3 c =

@@ -1,47 +1,34 @@
+-- `records::good_window` meets its contract.
 use Rattle.records.specs.Window.{goodWindow, startOf, endOf, loopStartOf, loopEndOf}
 use mir.Val.{SFits}
 use mir.Syntax.{w64}
 use mir.Facts.{toZ-ofZ}
-use mathlib.Core.Path.{_≡_, refl, sym, ap, _∙_}
+use mathlib.Core.Path.{_∙_}
 use borrow.Author.Needs.{needs, sfits-of}
 use Rattle.records.proofs.good_window.Statement.{statement}
 use Rattle.records.proofs.good_window.Tie as tie
-use Rattle.records.proofs.good_window.Reads as reads
-use Rattle.records.proofs.good_window.Lts as lts
-use Rattle.records.proofs.good_places.Reads as good-places-reads
-use Rattle.records.proofs.loops.Reads as loops-reads
-use Rattle.records.proofs.mode_of.Reads as mode-of-reads
-use Rattle.records.proofs.moved.Reads as moved-reads
 
--- src/lib.rt:624:25
 mode-of-requires : tie.Need-mode-of-requires
 mode-of-requires c κs = search needs
 
--- src/lib.rt:624:9
 loops-requires : tie.Need-loops-requires
 loops-requires c κs = search needs
 
--- src/lib.rt:625:9
 moved-requires : tie.Need-moved-requires
 moved-requires c κs = search needs
 
--- src/lib.rt:626:9
 moved-requires-2 : tie.Need-moved-requires-2
 moved-requires-2 c κs = search needs
 
--- src/lib.rt:627:9
 moved-requires-3 : tie.Need-moved-requires-3
 moved-requires-3 c κs = search needs
 
--- src/lib.rt:628:9
 moved-requires-4 : tie.Need-moved-requires-4
 moved-requires-4 c κs = search needs
 
--- src/lib.rt:629:5
 good-places-requires : tie.Need-good-places-requires
 good-places-requires c κs = search needs
 
--- src/lib.rt:621:1
 returns : tie.Need-returns
 unfolding goodWindow startOf endOf loopStartOf loopEndOf
 returns c =

@@ -1,16 +1,14 @@
+-- `records::last_of` meets its contract.
 use borrow.Author.Needs.{needs}
 use mathlib.Core.Logic.{⊎-elim}
-use mathlib.Core.Path.{_≡_, sym, ap, _∙_}
+use mathlib.Core.Path.{_≡_, sym, _∙_}
 use native.Mathlib.Omega.{arith}
-use Prim.Native.Nat.{_+_, _-_, _≤_, _<_}
+use Prim.Native.Nat.{_-_, _≤_, _<_}
 use Rattle.records.specs.Search.{last}
 use Rattle.records.specs.SearchLaws.{last-none, last-hit, last-miss}
 use Rattle.records.specs.Zones.{has, lastOf}
 use Rattle.records.proofs.last_of.Statement.{statement}
 use Rattle.records.proofs.last_of.Tie as tie
-use Rattle.records.proofs.last_of.Reads as reads
-use Rattle.records.proofs.last_of.Lts as lts
-use Rattle.records.proofs.has.Reads as has-reads
 
 abbrev Inv-loop : tie.InvT-loop
 Inv-loop b s o found₀ from count n₀ found n = (found ≡ last (has b s o) from n) × (n ≤ count) × (from < 4294967296) × (count < 4294967296)
@@ -18,39 +16,30 @@ Inv-loop b s o found₀ from count n₀ found n = (found ≡ last (has b s o) fr
 abbrev μ-loop : tie.MeasureT-loop
 μ-loop b s o found₀ from count n₀ found n = count - n
 
--- src/lib.rt:124:16
 cast-from : tie.Need-cast-from Inv-loop μ-loop
 cast-from c = search needs
 
--- src/lib.rt:125:17
 cast-count : tie.Need-cast-count Inv-loop μ-loop
 cast-count c = search needs
 
--- src/lib.rt:127:5
 loop-holds : tie.Need-loop-holds Inv-loop μ-loop
 loop-holds c = (sym (last-none _ _), search needs, search needs, search needs)
 
--- src/lib.rt:128:25
 add-has : tie.Need-add-has Inv-loop μ-loop
 add-has c = search needs
 
--- src/lib.rt:128:12
 has-requires : tie.Need-has-requires Inv-loop μ-loop
 has-requires c κs = search needs
 
--- src/lib.rt:129:31
 add-t12 : tie.Need-add-t12 Inv-loop μ-loop
 add-t12 c = search needs
 
--- src/lib.rt:131:13
 add-n : tie.Need-add-n Inv-loop μ-loop
 add-n c = search needs
 
--- src/lib.rt:127:5
 loop-less : tie.Need-loop-less Inv-loop μ-loop
 loop-less c = search needs
 
--- src/lib.rt:127:5
 loop-again : tie.Need-loop-again Inv-loop μ-loop
 loop-again c =
     let l = c .before .before .before in
@@ -66,7 +55,6 @@ loop-again c =
       search needs,
     )
 
--- src/lib.rt:120:1
 returns : tie.Need-returns Inv-loop μ-loop
 unfolding lastOf
 returns c =

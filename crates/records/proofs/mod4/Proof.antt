@@ -1,3 +1,4 @@
+-- `records::mod4` meets its contract.
 use Rattle.records.specs.WholeLaws.{mod-lift}
 use Rattle.arith.specs.Rounding.{bias-nonneg}
 use Rattle.arith.specs.Within.{Within, w-lit, w-add, w-fits, w-back}
@@ -8,24 +9,19 @@ use lib.Dec.{lit<}
 use native.Mathlib.Nat.{lt-of-le-of-lt}
 use Rattle.records.proofs.mod4.Statement.{statement}
 use Rattle.records.proofs.mod4.Tie as tie
-use Rattle.records.proofs.mod4.Reads as reads
-use Rattle.records.proofs.mod4.Lts as lts
 
 module _ (c : tie.Start) where
   abbrev up : Within (c .args .x +ℤ pos 32768) 65536
   up = w-add (c .pre) (w-lit (pos 32768))
 
--- src/lib.rt:601:7
 add-result : tie.Need-add-result
 add-result c = rw (toZ-ofZ (c .fits .x)) (w-fits w64 (up c) (lit< tt))
 
--- src/lib.rt:601:6
 cast-result : tie.Need-cast-result
 cast-result c =
     rw (toZ-ofZ (c .fits .x), w-back w64 (up c) (lit< tt))
     (bias-nonneg (c .args .x) 32768 (c .pre), record { fits = lt-of-le-of-lt (up c .within) (lit< tt) })
 
--- src/lib.rt:597:1
 returns : tie.Need-returns
 returns c = rw (toZ-ofZ (c .fits .x), w-back w64 (up c) (lit< tt)) (mod-lift (c .args .x) (c .pre))
 

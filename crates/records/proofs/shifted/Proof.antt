@@ -1,3 +1,4 @@
+-- `records::shifted` meets its contract.
 use Rattle.records.specs.Window.{shifted}
 use Rattle.arith.specs.Within.{w-of, w-nat, w-fits, w-back}
 use mir.Val.{SFits, toZ, ofZ}
@@ -10,9 +11,6 @@ use native.Mathlib.Omega.{arith}
 use borrow.Author.Needs.{needs}
 use Rattle.records.proofs.shifted.Statement.{statement}
 use Rattle.records.proofs.shifted.Tie as tie
-use Rattle.records.proofs.shifted.Reads as reads
-use Rattle.records.proofs.shifted.Lts as lts
-use Rattle.records.proofs.sum.Reads as sum-reads
 
 abbrev back16 : {z : ℤ} → SFits w16 z → toZ w64 (ofZ w64 z) ≡ z
 back16 h = w-back w64 (w-of w16 h) (lit< tt)
@@ -20,25 +18,20 @@ back16 h = w-back w64 (w-of w16 h) (lit< tt)
 place : (c : tie.Start) → toZ w64 (c .args .place) ≡ pos (c .args .place)
 place c = w-back w64 (w-nat {m = c .args .place} {n = 4294967295} (omega arith)) (lit< tt)
 
--- src/lib.rt:576:9
 cast-sum : tie.Need-cast-sum
 cast-sum c = search needs
 
--- src/lib.rt:576:23
 cast-sum-2 : tie.Need-cast-sum-2
 cast-sum-2 c = rw (toZ-ofZ (c .fits .fine)) (w-fits w64 (w-of w16 (c .fits .fine)) (lit< tt))
 
--- src/lib.rt:576:36
 cast-sum-3 : tie.Need-cast-sum-3
 cast-sum-3 c = rw (toZ-ofZ (c .fits .coarse)) (w-fits w64 (w-of w16 (c .fits .coarse)) (lit< tt))
 
--- src/lib.rt:576:5
 sum-requires : tie.Need-sum-requires
 sum-requires c κs =
     rw (toZ-ofZ (c .fits .fine), toZ-ofZ (c .fits .coarse), back16 (c .fits .fine), back16 (c .fits .coarse), place c)
     (w-nat {m = c .args .place} {n = 4294967295} (omega arith), w-of w16 (c .fits .fine), w-of w16 (c .fits .coarse))
 
--- src/lib.rt:573:1
 returns : tie.Need-returns
 unfolding shifted
 returns c =

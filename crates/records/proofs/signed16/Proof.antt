@@ -1,3 +1,4 @@
+-- `records::signed16` meets its contract.
 use borrow.Author.Needs.{needs}
 use borrow.Author.Tests.{le-ltb}
 use mathlib.Core.Bool.{Bool}
@@ -5,12 +6,12 @@ use mathlib.Core.Path.{_≡_, sym, ap}
 use Prim.Native.Nat.{ℕ, suc, _-_, _≤_, _<_}
 use native.Mathlib.Omega.{arith}
 use lib.Dec.{lit<}
-use lib.IntN.{ℤ, pos, negsuc, _-ℤ_}
+use lib.IntN.{pos, negsuc, _-ℤ_}
 use mir.Facts.{toZ-ofZ}
 use mir.Syntax.{w16, w32}
 use mir.Val.{SFits, toZ, sel}
 use Rattle.arith.specs.Rounding.{sub-neg}
-use Rattle.arith.specs.Within.{Within, w-nat, w-sub, w-lit, w-fits, w-back}
+use Rattle.arith.specs.Within.{w-nat, w-back}
 use Rattle.records.proofs.signed16.Statement.{statement}
 use Rattle.records.proofs.signed16.Tie as tie
 

@@ -1,3 +1,4 @@
+-- `records::sum` meets its contract.
 use Rattle.arith.specs.Within.{w-le}
 use Rattle.arith.specs.Expr.{E, var, lit, add, mul, Var, given, fits, back, within}
 use mir.Syntax.{w64}
@@ -6,8 +7,6 @@ use lib.Dec.{lit≤}
 use mathlib.Core.List.{List, [], _∷_}
 use Rattle.records.proofs.sum.Statement.{statement}
 use Rattle.records.proofs.sum.Tie as tie
-use Rattle.records.proofs.sum.Reads as reads
-use Rattle.records.proofs.sum.Lts as lts
 
 abbrev env : tie.Start → List Var
 env c = given (c .pre .0) ∷ given (c .pre .1) ∷ given (c .pre .2) ∷ []
@@ -21,19 +20,15 @@ product = mul (var 2) (lit (pos 32768))
 abbrev whole : E
 whole = add fine product
 
--- src/lib.rt:583:5
 add-result : tie.Need-add-result
 add-result c = fits w64 (env c) fine tt
 
--- src/lib.rt:583:20
 mul-result : tie.Need-mul-result
 mul-result c = fits w64 (env c) product tt
 
--- src/lib.rt:583:5
 add-result-2 : tie.Need-add-result-2
 add-result-2 c = fits w64 (env c) whole tt
 
--- src/lib.rt:579:1
 returns : tie.Need-returns
 returns c = let e = back w64 (env c) whole tt in (e, rw e (w-le (within whole (env c)) (lit≤ tt)))
 

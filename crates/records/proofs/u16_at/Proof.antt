@@ -1,29 +1,21 @@
+-- `records::u16_at` meets its contract.
 use Rattle.records.specs.Bytes.{u16At}
 use borrow.Author.Needs.{needs}
 use Rattle.records.proofs.u16_at.Statement.{statement}
 use Rattle.records.proofs.u16_at.Tie as tie
-use Rattle.records.proofs.u16_at.Reads as reads
-use Rattle.records.proofs.u16_at.Lts as lts
-use Rattle.records.proofs.byte.Reads as byte-reads
-use Rattle.records.proofs.pair.Reads as pair-reads
 
--- src/lib.rt:80:10
 byte-requires : tie.Need-byte-requires
 byte-requires c κs = search needs
 
--- src/lib.rt:80:31
 add-byte : tie.Need-add-byte
 add-byte c = search needs
 
--- src/lib.rt:80:23
 byte-requires-2 : tie.Need-byte-requires-2
 byte-requires-2 c κs = search needs
 
--- src/lib.rt:80:5
 pair-requires : tie.Need-pair-requires
 pair-requires c κs = search needs
 
--- src/lib.rt:76:1
 returns : tie.Need-returns
 unfolding u16At
 returns c = cc

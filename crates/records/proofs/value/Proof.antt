@@ -1,23 +1,18 @@
+-- `records::value` meets its contract.
 use lib.IntN.{ℤ}
 use mir.Facts.{toZ-ofZ}
 use Rattle.records.specs.Zones.{value, amountIn}
-use mathlib.Core.Path.{_≡_, refl, sym, ap, _∙_}
+use mathlib.Core.Path.{ap, _∙_}
 use borrow.Author.Needs.{needs, sfits-of}
 use Rattle.records.proofs.value.Statement.{statement}
 use Rattle.records.proofs.value.Tie as tie
-use Rattle.records.proofs.value.Reads as reads
-use Rattle.records.proofs.value.Lts as lts
-use Rattle.records.proofs.amount_in.Reads as amount-in-reads
 
--- src/lib.rt:358:28
 amount-in-requires : tie.Need-amount-in-requires
 amount-in-requires c κs = search needs
 
--- src/lib.rt:358:5
 amount-in-requires-2 : tie.Need-amount-in-requires-2
 amount-in-requires-2 c κs = search needs
 
--- src/lib.rt:355:1
 returns : tie.Need-returns
 unfolding value
 returns c =
