@@ -3,7 +3,12 @@ pub mod Root
 pub mod Octaves
 pub mod Powers
 pub mod Step
+pub mod Pitch
+pub mod LiftLaws
 pub mod Gains
 pub mod Velocities
 pub mod Decibels
 pub mod Frames
+pub mod FramesLaws
+pub mod BoundLaws
+pub mod LeastLaws
