@@ -60,3 +60,28 @@ pub fn search(b: &[u8], m: Parts, key: u8, velocity: u8, h: u32) -> Layers
         pairs,
     }
 }
+
+// Whether phdr record h has this bank and program.
+fn is_preset(b: &[u8], m: Parts, bank: u16, program: u8, h: u32) -> bool
+    ensures { λ r. ⌜ r ≡ isPreset (now (b .entry)) m bank program h ⌝ }
+{
+    if records::bank_of(b, m, h) == bank {
+        return records::program_of(b, m, h) == (program as u16);
+    }
+    false
+}
+
+// The first phdr record with bank and program; the terminal is not one.
+pub fn preset_for(b: &[u8], m: Parts, bank: u16, program: u8) -> Found
+    ensures { λ r. ⌜ r ≡ presetFor (now (b .entry)) m bank program ⌝ }
+{
+    let count = m.presets.nheads;
+    let mut h: u32 = 0;
+    while h + 1 < count {
+        if is_preset(b, m, bank, program, h) {
+            return Found::At(h as usize);
+        }
+        h = h + 1;
+    }
+    Found::Nothing
+}

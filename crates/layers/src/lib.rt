@@ -1,7 +1,10 @@
 // From a key to layers, and the voices that they start (01, "From a key to layers").
 mod layer_search;
+mod numbers;
 mod ranges;
+mod totals;
 
+pub use layer_search::preset_for;
 pub use layer_search::search;
 use records::Zone;
 
