@@ -1,9 +1,10 @@
 -- 01, "From a key to layers" and "A voice, frame by frame": the voice that a layer starts, and all that a key starts.
-use mathlib.Core.Bool.{Bool, true, false}
-use mathlib.Core.List.{List, [], map}
+use mathlib.Core.Bool.{Bool, true, false, cond}
+use mathlib.Core.List.{List, [], map, _++_}
 use Prim.Native.Nat.{ℕ, _+_, _-_, min}
 use lib.IntN.{ℤ, pos, natAbs}
-use lib.ListN.{take}
+use lib.Dec.{leb}
+use lib.ListN.{take, length, replicate}
 use Rattle.records.specs.Bytes.{u8At, i8At}
 use Rattle.records.specs.Search.{isAt}
 use Rattle.records.specs.Sides.{sampleAt, partsOf}
@@ -13,6 +14,7 @@ use Rattle.records.specs.declared.Found.{Found}
 use Rattle.records.specs.declared.Found.the-variants.{Nothing, At}
 use Rattle.records.specs.declared.Parts.{Parts}
 use Rattle.curves.specs.Frames.{frames}
+use Rattle.voice.specs.State.{blank}
 use Rattle.voice.specs.declared.Stage.the-variants.{Delay}
 use Rattle.voice.specs.declared.Voice.{Voice}
 use Rattle.layers.specs.Layers.{presetFor, layersOf, layerOf}
@@ -20,6 +22,7 @@ use Rattle.layers.specs.Totals.{total}
 use Rattle.layers.specs.VoiceNumbers.{pitchOf, keyedTime, attenuationOf, playMode}
 use Rattle.layers.specs.declared.Layer.{Layer}
 use Rattle.layers.specs.declared.Pair.{Pair}
+use Rattle.layers.specs.declared.Struck.{Struck}
 
 -- the voice that a layer starts. Delay and hold are held to 5,000 timecents, the others to 8,000; loop places are counted
 -- from the window's start; the rate is held to 16 bits, which changes none of an admitted bank's
@@ -74,3 +77,11 @@ hasPreset b bank program = isAt (presetFor b (partsOf b) bank program)
 unfoldable pub struckVoices : List ℕ → ℕ → ℕ → ℕ → ℕ → ℕ → List Voice
 struckVoices b bank program channel key velocity =
     voicesAt b (partsOf b) (presetFor b (partsOf b) bank program) channel key velocity
+
+-- at most 32 voices in an array, the rest blank, and their number; of 33 the number alone
+unfoldable pub struckOf : List Voice → Struck
+struckOf vs =
+    record {
+      count = length vs;
+      voices = cond (leb (length vs) 32) (vs ++ replicate (32 - length vs) blank) (replicate 32 blank);
+    }

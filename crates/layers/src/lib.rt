@@ -2,11 +2,14 @@
 mod layer_search;
 mod numbers;
 mod ranges;
+mod strike;
 mod totals;
+mod window;
 
 pub use layer_search::preset_for;
 pub use layer_search::search;
 use records::Zone;
+use voice::Voice;
 
 // A layer: the bag numbers of its preset zone and of its instrument zone.
 pub struct Pair {
@@ -32,4 +35,10 @@ pub struct Layer {
     pub above: Zone,
     pub instrument: Zone,
     pub beside: Zone,
+}
+
+// The voices that a key starts, and how many; of 33 or more none is made.
+pub struct Struck {
+    pub count: u32,
+    pub voices: [Voice; 32],
 }
