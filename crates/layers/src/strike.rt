@@ -38,6 +38,13 @@ fn layer_of(b: &[u8], m: Parts, h: u32, p: Pair) -> Layer
     }
 }
 
+// The sample that a layer names.
+fn sample_of(l: Layer) -> u32
+    ensures { λ r. ⌜ r ≡ l .instrument .link ⌝ }
+{
+    l.instrument.link as u32
+}
+
 // The voice that a layer starts.
 fn voice_by(
     b: &[u8],
@@ -53,10 +60,10 @@ fn voice_by(
 {
     let own = own_values(b, m, l);
     let added = added_values(b, m, l);
-    let k = l.instrument.link;
+    let k = sample_of(l);
     let start = place_of(b, m, &own, k, 20, 0, 4);
-    let header = records::root_byte(b, m, k as u32);
-    let correction = records::correction_of(b, m, k as u32);
+    let header = records::root_byte(b, m, k);
+    let correction = records::correction_of(b, m, k);
     Voice {
         stage: Stage::Delay {
             left: curves::short_frames(t, time_of(&own, &added, 33)),
@@ -67,13 +74,13 @@ fn voice_by(
         velocity,
         marked: false,
         class: class_of(&own),
-        rom: records::rom_of(b, m, k as u32),
+        rom: records::rom_of(b, m, k),
         start,
         end: place_of(b, m, &own, k, 24, 1, 12),
         mode: mode_of(&own),
         loopfrom: gap(start, place_of(b, m, &own, k, 28, 2, 45)),
         loopto: gap(start, place_of(b, m, &own, k, 32, 3, 50)),
-        rate: rate16(records::rate_of(b, m, k as u32)),
+        rate: rate16(records::rate_of(b, m, k)),
         pitch: pitch_of(&own, &added, key, header, correction),
         pan: pan_of(&own, &added),
         attenuation: attenuation_of(&own, &added, velocity),

@@ -28,7 +28,7 @@ pub fn place_of(
     b: &[u8],
     m: Parts,
     own: &[i16; 61],
-    k: u16,
+    k: u32,
     offset: u8,
     fine: usize,
     coarse: usize,
