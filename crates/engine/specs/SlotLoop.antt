@@ -132,7 +132,7 @@ abbrev pub withVoices : Engine → List Voice → Engine
 withVoices e vs =
     record { voices = vs; channels = e .channels; sounding = e .sounding; order = e .order; clock = e .clock }
 
-voices-set : (ss : List Slot) (i : ℕ) (s : Slot) → voicesOf (set ss i s) ≡ set (voicesOf ss) i (s .voice)
+pub voices-set : (ss : List Slot) (i : ℕ) (s : Slot) → voicesOf (set ss i s) ≡ set (voicesOf ss) i (s .voice)
 voices-set [] i s = refl
 voices-set (x ∷ ss) zero s = refl
 voices-set (x ∷ ss) (suc i) s = ap (_∷_ (x .voice)) (voices-set ss i s)

@@ -1,0 +1,27 @@
+use borrow.Author.Needs.{needs}
+use Rattle.engine.proofs.strikes.start_one.Statement.{statement}
+use Rattle.engine.proofs.strikes.start_one.Tie as tie
+use Rattle.engine.proofs.strikes.start_one.Reads as reads
+use Rattle.engine.proofs.strikes.start_one.Lts as lts
+use Rattle.engine.proofs.seats.joined.Reads as joined-reads
+use Rattle.engine.proofs.seats.seat_of.Reads as seat-of-reads
+use Rattle.engine.proofs.seats.start_in.Reads as start-in-reads
+
+seat-of-requires : tie.Need-seat-of-requires
+seat-of-requires c κs = search needs
+
+start-in-requires : tie.Need-start-in-requires
+start-in-requires c κs = search needs
+
+cast-joined : tie.Need-cast-joined
+cast-joined c = search needs
+
+joined-requires : tie.Need-joined-requires
+joined-requires c κs = search needs
+
+returns : tie.Need-returns
+returns c = ?
+
+pub start-one-spec : {M : Type 1} → statement M
+start-one-spec =
+    tie.close (tie.spec seat-of-requires start-in-requires cast-joined joined-requires returns)
