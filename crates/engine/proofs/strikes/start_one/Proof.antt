@@ -1,3 +1,11 @@
+-- A seat, a voice in it, and its bit.
+use mathlib.Core.Path.{_≡_, refl, sym, ap, _∙_}
+use mathlib.Core.Path.{ap₂}
+use Prim.Native.Nat.{ℕ, _^_}
+use lib.Bits.{bitOr}
+use Rattle.engine.specs.declared.Engine.{Engine}
+use Rattle.engine.specs.Slots.{seat, startIn}
+use Rattle.engine.specs.NoteOn.{Started, start}
 use borrow.Author.Needs.{needs}
 use Rattle.engine.proofs.strikes.start_one.Statement.{statement}
 use Rattle.engine.proofs.strikes.start_one.Tie as tie
@@ -20,7 +28,16 @@ joined-requires : tie.Need-joined-requires
 joined-requires c κs = search needs
 
 returns : tie.Need-returns
-returns c = ?
+unfolding start
+returns c =
+    let s = c .before .before in
+    let b = s .before .before .args .b in
+    let v = s .before .before .args .v in
+    ap₂ made (c .before .start-in .ensures) (c .joined .ensures)
+    ∙ ap (λ (i : ℕ). made (startIn i v (b .engine)) (bitOr (b .mine) (2 ^ i))) (s .seat-of .ensures .0)
+  where
+    made : Engine → ℕ → Started
+    made x w = record { engine = x; mine = w }
 
 pub start-one-spec : {M : Type 1} → statement M
 start-one-spec =

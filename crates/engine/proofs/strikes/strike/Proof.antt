@@ -1,0 +1,19 @@
+use borrow.Author.Needs.{needs}
+use Rattle.engine.proofs.strikes.strike.Statement.{statement}
+use Rattle.engine.proofs.strikes.strike.Tie as tie
+use Rattle.engine.proofs.strikes.strike.Reads as reads
+use Rattle.engine.proofs.strikes.strike.Lts as lts
+use Rattle.engine.proofs.strikes.clear_rivals.Reads as clear-rivals-reads
+use Rattle.engine.proofs.strikes.start_all.Reads as start-all-reads
+
+clear-rivals-requires : tie.Need-clear-rivals-requires
+clear-rivals-requires c κs = search needs
+
+start-all-requires : tie.Need-start-all-requires
+start-all-requires c κs = search needs
+
+returns : tie.Need-returns
+returns c = ?
+
+pub strike-spec : {M : Type 1} → statement M
+strike-spec = tie.close (tie.spec clear-rivals-requires start-all-requires returns)
