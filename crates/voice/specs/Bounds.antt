@@ -11,7 +11,7 @@ use lib.Signed.{ltZ}
 use Rattle.arith.specs.Within.{Within, w-nat, w-le, w-lit, w-add, w-sub, w-mul, w-floor-by}
 use Rattle.arith.specs.Floor.{floorZ}
 use Rattle.arith.specs.Over.{heldTo}
-use Rattle.curves.specs.Decibels.{gainOf}
+use Rattle.curves.specs.BoundLaws.{gain-le}
 use Rattle.voice.specs.declared.Stage.{Stage}
 use Rattle.voice.specs.declared.Stage.the-variants.{Delay, Attack, Hold, Decay, Sustain, Release}
 use Rattle.voice.specs.declared.Voice.{Voice}
@@ -22,7 +22,7 @@ use Rattle.voice.specs.State.{sounds, free}
 use Rattle.voice.specs.Stages.{levelAt, entered, dead, waiting}
 use Rattle.voice.specs.Reading.{sample, between, reading}
 use Rattle.voice.specs.Sound.{gained, shaped, panOf, leftOf, rightOf}
-use Rattle.voice.specs.SoundLaws.{gain-le, amid}
+use Rattle.voice.specs.SoundLaws.{amid}
 use Rattle.voice.specs.Frame.{silent, moved, loud, played, living, frameAt, frame}
 use Rattle.voice.specs.Run.{after, heard}
 use Rattle.voice.specs.Sums.{loudest, Small, small-none, small-two}

@@ -4,12 +4,16 @@ ghost use Prim.Native.Nat.{_*_, _≤_};
 ghost use lib.ListN.{length};
 ghost use Rattle.arith.specs.Within.{Within};
 ghost use Rattle.curves.specs.Gains.{gains};
-ghost use Rattle.voice.specs.Run.{afterAt, heardAt};
+ghost use Rattle.curves.specs.Octaves.{octaves};
+ghost use Rattle.voice.specs.Run.{after, heard, afterAt, heardAt};
 ghost use Rattle.voice.specs.Sums.{addTo, Small};
 ghost use Rattle.voice.specs.Frame.{frameAt};
+use crate::Channel;
 use crate::Framed;
 use crate::Slot;
 use crate::motion::go_on;
+use crate::motion::step_of;
+use crate::sound::loss_of;
 use crate::sound::loud_of;
 use crate::sound::to_left;
 use crate::sound::to_right;
@@ -95,4 +99,23 @@ pub fn run_at(
         k = k + 1;
     }
     s
+}
+
+// n frames of a slot, with its channel's bend, 7 and 11 as they stand.
+pub fn run(
+    c: Channel,
+    g: &[u32; 1441],
+    o: &[u32; 1200],
+    w: &[i16],
+    s: Slot,
+    acc: &mut [i32],
+    n: usize,
+) -> Slot
+    requires { ⌜ (now g ≡ gains) × (now o ≡ octaves) × (2 * n ≤ length (now acc)) × Small 31 (now acc) ⌝ }
+    ensures { λ r. ⌜ (r ≡ after c (now (w .entry)) n s) × (now (acc .exit) ≡ addTo (heard c (now (w .entry)) n s) (now (acc .entry))) × Small 1 (heard c (now (w .entry)) n s) ⌝ }
+{
+    let v = s.voice;
+    let st = step_of(v, c.bend, o);
+    let l = loss_of(v, c.volume, c.expression);
+    run_at(st, l, g, w, s, acc, n)
 }

@@ -8,11 +8,13 @@ mod sound;
 mod stages;
 
 pub use frames::frame_at;
+pub use frames::run;
 pub use frames::run_at;
+pub use motion::step_of;
 pub use panel::show;
 pub use reading::read;
 pub use release::let_off;
-pub use sound::gain_of;
+pub use sound::loss_of;
 pub use stages::decay_at;
 pub use stages::enter;
 pub use stages::envelope_of;

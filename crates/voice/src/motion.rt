@@ -1,5 +1,8 @@
-// The move by the step, and the fold or the end.
+// The step, the move by it, and the fold or the end.
 ghost use mathlib.Core.Path.{_≡_};
+ghost use lib.IntN.{_+ℤ_};
+ghost use Rattle.curves.specs.Octaves.{octaves};
+ghost use Rattle.curves.specs.Pitch.{bendCents, pitchHeld, stepAt};
 ghost use Prim.Native.Nat.{_+_, _<_};
 ghost use Rattle.voice.specs.Move.{folds, fold, span};
 ghost use Rattle.voice.specs.StageLaws.{Room};
@@ -10,6 +13,36 @@ use crate::Voice;
 use crate::stages::age;
 use crate::stages::is_released;
 use crate::with_moved;
+use curves::bend_cents;
+
+// The pitch total, held to -9,600..4,800.
+fn hold_pitch(p: i64) -> i32
+    ensures { λ r. ⌜ r ≡ pitchHeld p ⌝ }
+{
+    if p < -9600 {
+        return -9600;
+    }
+    if 4800 < p {
+        return 4800;
+    }
+    p as i32
+}
+
+fn tuned(pitch: i32, bend: u16) -> i32
+    ensures { λ r. ⌜ r ≡ pitchHeld (pitch +ℤ bendCents bend) ⌝ }
+{
+    let b = bend_cents(bend);
+    hold_pitch(pitch as i64 + b as i64)
+}
+
+// The voice's step at a bend.
+pub fn step_of(v: Voice, bend: u16, o: &[u32; 1200]) -> u32
+    requires { ⌜ now o ≡ octaves ⌝ }
+    ensures { λ r. ⌜ r ≡ stepAt (v .pitch +ℤ bendCents bend) (v .rate) ⌝ }
+{
+    let cents = tuned(v.pitch, bend);
+    curves::step(o, cents, v.rate)
+}
 
 // Whether a voice folds in a stage.
 pub fn is_folding(v: Voice, s: Stage) -> bool

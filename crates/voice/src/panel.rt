@@ -8,12 +8,12 @@ use crate::Shown;
 use crate::Slot;
 use crate::Stage;
 use crate::Voice;
-use crate::sound::gain_of;
 use crate::stages::decay_at;
 use crate::stages::level_at;
 use crate::stages::release_at;
 use crate::stages::wide;
 use arith::level_unit;
+use curves::gain;
 
 // A stage, with its level or its envelope's gain as a fraction of full.
 fn show_stage(v: Voice, s: Stage, g: &[u32; 1441]) -> Shown
@@ -43,7 +43,7 @@ fn gain_unit(g: &[u32; 1441], a: u64) -> f32
     requires { ⌜ now g ≡ gains ⌝ }
     ensures { λ r. ⌜ r ≡ levelOf (gainOf a) ⌝ }
 {
-    level_unit(gain_of(g, a))
+    level_unit(gain(g, a))
 }
 
 // What the panel is told of a slot.

@@ -1,28 +1,13 @@
 // The release.
 ghost use mathlib.Core.Path.{_≡_};
 ghost use Rattle.curves.specs.Gains.{gains};
-ghost use Rattle.curves.specs.Decibels.{leastCb};
 ghost use Rattle.voice.specs.Release.{letGo, release};
 use crate::Stage;
 use crate::Voice;
 use crate::stages::decay_at;
 use crate::stages::level_at;
 use crate::with_moved;
-
-// The least attenuation whose gain is at most the level, at most 1,000.
-fn least_cb(g: &[u32; 1441], l: u32) -> u16
-    requires { ⌜ now g ≡ gains ⌝ }
-    ensures { λ r. ⌜ r ≡ leastCb l ⌝ }
-{
-    let mut i: usize = 0;
-    while i < 1000 {
-        if g[i] <= l {
-            return i as u16;
-        }
-        i = i + 1;
-    }
-    1000
-}
+use curves::least_cb;
 
 // The stage at release.
 fn let_go(v: Voice, s: Stage, g: &[u32; 1441]) -> Stage

@@ -1,11 +1,11 @@
 // Sound: attenuation, gain, the attack's level, left and right.
 ghost use mathlib.Core.Path.{_≡_};
 ghost use Prim.Native.Nat.{_≤_, _<_};
-ghost use lib.IntN.{pos, _*ℤ_};
+ghost use lib.IntN.{pos, _+ℤ_, _*ℤ_};
 ghost use Rattle.arith.specs.Within.{Within};
 ghost use Rattle.arith.specs.Floor.{floorZ};
 ghost use Rattle.curves.specs.Gains.{gains};
-ghost use Rattle.curves.specs.Decibels.{gainOf};
+ghost use Rattle.curves.specs.Decibels.{cbOf};
 ghost use Rattle.voice.specs.Sound.{total, shaped, panOf, leftOf, rightOf};
 ghost use Rattle.voice.specs.Frame.{loud};
 use crate::Stage;
@@ -15,6 +15,23 @@ use crate::reading::read;
 use crate::stages::envelope_of;
 use crate::stages::level_at;
 use arith::biased_1000;
+use curves::cb_of;
+use curves::gain;
+
+fn added(a: i32, x: u16, y: u16) -> i64
+    ensures { λ r. ⌜ (r ≡ a +ℤ pos x +ℤ pos y) × Within r 1099511627776 ⌝ }
+{
+    a as i64 + x as i64 + y as i64
+}
+
+// Generator 48 and velocity, 7 and 11.
+pub fn loss_of(v: Voice, volume: u8, expression: u8) -> i64
+    ensures { λ r. ⌜ (r ≡ v .attenuation +ℤ pos (cbOf volume) +ℤ pos (cbOf expression)) × Within r 1099511627776 ⌝ }
+{
+    let x = cb_of(volume);
+    let y = cb_of(expression);
+    added(v.attenuation, x, y)
+}
 
 // The attenuation, at least 0.
 fn total_of(l: i64, e: u64) -> u64
@@ -23,18 +40,6 @@ fn total_of(l: i64, e: u64) -> u64
 {
     let a = l + (e as i64);
     if a < 0 { 0 } else { a as u64 }
-}
-
-// The gain of a cB.
-pub fn gain_of(t: &[u32; 1441], a: u64) -> u32
-    requires { ⌜ now t ≡ gains ⌝ }
-    ensures { λ r. ⌜ (r ≡ gainOf a) × (r ≤ 16777216) ⌝ }
-{
-    if 1440 < a {
-        return 0;
-    }
-    let i = a as usize;
-    t[i]
 }
 
 // floor(x * g / 2^16)
@@ -107,6 +112,6 @@ pub fn loud_of(l: i64, g: &[u32; 1441], w: &[i16], v: Voice, s: Stage) -> i64
     let f = is_folding(v, s);
     let x = read(f, v.loopfrom, v.loopto, w, v.place);
     let a = total_of(l, envelope_of(v, s));
-    let u = scaled_by(x, gain_of(g, a));
+    let u = scaled_by(x, gain(g, a));
     shape(v, s, u)
 }

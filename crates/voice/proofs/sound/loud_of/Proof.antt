@@ -29,8 +29,8 @@ envelope-of-requires c κs = search needs
 total-of-requires : tie.Need-total-of-requires
 total-of-requires c κs = search needs
 
-gain-of-requires : tie.Need-gain-of-requires
-gain-of-requires c κs = search needs
+gain-requires : tie.Need-gain-requires
+gain-requires c κs = search needs
 
 scaled-by-requires : tie.Need-scaled-by-requires
 scaled-by-requires c κs = search needs
@@ -54,7 +54,7 @@ returns c = let q = c .before in
     r .read .ensures .0 ∙ ap (λ (b : Bool). reading b (v .loopfrom) (v .loopto) (k .args .w .now) (v .place)) (r .before .is-folding .ensures) in
     let loss : t .total-of .result ≡ total (k .args .l) (envelope v s) =
     rw (w-back w64 (k .pre .1) (lit< tt)) at (t .total-of .ensures) ∙ ap (total (k .args .l)) (n .envelope-of .ensures .0) in
-    let gain : g .gain-of .result ≡ gainOf (total (k .args .l) (envelope v s)) = g .gain-of .ensures .0 ∙ ap gainOf loss in
+    let gain : g .gain .result ≡ gainOf (total (k .args .l) (envelope v s)) = g .gain .ensures .0 ∙ ap gainOf loss in
     let scaled = rw x at (q .scaled-by .ensures .0) ∙ ap₂ (λ (y : ℤ) (z : ℕ). floorZ (y *ℤ pos z) 65536) read gain in (
       rw (w-back w64 (c .shape .ensures .1) (lit< tt)) (rw u at (c .shape .ensures .0) ∙ ap (shaped v s) scaled),
       rw (w-back w64 (c .shape .ensures .1) (lit< tt)) (c .shape .ensures .1),
@@ -68,7 +68,7 @@ loud-of-spec =
     read-requires
     envelope-of-requires
     total-of-requires
-    gain-of-requires
+    gain-requires
     scaled-by-requires
     shape-requires
     returns)
