@@ -1,3 +1,4 @@
+-- Definitions (Floor, Between, Over, Word, and `bit` of Bit) and laws that the crates share.
 pub mod Floor
 pub mod Within
 pub mod Rounding

@@ -1,14 +1,14 @@
 -- `floorZ x d` by an offset, where `/` rounds toward zero; and that it is the floor.
 use mathlib.Core.Path.{_≡_, refl, sym, ap, _∙_, subst}
-use mathlib.Core.Bool.{Bool, true, false, cond}
+use mathlib.Core.Bool.{Bool, cond}
 use Prim.Native.Nat.{ℕ, zero, suc, _+_, _-_, _*_, _/_, _%_, _≤_, _<_}
-use native.Mathlib.Nat.{div-lt-iff-lt-mul, add-mul-div-right, div-eq-of-lt-le, div-add-mod', mod-lt, suc-mul, add-mul, zero-mul, mul-pos, div-mul-le-self}
+use native.Mathlib.Nat.{div-lt-iff-lt-mul, add-mul-div-right, div-add-mod', mod-lt, suc-mul, add-mul, zero-mul, mul-pos, div-mul-le-self}
 use native.Mathlib.Omega.{arith}
 use lib.IntN.{ℤ, pos, negsuc, negℤ, natAbs, subℕ, _+ℤ_, _-ℤ_, _*ℤ_, +ℤ-negℤ-cancel}
-use lib.Signed.{ltZ, quotZ, nonNeg, _≤ℤ_, _<ℤ_}
+use lib.Signed.{ltZ, nonNeg, _≤ℤ_, _<ℤ_}
 use lib.Arith.{digits-div}
-use lib.Dec.{T, ltb, le→leb, lt→ltb}
-use borrow.Author.Tests.{ltb-true, ltb-false, le-ltb, lt-ltb}
+use lib.Dec.{T, le→leb, lt→ltb}
+use borrow.Author.Tests.{le-ltb, lt-ltb}
 use Rattle.arith.specs.Floor.{floorZ}
 use Rattle.arith.specs.Within.{Within}
 

@@ -1,9 +1,9 @@
 -- A whole number as an `f32`, times 2 ^ -t: nothing is rounded, up to 2 ^ 24.
-use mathlib.Core.Path.{_≡_, refl, sym, ap, _∙_, subst}
+use mathlib.Core.Path.{_≡_, refl, sym, ap, _∙_}
 use mathlib.Core.Logic.{_⊎_, inl, inr}
 use mathlib.Core.Bool.{Bool, true, false}
-use Prim.Native.Nat.{ℕ, zero, suc, _+_, _-_, _*_, _^_, _≤_, _<_}
-use native.Mathlib.Nat.{mul-assoc, mul-one, mul-pos, lt-of-lt-of-le, eq-or-lt-of-le, le-trans, lt-of-le-of-lt}
+use Prim.Native.Nat.{ℕ, suc, _+_, _*_, _^_, _≤_, _<_}
+use native.Mathlib.Nat.{mul-assoc, mul-one, mul-pos, lt-of-lt-of-le, eq-or-lt-of-le, le-trans}
 use native.Mathlib.Omega.{arith}
 use lib.Dec.{T, lit<, lit≤, le→leb, lt→ltb}
 use lib.IntN.{ℤ, pos, negsuc, natAbs}

@@ -1,13 +1,12 @@
 -- Laws of a word's slots: the lowest that is clear, and the count of ones.
-use mathlib.Core.Path.{_≡_, refl, sym, ap, ap₂, _∙_}
-use mathlib.Core.Bool.{Bool, true, false, cond}
+use mathlib.Core.Path.{_≡_, refl, ap, ap₂, _∙_}
+use mathlib.Core.Bool.{Bool, cond}
 use mathlib.Core.List.{List, [], _∷_, map}
 use mathlib.Core.Logic.{_⊎_, ⊎-elim, inl, inr}
 use Prim.Native.Nat.{ℕ, zero, suc, _+_, _-_, _/_, _%_, _^_, _≤_, _<_}
 use native.Mathlib.Nat.{pow-suc, pow-zero}
 use native.Mathlib.Omega.{arith}
-use lib.Count.{ones, ones-step, trailingZeros, under}
-use lib.Dec.{eqb}
+use lib.Count.{ones, ones-step, trailingZeros}
 use Rattle.arith.specs.Bit.{bit, bit-zero, bit-suc}
 use Rattle.arith.specs.Loops.{countIf}
 use Rattle.arith.specs.Word.{flagsOf, lowestClear}

@@ -1,7 +1,7 @@
 -- A whole number held to -low..high, and how far it stands above -low.
 use mathlib.Core.Path.{_≡_, refl, sym, ap, _∙_, subst}
 use mathlib.Core.Bool.{Bool, true, false}
-use Prim.Native.Nat.{ℕ, zero, suc, _+_, _-_, _≤_, _<_}
+use Prim.Native.Nat.{ℕ, zero, suc, _+_, _≤_}
 use native.Mathlib.Omega.{arith}
 use borrow.Author.Tests.{ltb-false}
 use lib.Dec.{T}
@@ -40,3 +40,15 @@ module _ (low high : ℕ) (x : ℤ) where
 
   pub up-in : ltZ x (negℤ (pos low)) ≡ false → ltZ (pos high) x ≡ false → up low high x ≡ natAbs (x +ℤ pos low)
   up-in t u = ap (λ (z : ℤ). natAbs (z +ℤ pos low)) (clamp-in (negℤ (pos low)) (pos high) x t u)
+
+  -- it is at most low + high
+  pub up-le : up low high x ≤ low + high
+  up-le = below (ltZ x (negℤ (pos low))) refl
+    where
+      inside : ltZ x (negℤ (pos low)) ≡ false → (b : Bool) → ltZ (pos high) x ≡ b → up low high x ≤ low + high
+      inside t true u = rw (up-high t u) (omega arith)
+      inside t false u = rw (up-in t u) (lifts-le low high x t u)
+
+      below : (b : Bool) → ltZ x (negℤ (pos low)) ≡ b → up low high x ≤ low + high
+      below true t = rw (up-low t) (omega arith)
+      below false t = inside t (ltZ (pos high) x) refl

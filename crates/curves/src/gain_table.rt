@@ -1,4 +1,5 @@
-// The gain table.
+// The gain table: entry a is the largest G with G^200 * 10^a <= 2^4,800.
+// Made by: rustc -O -o target/tables tools/tables.rs && target/tables .
 pub const GAINS: [u32; 1441] = [
     16777216,
     16585168,

@@ -1,4 +1,5 @@
-// The octave table.
+// The octave table: entry i is the largest T with T^1200 <= 2^(i + 36,000).
+// Made by: rustc -O -o target/tables tools/tables.rs && target/tables .
 pub const OCTAVES: [u32; 1200] = [
     1073741824,
     1074362220,

@@ -1,4 +1,5 @@
-// The velocity table.
+// The velocity table: the largest a with 10^a * v^400 <= 127^400, for v from 1; entry 0 is a control's 0.
+// Made by: rustc -O -o target/tables tools/tables.rs && target/tables .
 pub const VELOCITIES: [u16; 128] = [
     960,
     841,

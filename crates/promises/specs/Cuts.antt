@@ -1,25 +1,22 @@
 -- A render may be cut anywhere: the slots after m + n frames are those after m and then n, and so are the numbers of each frame.
 use Prim.Native.Nat.{ℕ, zero, suc, _+_}
 use mathlib.Core.Path.{_≡_, refl, sym, ap, _∙_}
-use mathlib.Core.Bool.{Bool, true, false, cond}
 use mathlib.Core.List.{List, [], _∷_, _++_, map, append-nil, append-assoc}
 use native.Mathlib.Nat.{add-zero, add-suc}
 use lib.IntN.{ℤ, _+ℤ_}
-use lib.Ieee.{Float}
 use Rattle.arith.specs.Loops.{sumOf}
-use Rattle.voice.specs.declared.Stage.{Stage}
 use Rattle.voice.specs.declared.Voice.{Voice}
 use Rattle.voice.specs.declared.Channel.{Channel}
 use Rattle.voice.specs.declared.Slot.{Slot}
 use Rattle.voice.specs.Sound.{loss}
 use Rattle.voice.specs.Move.{step}
-use Rattle.voice.specs.Frame.{moved, frame, frameAt}
-use Rattle.voice.specs.Run.{after, leftIn, rightIn}
+use Rattle.voice.specs.Frame.{frame}
+use Rattle.voice.specs.Run.{after}
 use Rattle.voice.specs.RunLaws.{after-cut, frame-keeps}
 use Rattle.engine.specs.declared.Engine.{Engine}
 use Rattle.engine.specs.State.{slotsOf, withSlots, channelAt}
 use Rattle.engine.specs.StateLaws.{slots-back}
-use Rattle.engine.specs.Render.{window, slotAfter, slotLeft, slotRight, leftSum, rightSum, mixed, output, played}
+use Rattle.engine.specs.Render.{window, slotAfter, slotLeft, slotRight, leftSum, rightSum, output, played}
 
 -- channel and window stay as they are from frame to frame
 frame-channel : (c : Channel) (w : List ℤ) (s : Slot) → frame c w s .slot .voice .channel ≡ s .voice .channel

@@ -1,24 +1,233 @@
--- Demand 2, what is beside the definitions: a note-off reaches all held voices of its channel and key.
-use Prim.Native.Nat.{ℕ, _≤_, _<_}
+-- Demand 2: every number is right. The definitions are 01's rules; here stands what a doubter asks of them.
+use Prim.Native.Nat.{ℕ, _+_, _*_, _≤_, _<_}
 use mathlib.Core.Bool.{Bool, true, false, cond}
+use mathlib.Core.List.{List, [], _∷_, _++_}
 use mathlib.Core.Path.{_≡_}
+use lib.Count.{ones}
+use lib.Dec.{eqb, ltb}
+use lib.Ieee.{Float}
+use lib.IntN.{ℤ}
+use lib.ListN.{length, getD, take, drop}
+use Rattle.arith.specs.Bit.{bit}
 use Rattle.arith.specs.Loops.{countIf}
+use Rattle.arith.specs.Over.{Over}
+use Rattle.arith.specs.Within.{Within}
+use Rattle.voice.specs.declared.Voice.{Voice}
+use Rattle.voice.specs.declared.Slot.{Slot}
+use Rattle.voice.specs.State.{blank, sounds, free}
+use Rattle.voice.specs.Stages.{released}
 use Rattle.voice.specs.Release.{release}
 use Rattle.engine.specs.declared.Engine.{Engine}
-use Rattle.engine.specs.State.{slotAt, slotsOf}
-use Rattle.engine.specs.NoteOff.{heldKey, pedalDown, mark}
-use Rattle.promises.specs.Calls.{noteOff, does, next}
+use Rattle.engine.specs.State.{slotAt, slotsOf, channelAt, fresh}
+use Rattle.engine.specs.NoteOff.{ofChannel, held, heldKey, pedalDown, mark}
+use Rattle.engine.specs.Controls.{pedalHeld}
+use Rattle.engine.specs.Slots.{seat}
+use Rattle.engine.specs.NoteOn.{Bank, Started, start, cleared, rival}
+use Rattle.engine.specs.Render.{distance, leftSum, rightSum, mixed}
+use Rattle.promises.specs.Age.{Ordered, older, startedLast}
+use Rattle.promises.specs.Calls.{Call, noteOn, noteOff, control, program, bend, render, ask, does, written, next, run, voiceIn, frames, framesOf, begun, channelOf, startsIn, among, history}
+
+-- ---- 1. A note-off reaches all held voices of its channel and key
 
 -- after a note-off that is done: each held voice of channel and key is released, or marked while the pedal is down; none is
 -- held any more; every other slot is as it was; the answer counts them
 pub record Reached (channel key : ℕ) (e : Engine) : Type 0 where
-  pub all : (i : ℕ) → i < 32 → heldKey channel key (slotAt e i) ≡ true
-      → slotAt (next (noteOff channel key) e) i .voice
-      ≡ cond (pedalDown e channel) (mark (slotAt e i .voice)) (release (slotAt e i .voice))
-  pub none : (i : ℕ) → i < 32 → heldKey channel key (slotAt (next (noteOff channel key) e) i) ≡ false
-  pub others : (i : ℕ) → i < 32 → heldKey channel key (slotAt e i) ≡ false
-      → slotAt (next (noteOff channel key) e) i ≡ slotAt e i
+  pub all : (i : ℕ) → heldKey channel key (slotAt e i) ≡ true
+      → voiceIn i (next (noteOff channel key) e) ≡ cond (pedalDown e channel) (mark (voiceIn i e)) (release (voiceIn i e))
+  pub none : (i : ℕ) → heldKey channel key (slotAt (next (noteOff channel key) e) i) ≡ false
+  pub others : (i : ℕ) → heldKey channel key (slotAt e i) ≡ false → slotAt (next (noteOff channel key) e) i ≡ slotAt e i
   pub counted : does (noteOff channel key) e .count ≡ countIf (heldKey channel key) (slotsOf e)
 
 abbrev pub NoteOffReachesAll : Type 0
 NoteOffReachesAll = (channel key : ℕ) (e : Engine) → channel ≤ 15 → key ≤ 127 → Reached channel key e
+
+-- a note-on of velocity 0 is that note-off, whatever bank it is lent
+abbrev pub VelocityZeroIsNoteOff : Type 0
+VelocityZeroIsNoteOff =
+    (b : Bank) (ram rom : List ℤ) (channel key : ℕ) (e : Engine) → channel ≤ 15 → key ≤ 127
+    → does (noteOn b ram rom channel key 0) e ≡ does (noteOff channel key) e
+
+-- ---- 2. Under the pedal none is lost
+
+-- control 64 below 64: each marked voice of the channel is released, none stays marked, every other slot is as it was
+pub record Lifted (channel value : ℕ) (e : Engine) : Type 0 where
+  pub all : (i : ℕ) → pedalHeld channel (slotAt e i) ≡ true → voiceIn i (next (control channel 64 value) e) ≡ release (voiceIn i e)
+  pub none : (i : ℕ) → pedalHeld channel (slotAt (next (control channel 64 value) e) i) ≡ false
+  pub others : (i : ℕ) → pedalHeld channel (slotAt e i) ≡ false → slotAt (next (control channel 64 value) e) i ≡ slotAt e i
+
+abbrev pub LiftingReleases : Type 0
+LiftingReleases = (channel value : ℕ) (e : Engine) → channel ≤ 15 → value < 64 → Lifted channel value e
+
+-- no voice is marked while its pedal is up, after any run
+abbrev pub NoMarkWithoutPedal : Type 0
+NoMarkWithoutPedal =
+    (xs : List Call) (i : ℕ) → slotAt (run xs fresh) i .sounding ≡ true → voiceIn i (run xs fresh) .marked ≡ true
+    → pedalDown (run xs fresh) (voiceIn i (run xs fresh) .channel) ≡ true
+
+-- ---- 3. The October night
+
+-- a call strikes a key; a call leaves it
+abbrev pub strikes : ℕ → ℕ → Call → Bool
+strikes c k (noteOn b ram rom channel key velocity) = cond (eqb velocity 0) false (cond (eqb channel c) (eqb key k) false)
+strikes c k (noteOff channel key) = false
+strikes c k (control channel n value) = false
+strikes c k (program channel p) = false
+strikes c k (bend channel b) = false
+strikes c k (render to ram rom out) = false
+strikes c k (ask i) = false
+
+abbrev pub leaves : ℕ → ℕ → Call → Bool
+leaves c k (noteOn b ram rom channel key velocity) = cond (eqb velocity 0) (cond (eqb channel c) (eqb key k) false) false
+leaves c k (noteOff channel key) = cond (eqb channel c) (eqb key k) false
+leaves c k (control channel n value) = false
+leaves c k (program channel p) = false
+leaves c k (bend channel b) = false
+leaves c k (render to ram rom out) = false
+leaves c k (ask i) = false
+
+-- after some calls the key still stands struck: no call that leaves it came behind the last that strikes it; b is so before
+unfoldable pub struckAfter : ℕ → ℕ → Bool → List Call → Bool
+struckAfter c k b [] = b
+struckAfter c k b (x ∷ xs) = struckAfter c k (cond (strikes c k x) true (cond (leaves c k x) false b)) xs
+
+-- a piece: any calls that leave each key behind the last time that they strike it
+abbrev pub Piece : List Call → Type 0
+Piece xs = (c k : ℕ) → struckAfter c k false xs ≡ false
+
+-- two lists of calls run into each other, each in its own order
+pub data Into : List Call → List Call → List Call → Type 0 where
+  ends : Into [] [] []
+  left : {x : Call} {xs ys zs : List Call} → Into xs ys zs → Into (x ∷ xs) ys (x ∷ zs)
+  right : {y : Call} {xs ys zs : List Call} → Into xs ys zs → Into xs (y ∷ ys) (y ∷ zs)
+
+-- pieces, as many as one likes and the same one as often as one likes, that overlap in any way
+pub data Overlap : List Call → Type 0 where
+  quiet : Overlap []
+  more : {xs ys zs : List Call} → Piece xs → Overlap ys → Into xs ys zs → Overlap zs
+
+-- after such a night, once no pedal is down, every voice that still sounds is released
+abbrev pub OctoberNight : Type 0
+OctoberNight =
+    (night : List Call) → Overlap night → ((c : ℕ) → pedalDown (run night fresh) c ≡ false)
+    → (i : ℕ) → slotAt (run night fresh) i .sounding ≡ true → released (voiceIn i (run night fresh) .stage) ≡ true
+
+-- ---- 4. A released voice is free after at most N + 1 rendered frames, N its release's frames
+
+-- however they are cut, and whatever else is called, unless another voice is started in its slot
+abbrev pub NeverStarts : ℕ → List Call → Engine → Type 0
+NeverStarts i xs e = among i (history xs e) ≡ false
+
+abbrev pub FreeInTime : Type 0
+FreeInTime =
+    (i : ℕ) (xs : List Call) (e : Engine) → released (voiceIn i e .stage) ≡ true → NeverStarts i xs e
+    → voiceIn i e .release + 1 ≤ frames xs e → slotAt (run xs e) i .sounding ≡ false
+
+-- ---- 5. Voices started are those of the rule
+
+-- slot i is taken sooner than slot j: released voices first, then lower struck velocity, then older
+pub data Sooner (e : Engine) (i j : ℕ) : Type 0 where
+  let-go : released (voiceIn i e .stage) ≡ true → released (voiceIn j e .stage) ≡ false → Sooner e i j
+  softer : released (voiceIn i e .stage) ≡ released (voiceIn j e .stage) → voiceIn i e .velocity < voiceIn j e .velocity → Sooner e i j
+  aged : released (voiceIn i e .stage) ≡ released (voiceIn j e .stage) → voiceIn i e .velocity ≡ voiceIn j e .velocity
+      → older (e .order) i j ≡ true → Sooner e i j
+
+-- the slot for a layer, where `mine` is the word of the slots that its note-on has started before
+pub record RightSeat (e : Engine) (mine i : ℕ) : Type 0 where
+  pub slot : i < 32
+  -- never one of the same note-on
+  pub other : bit mine i ≡ 0
+  -- while a slot is free: the lowest free one
+  pub lowest : (j : ℕ) → j < 32 → slotAt e j .sounding ≡ false → (slotAt e i .sounding ≡ false) × (i ≤ j)
+  -- when none is left: the one that is taken soonest
+  pub soonest : slotAt e i .sounding ≡ true → (j : ℕ) → j < 32 → bit mine j ≡ 0 → (j ≡ i → ⊥) → Sooner e i j
+
+-- each layer in its turn
+abbrev pub RightSeats : List Voice → Started → Type 0
+RightSeats [] x = Unit {0}
+RightSeats (v ∷ vs) x = RightSeat (x .engine) (x .mine) (seat (x .engine) (x .mine)) × RightSeats vs (start v x)
+
+-- no slot twice
+unfoldable pub distinct : List ℕ → Bool
+distinct [] = true
+distinct (x ∷ xs) = cond (among x xs) false (distinct xs)
+
+-- a note-on x that is done, and no note-off: the rivals (same channel, same nonzero class) are freed first; the layers then
+-- take their slots by the rule, as many slots as layers, no slot twice, each layer sounds in its own, and no other slot changes
+pub record Struck (x : Call) (e : Engine) : Type 0 where
+  pub counted : length (startsIn x e) ≡ length (begun x e)
+  pub seated : RightSeats (begun x e) (record { engine = cleared (channelOf x) (begun x e) e; mine = 0 })
+  pub apart : distinct (startsIn x e) ≡ true
+  pub each : (j : ℕ) → j < length (begun x e) → slotAt (next x e) (getD (startsIn x e) j 0) ≡ sounds (getD (begun x e) j blank)
+  pub others : (i : ℕ) → among i (startsIn x e) ≡ false
+      → slotAt (next x e) i ≡ cond (rival (channelOf x) (begun x e) (slotAt e i)) (free (voiceIn i e)) (slotAt e i)
+
+-- after any run, a note-on that is done
+abbrev pub LayersByTheRule : Type 0
+LayersByTheRule =
+    (xs : List Call) (b : Bank) (ram rom : List ℤ) (c k v : ℕ) → 0 < v
+    → does (noteOn b ram rom c k v) (run xs fresh) .status ≡ 0
+    → (does (noteOn b ram rom c k v) (run xs fresh) .count ≡ length (begun (noteOn b ram rom c k v) (run xs fresh)))
+    × Struck (noteOn b ram rom c k v) (run xs fresh)
+
+-- ---- 6. `order` holds each slot once and is the order of starting, without end
+
+abbrev pub OrderIsAge : Type 0
+OrderIsAge =
+    (xs : List Call) → Ordered (run xs fresh .order)
+    × ((i j : ℕ) → i < 32 → j < 32 → (i ≡ j → ⊥)
+    → older (run xs fresh .order) i j ≡ startedLast (history xs fresh) i j (ltb i j))
+
+-- ---- 7. The word's ones are the voices
+
+abbrev pub OnesAreVoices : Type 0
+OnesAreVoices = (xs : List Call) → ones (run xs fresh .sounding) ≡ countIf (λ (s : Slot). s .sounding) (slotsOf (run xs fresh))
+
+-- ---- 8. No call touches another channel
+
+-- its voices stand, but where a voice is started in their slot: that is taking
+abbrev pub OtherVoicesStand : Type 0
+OtherVoicesStand =
+    (x : Call) (e : Engine) (i : ℕ) → framesOf x e ≡ 0 → ofChannel (channelOf x) (slotAt e i) ≡ false
+    → among i (startsIn x e) ≡ false → slotAt (next x e) i ≡ slotAt e i
+
+-- and so do its program, bend and controls
+abbrev pub OtherChannelsStand : Type 0
+OtherChannelsStand = (x : Call) (e : Engine) (c : ℕ) → (c ≡ channelOf x → ⊥) → channelAt (next x e) c ≡ channelAt e c
+
+-- ---- 9. The output
+
+-- x is k / 2^23, exactly, with k from -2^23 to 2^23: within -1..1
+pub record Fraction (x : Float) : Type 0 where
+  pub k : ℤ
+  pub exact : Over x k 8388608
+  pub within : Within k 8388608
+
+-- a done render of n frames: as long as before; number 2j is left of frame j and 2j + 1 right, the sum of voices held and
+-- scaled, each such a fraction; behind the first 2n every number is as it was
+pub record Rendered (to : ℕ) (ram rom : List ℤ) (out : List Float) (e : Engine) (none : Float) : Type 0 where
+  pub long : length (written (render to ram rom out) e) ≡ length out
+  pub left : (j : ℕ) → j < distance e to → getD (written (render to ram rom out) e) (2 * j) none ≡ mixed (leftSum ram rom e j)
+  pub right : (j : ℕ) → j < distance e to → getD (written (render to ram rom out) e) (2 * j + 1) none ≡ mixed (rightSum ram rom e j)
+  pub behind : drop (2 * distance e to) (written (render to ram rom out) e) ≡ drop (2 * distance e to) out
+  pub fraction : (m : ℕ) → m < 2 * distance e to → Fraction (getD (written (render to ram rom out) e) m none)
+
+abbrev pub OutputIsExact : Type 0
+OutputIsExact =
+    (to : ℕ) (ram rom : List ℤ) (out : List Float) (e : Engine) (none : Float) → does (render to ram rom out) e .status ≡ 0
+    → Rendered to ram rom out e none
+
+-- ---- 10. A render may be cut anywhere
+
+-- m frames and then n are m + n frames: the same state, the same numbers
+abbrev pub CutsDoNotMatter : Type 0
+CutsDoNotMatter =
+    (mid to : ℕ) (ram rom : List ℤ) (out more all : List Float) (e : Engine) →
+    e .clock < 4294967296 → mid < 4294967296 → to < 4294967296 →
+    length all ≡ 2 * (distance e mid + distance (next (render mid ram rom out) e) to) →
+    does (render mid ram rom out) e .status ≡ 0 →
+    does (render to ram rom more) (next (render mid ram rom out) e) .status ≡ 0 →
+    distance e mid + distance (next (render mid ram rom out) e) to ≤ 4096 →
+    (next (render to ram rom all) e ≡ next (render to ram rom more) (next (render mid ram rom out) e))
+    × (written (render to ram rom all) e
+    ≡ take (2 * distance e mid) (written (render mid ram rom out) e)
+    ++ take (2 * distance (next (render mid ram rom out) e) to) (written (render to ram rom more) (next (render mid ram rom out) e)))

@@ -1,51 +1,16 @@
 -- Demand 3: the place of a voice after n frames, over any run of calls.
 use Prim.Native.Nat.{ℕ, _+_, _*_, _≤_, _<_}
-use mathlib.Core.Bool.{Bool, true, false, cond}
+use mathlib.Core.Bool.{true, false, cond}
 use mathlib.Core.List.{List, [], _∷_}
 use mathlib.Core.Path.{_≡_}
-use lib.Dec.{eqb}
 use lib.IntN.{ℤ}
-use lib.ListN.{length}
-use Rattle.arith.specs.Bit.{bit}
 use Rattle.curves.specs.Step.{stepOf, StepsAt}
 use Rattle.voice.specs.declared.Voice.{Voice}
 use Rattle.voice.specs.Stages.{past, released}
 use Rattle.voice.specs.Move.{pitchTotal, lifted, folds, folded}
 use Rattle.engine.specs.declared.Engine.{Engine}
 use Rattle.engine.specs.State.{slotAt, channelAt}
-use Rattle.engine.specs.NoteOn.{struck, layersOf}
-use Rattle.engine.specs.Render.{distance}
-use Rattle.promises.specs.Calls.{Call, noteOn, noteOff, control, program, bend, render, ask, does, next, run}
-
--- the frames that a call renders: its distance, where it is done
-abbrev pub framesOf : Call → Engine → ℕ
-framesOf (noteOn b ram rom c k v) e = 0
-framesOf (noteOff c k) e = 0
-framesOf (control c n v) e = 0
-framesOf (program c p) e = 0
-framesOf (bend c b) e = 0
-framesOf (render to ram rom out) e = cond (eqb (does (render to ram rom out) e .status) 0) (distance e to) 0
-framesOf (ask i) e = 0
-
--- the frames of a run
-unfoldable pub frames : List Call → Engine → ℕ
-frames [] e = 0
-frames (c ∷ cs) e = framesOf c e + frames cs (next c e)
-
--- the word of the slots that a call starts a voice in: a note-on that is done and no note-off
-abbrev pub starts : Call → Engine → ℕ
-starts (noteOn b ram rom c k v) e =
-    cond (eqb (does (noteOn b ram rom c k v) e .status) 0) (cond (eqb v 0) 0 (struck c (layersOf b c k v e) e .mine)) 0
-starts (noteOff c k) e = 0
-starts (control c n v) e = 0
-starts (program c p) e = 0
-starts (bend c b) e = 0
-starts (render to ram rom out) e = 0
-starts (ask i) e = 0
-
--- the voice in slot i
-abbrev pub voiceIn : ℕ → Engine → Voice
-voiceIn i e = slotAt e i .voice
+use Rattle.promises.specs.Calls.{Call, next, run, voiceIn, framesOf, frames, startsIn, among}
 
 -- its pitch total as it stands
 abbrev pub centsIn : ℕ → Engine → ℤ
@@ -54,7 +19,7 @@ centsIn i e = pitchTotal (channelAt e (voiceIn i e .channel)) (voiceIn i e)
 -- a call neither ends nor takes the voice in slot i, and where it renders a frame the pitch total is c
 pub record Keeps (i : ℕ) (c : ℤ) (x : Call) (e : Engine) : Type 0 where
   pub lives : slotAt (next x e) i .sounding ≡ true
-  pub own : bit (starts x e) i ≡ 0
+  pub own : among i (startsIn x e) ≡ false
   pub tuned : 0 < framesOf x e → centsIn i e ≡ c
 
 -- so does each call of a run
@@ -80,7 +45,6 @@ pub record Moved (i : ℕ) (c : ℤ) (n : ℕ) (before after : Engine) : Type 0 
 abbrev pub PlaceHolds : Type 0
 PlaceHolds =
     (i : ℕ) (c : ℤ) (xs : List Call) (e : Engine) →
-    i < 32 →
     slotAt e i .sounding ≡ true →
     past (voiceIn i e .stage) ≡ true →
     (400 ≤ voiceIn i e .rate) × (voiceIn i e .rate ≤ 50000) →

@@ -1,4 +1,8 @@
 pub mod Calls
+pub mod EachSlot
+pub mod Kept
+pub mod Age
+pub mod AgeLaws
 pub mod Demand1
 pub mod Demand2
 pub mod Demand3
@@ -6,4 +10,5 @@ pub mod Cuts
 pub mod Demand1Proof
 pub mod Demand2Proof
 pub mod Demand3Proof
+pub mod Banks
 pub mod Runs

@@ -1,5 +1,5 @@
 -- A level times 2^-24, with nothing rounded.
-use lib.Dec.{lit<, lit≤}
+use lib.Dec.{lit≤}
 use mathlib.Core.Path.{_≡_, refl}
 use mathlib.Core.Bool.{false}
 use lib.IntN.{pos, negsuc}

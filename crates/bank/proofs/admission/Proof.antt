@@ -10,13 +10,13 @@ use Rattle.bank.proofs.admission.Statement.{statement}
 use Rattle.bank.proofs.admission.Tie as tie
 use Rattle.bank.proofs.admission.Reads as reads
 use Rattle.bank.proofs.admission.Lts as lts
-use Rattle.bank.proofs.chunk_fault.Reads as chunk-fault-reads
-use Rattle.bank.proofs.index_fault.Reads as index-fault-reads
-use Rattle.bank.proofs.number_fault.Reads as number-fault-reads
+use Rattle.bank.proofs.chunks.chunk_fault.Reads as chunk-fault-reads
+use Rattle.bank.proofs.indexes.index_fault.Reads as index-fault-reads
+use Rattle.bank.proofs.numbers.number_fault.Reads as number-fault-reads
 use Rattle.records.proofs.parts_of.Reads as parts-of-reads
-use Rattle.bank.proofs.rate_fault.Reads as rate-fault-reads
-use Rattle.bank.proofs.records_fault.Reads as records-fault-reads
-use Rattle.bank.proofs.window_fault.Reads as window-fault-reads
+use Rattle.bank.proofs.rates.rate_fault.Reads as rate-fault-reads
+use Rattle.bank.proofs.chunks.records_fault.Reads as records-fault-reads
+use Rattle.bank.proofs.windows.window_fault.Reads as window-fault-reads
 
 -- src/lib.rt:777:9
 returns : tie.Need-returns

@@ -6,7 +6,7 @@ use Rattle.curves.specs.Decibels.{gainOf}
 use Rattle.curves.specs.Gains.{gains}
 use lib.ListN.{getD, length, List·getD-eq-default}
 use native.Mathlib.Omega.{arith}
-use mathlib.Core.Path.{_≡_, refl, sym, ap, _∙_, subst}
+use mathlib.Core.Path.{_≡_, refl, sym, ap}
 use borrow.Author.Needs.{needs}
 use Rattle.curves.proofs.levels.gain.Statement.{statement}
 use Rattle.curves.proofs.levels.gain.Tie as tie

@@ -5,9 +5,9 @@ use Rattle.curves.specs.Gains.{gains}
 use lib.ListN.{length, getD}
 use borrow.Author.Needs.{needs}
 use mathlib.Core.List.{List}
-use Prim.Native.Nat.{ℕ, _+_, _-_, _≤_, _<_}
+use Prim.Native.Nat.{ℕ, _-_, _≤_, _<_}
 use native.Mathlib.Omega.{arith}
-use mathlib.Core.Path.{_≡_, refl, sym, ap, _∙_, subst}
+use mathlib.Core.Path.{_≡_, refl, ap, subst}
 use Rattle.curves.proofs.levels.least_cb.Statement.{statement}
 use Rattle.curves.proofs.levels.least_cb.Tie as tie
 

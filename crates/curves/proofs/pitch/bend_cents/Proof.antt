@@ -1,6 +1,5 @@
 -- A bend's cents, by the signed expression.
 use mathlib.Core.List.{List, [], _∷_}
-use mathlib.Core.Path.{sym}
 use native.Mathlib.Omega.{arith}
 use borrow.Author.Needs.{needs}
 use lib.IntN.{pos}

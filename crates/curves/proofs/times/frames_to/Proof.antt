@@ -1,5 +1,5 @@
 -- The frames of a time held to top.
-use mathlib.Core.Path.{_≡_, sym, ap, _∙_}
+use mathlib.Core.Path.{sym, ap, _∙_}
 use borrow.Author.Needs.{needs}
 use lib.IntN.{pos}
 use mir.Facts.{toZ-ofZ}

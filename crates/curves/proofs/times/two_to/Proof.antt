@@ -1,5 +1,4 @@
 -- A power of two, by a shift that loses nothing.
-use Prim.Native.Nat.{_^_, _≤_}
 use native.Mathlib.Omega.{arith}
 use borrow.Author.Needs.{needs}
 use lib.Pow.{pow-mono}
