@@ -7,6 +7,8 @@ mod panel; // panel.rt: what the panel is told
 mod quiet; // quiet.rt: the fresh state
 mod seats; // seats.rt: which slot a layer takes, and the order of age
 mod strikes; // strikes.rt: classes, and layers started in slots
+mod sums; // sums.rt: the voices of a state, added up
+mod rendering; // rendering.rt: render
 mod controls; // controls.rt: control change
 
 pub use channels::pitch_bend;
@@ -15,6 +17,7 @@ pub use controls::control_change;
 pub use keys::note_off;
 pub use panel::ask_panel;
 pub use quiet::fresh;
+pub use rendering::render;
 use voice::Channel;
 use voice::Voice;
 
