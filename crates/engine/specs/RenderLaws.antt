@@ -1,14 +1,14 @@
 -- Laws of render: a free slot is skipped, what all slots add to the sums, and the output made of the sums.
-use Prim.Native.Nat.{ℕ, zero, suc, _+_, _*_, _≤_, _<_}
+use Prim.Native.Nat.{ℕ, zero, suc, _+_, _*_, _%_, _≤_, _<_}
 use mathlib.Core.Path.{_≡_, refl, sym, ap, ap₂, _∙_, subst}
 use mathlib.Core.Bool.{Bool, true, false, cond, _&&_, _||_}
 use mathlib.Core.List.{List, [], _∷_, _++_}
 use mathlib.Core.Logic.{_⊎_, ⊎-elim, inl, inr}
-use native.Mathlib.Nat.{zero-add, not-suc-le-zero}
+use native.Mathlib.Nat.{zero-add, not-suc-le-zero, suc-ne-zero}
 use native.Mathlib.Numerals.{add-one}
 use native.Mathlib.Omega.{arith}
 use borrow.Author.Tests.{ltb-true, ltb-false}
-use lib.Dec.{ltb, lit≤}
+use lib.Dec.{leb, ltb, lit≤}
 use lib.Ieee.{Float}
 use lib.IntN.{ℤ, pos, _+ℤ_, +ℤ-assoc, +ℤ-idl, +ℤ-idr}
 use lib.ListN.{length, getD, take, replicate, length-append, List·getD-append}
@@ -29,12 +29,31 @@ use Rattle.voice.specs.Sums.{addTo, addTo-none, addTo-length, addTo-small, Smal
 use Rattle.engine.specs.declared.Engine.{Engine}
 use Rattle.engine.specs.State.{slotsOf, channelAt}
 use Rattle.engine.specs.NoteOn.{endsPast}
-use Rattle.engine.specs.Render.{window, lacking, slotAfter, slotLeft, slotRight, leftSum, rightSum, mixed, output}
+use Rattle.engine.specs.Render.{distance, window, lacking, renderNumber, slotAfter, slotLeft, slotRight, leftSum, rightSum, mixed, output}
 
 -- the window is the part that the voice names of its memory
 pub window-part : (ram rom : List ℤ) (v : Voice) → window ram rom v ≡ partOf (cond (v .rom) rom ram) (v .start) (v .end)
 unfolding window
 window-part ram rom v = refl
+
+-- a render that is not refused is short enough, and has room
+pub zero-low : (to : ℕ) (ram rom : List ℤ) (room : ℕ) (e : Engine) → renderNumber to ram rom room e ≡ 0
+    → (distance e to ≤ 4096) × (2 * distance e to ≤ room)
+unfolding renderNumber
+zero-low to ram rom room e h = by (leb 2147483648 (distance e to)) (ltb 4096 (distance e to)) refl (ltb room (2 * distance e to)) refl h
+  where
+    by : (a b : Bool) → ltb 4096 (distance e to) ≡ b → (c : Bool) → ltb room (2 * distance e to) ≡ c
+        → _≡_ {A = ℕ} (cond a 5 (cond b 6 (cond c 7 (cond (lacking ram rom (slotsOf e)) 8 0)))) 0
+        → (distance e to ≤ 4096) × (2 * distance e to ≤ room)
+    by true b p c q h = absurd (suc-ne-zero 4 h)
+    by false true p c q h = absurd (suc-ne-zero 5 h)
+    by false false p true q h = absurd (suc-ne-zero 6 h)
+    by false false p false q h = (ltb-false 4096 (distance e to) p, ltb-false room (2 * distance e to) q)
+
+-- the clock moved by the distance is the asked value
+pub clock-there : (e : Engine) (to n t : ℕ) → e .clock < 4294967296 → to < 4294967296 → n ≡ distance e to → t ≡ (e .clock + n) % 4294967296 → t ≡ to
+unfolding distance
+clock-there e to n t h g p q = omega arith
 
 or-none : (a : Bool) → (a || false) ≡ a
 or-none true = refl
@@ -199,15 +218,15 @@ output-mixed ram rom e m ys g z zero h = refl
 output-mixed ram rom e m ys g z (suc n) h =
     let f = slotHeard ram rom e m in
     let left : getD (addAll f (slotsOf e) ys) (2 * n) (pos 0) ≡ leftSum ram rom e n =
-      add-at f (slotLeft ram rom e n) (2 * n)
-      (λ s. omega (arith, long-heard (channelAt e (s .voice .channel)) (window ram rom (s .voice)) s m))
-      (λ s. heard-left (channelAt e (s .voice .channel)) (window ram rom (s .voice)) s m n (omega arith)) (slotsOf e) ys (omega arith)
-      ∙ ap (λ (q : ℤ). q +ℤ leftSum ram rom e n) (z (2 * n)) ∙ +ℤ-idl (leftSum ram rom e n) in
+    add-at f (slotLeft ram rom e n) (2 * n)
+    (λ s. omega (arith, long-heard (channelAt e (s .voice .channel)) (window ram rom (s .voice)) s m))
+    (λ s. heard-left (channelAt e (s .voice .channel)) (window ram rom (s .voice)) s m n (omega arith)) (slotsOf e) ys (omega arith)
+    ∙ ap (λ (q : ℤ). q +ℤ leftSum ram rom e n) (z (2 * n)) ∙ +ℤ-idl (leftSum ram rom e n) in
     let right : getD (addAll f (slotsOf e) ys) (2 * n + 1) (pos 0) ≡ rightSum ram rom e n =
-      add-at f (slotRight ram rom e n) (2 * n + 1)
-      (λ s. omega (arith, long-heard (channelAt e (s .voice .channel)) (window ram rom (s .voice)) s m))
-      (λ s. heard-right (channelAt e (s .voice .channel)) (window ram rom (s .voice)) s m n (omega arith)) (slotsOf e) ys (omega arith)
-      ∙ ap (λ (q : ℤ). q +ℤ rightSum ram rom e n) (z (2 * n + 1)) ∙ +ℤ-idl (rightSum ram rom e n) in
+    add-at f (slotRight ram rom e n) (2 * n + 1)
+    (λ s. omega (arith, long-heard (channelAt e (s .voice .channel)) (window ram rom (s .voice)) s m))
+    (λ s. heard-right (channelAt e (s .voice .channel)) (window ram rom (s .voice)) s m n (omega arith)) (slotsOf e) ys (omega arith)
+    ∙ ap (λ (q : ℤ). q +ℤ rightSum ram rom e n) (z (2 * n + 1)) ∙ +ℤ-idl (rightSum ram rom e n) in
     ap₂ (λ (p q : List Float). p ++ q) (output-mixed ram rom e m ys g z n (omega arith))
     (ap₂ (λ (a b : ℤ). mixed a ∷ mixed b ∷ []) left right)
 

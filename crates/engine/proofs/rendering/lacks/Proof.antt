@@ -30,11 +30,10 @@ abbrev μ-loop : tie.MeasureT-loop
 
 loop-holds : tie.Need-loop-holds Inv-loop μ-loop
 loop-holds c =
-    let a = c .args in
-    (
+    let a = c .args in (
       paired-length (a .e .sounding) (a .e .voices) ∙ simp length-map at (c .good .0 .1 .1 .0 .1 .0 .1),
       sym (lack-none (a .ram .now) (a .rom .now) (slotsOf (a .e))),
-      omega arith
+      omega arith,
     )
 
 slot-of-requires : tie.Need-slot-of-requires Inv-loop μ-loop
@@ -52,13 +51,12 @@ loop-less c = search needs
 loop-again : tie.Need-loop-again Inv-loop μ-loop
 loop-again c =
     let l = c .before .before .before in
-    let a = l .before .args in
-    (
+    let a = l .before .args in (
       l .loop .inv .0,
       c .or-lacks .ensures
-      ∙ ap₂ (λ (b : Bool) (s : Slot). b || s .sounding && endsPast (a .ram .now) (a .rom .now) (s .voice)) (l .loop .inv .1) (c .before .slot-of .ensures)
-      ∙ sym (lack-turn (a .ram .now) (a .rom .now) (slotsOf (a .e)) (l .loop .i) (omega (arith, l .loop .inv .0))),
-      omega arith
+          ∙ ap₂ (λ (b : Bool) (s : Slot). b || s .sounding && endsPast (a .ram .now) (a .rom .now) (s .voice)) (l .loop .inv .1) (c .before .slot-of .ensures)
+          ∙ sym (lack-turn (a .ram .now) (a .rom .now) (slotsOf (a .e)) (l .loop .i) (omega (arith, l .loop .inv .0))),
+      omega arith,
     )
 
 returns : tie.Need-returns Inv-loop μ-loop

@@ -48,12 +48,11 @@ loop-again c =
     let l = c .before .before in
     let a = l .before .before .args in
     let xs = map asSlot (a .order) in
-    let n : length (renewed (a .i) xs) ≡ 32 = renewed-length (a .i) xs (simp length-map (l .loop .inv .0)) in
-    (
+    let n : length (renewed (a .i) xs) ≡ 32 = renewed-length (a .i) xs (simp length-map (l .loop .inv .0)) in (
       l .loop .inv .0,
       simp length-set (l .loop .inv .1),
       fill-turn (l .loop .out) (renewed (a .i) xs) (l .loop .k) (c .shifted .result) (omega (arith, l .loop .inv .1)) (omega arith) (l .loop .inv .2) (c .shifted .ensures),
-      omega arith
+      omega arith,
     )
 
 returns : tie.Need-returns Inv-loop μ-loop

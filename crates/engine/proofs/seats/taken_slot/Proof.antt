@@ -51,12 +51,11 @@ loop-again c =
     let a = l .before .before .args in
     let f = claim (a .e) (a .mine) in
     let xs = orderOf (a .e) in
-    let two = ap₂ (λ (x b : ℕ). cond (ltb (f x) (f b)) x b) (c .before .aged2 .ensures .0) (l .loop .inv .1) in
-    (
+    let two = ap₂ (λ (x b : ℕ). cond (ltb (f x) (f b)) x b) (c .before .aged2 .ensures .0) (l .loop .inv .1) in (
       l .loop .inv .0,
       c .sooner .ensures .0 ∙ two ∙ sym (least-turn f (l .before .aged .result) xs (l .loop .k) (omega (arith, l .loop .inv .0))),
       c .sooner .ensures .1,
-      omega arith
+      omega arith,
     )
 
 returns : tie.Need-returns Inv-loop μ-loop
@@ -65,12 +64,11 @@ returns c =
     let l = c .before in
     let a = l .before .before .args in
     let f = claim (a .e) (a .mine) in
-    let xs = orderOf (a .e) in
-    (
+    let xs = orderOf (a .e) in (
       l .loop .inv .1
-      ∙ ap (λ (ys : List ℕ). leastBy f (l .before .aged .result) ys) (take-all (l .loop .k) xs (omega (arith, l .loop .inv .0)))
-      ∙ ap (λ (b : ℕ). leastBy f b xs) (l .before .aged .ensures .0),
-      l .loop .inv .2
+          ∙ ap (λ (ys : List ℕ). leastBy f (l .before .aged .result) ys) (take-all (l .loop .k) xs (omega (arith, l .loop .inv .0)))
+          ∙ ap (λ (b : ℕ). leastBy f b xs) (l .before .aged .ensures .0),
+      l .loop .inv .2,
     )
 
 pub taken-slot-spec : {M : Type 1} → statement M

@@ -42,13 +42,12 @@ loop-less c = search needs
 loop-again : tie.Need-loop-again Inv-loop μ-loop
 loop-again c =
     let l = c .before .before .before in
-    let a = l .before .args in
-    (
+    let a = l .before .args in (
       l .loop .inv .0,
       c .or-class .ensures ∙ ap (λ (b : Bool). b || sameClass (a .class) (getD (a .t2) (l .loop .i) blank)) (l .loop .inv .1)
-      ∙ sym (class-turn (a .class) (a .t2) (l .loop .i) (omega (arith, l .loop .inv .0))),
+          ∙ sym (class-turn (a .class) (a .t2) (l .loop .i) (omega (arith, l .loop .inv .0))),
       omega arith,
-      omega arith
+      omega arith,
     )
 
 returns : tie.Need-returns Inv-loop μ-loop

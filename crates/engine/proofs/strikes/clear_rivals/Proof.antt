@@ -42,11 +42,10 @@ turn c =
 loop-holds : tie.Need-loop-holds Inv-loop μ-loop
 loop-holds c =
     let a = c .args in
-    let e = a .e in
-    (
+    let e = a .e in (
       paired-length (e .sounding) (e .voices) ∙ simp length-map at (c .good .0 .1 .1 .0 .1 .0 .1),
       sym (word-none (cut (rival (a .channel) (take (a .n) (a .voices)))) (slotsOf e)),
-      omega arith
+      omega arith,
     )
 
 slot-of-requires : tie.Need-slot-of-requires Inv-loop μ-loop

@@ -41,13 +41,12 @@ loop-less c = search needs
 loop-again : tie.Need-loop-again Inv-loop μ-loop
 loop-again c =
     let l = c .before .before .before in
-    let a = l .before .args in
-    (
+    let a = l .before .args in (
       l .loop .inv .0,
       c .start-one .ensures ∙ ap (start (getD (a .t2) (l .loop .i) blank)) (l .loop .inv .1)
-      ∙ sym (start-turn (a .t2) (l .loop .i) (begin (a .e)) (omega (arith, l .loop .inv .0))),
+          ∙ sym (start-turn (a .t2) (l .loop .i) (begin (a .e)) (omega (arith, l .loop .inv .0))),
       omega arith,
-      omega arith
+      omega arith,
     )
 
 returns : tie.Need-returns Inv-loop μ-loop

@@ -99,16 +99,15 @@ loop-again c =
     let two : toZ w32 (ofZ w32 y) ≡ y = toZ-ofZ {w = w32} {z = y} (record { sfits = c .before .r .given }) in
     let left : c .mix .result .left ≡ mixed x = c .mix .ensures .0 ∙ ap mixed one in
     let right : c .mix .result .right ≡ mixed y = c .mix .ensures .1 ∙ ap mixed two in
-    let next : 2 * k + 2 ≡ 2 * (k + 1) = omega arith in
-    (
+    let next : 2 * k + 2 ≡ 2 * (k + 1) = omega arith in (
       ap (λ (o : List Float). set (set o (2 * k) (c .mix .result .left)) (2 * k + 1) (c .mix .result .right)) (l .loop .inv .0)
-      ∙ ap₂ (λ (p q : Float). set (set (mixedTo k xs ++ drop (2 * k) (a .out .now)) (2 * k) p) (2 * k + 1) q) left right
-      ∙ put2 (mixedTo k xs) (a .out .now) (2 * k) (mixed x) (mixed y) (mixed x) (mixed-length k xs) (omega (arith, l .loop .inv .4))
-      ∙ ap₂ (λ (p : List Float) (j : ℕ). p ++ drop j (a .out .now)) (sym (mixed-turn k xs)) next,
+          ∙ ap₂ (λ (p q : Float). set (set (mixedTo k xs ++ drop (2 * k) (a .out .now)) (2 * k) p) (2 * k + 1) q) left right
+          ∙ put2 (mixedTo k xs) (a .out .now) (2 * k) (mixed x) (mixed y) (mixed x) (mixed-length k xs) (omega (arith, l .loop .inv .4))
+          ∙ ap₂ (λ (p : List Float) (j : ℕ). p ++ drop j (a .out .now)) (sym (mixed-turn k xs)) next,
       simp length-set (l .loop .inv .1),
       omega arith,
       omega arith,
-      omega arith
+      omega arith,
     )
 
 same-length : tie.Need-same-length Inv-loop μ-loop

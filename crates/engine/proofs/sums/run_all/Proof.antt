@@ -60,8 +60,7 @@ loop-holds : tie.Need-loop-holds Inv-loop μ-loop
 loop-holds c =
     let a = c .args in
     let e = a .e in
-    let f = slotAfter (a .ram .now) (a .rom .now) e (a .n) in
-    (
+    let f = slotAfter (a .ram .now) (a .rom .now) e (a .n) in (
       paired-length (e .sounding) (e .voices) ∙ simp length-map at (c .good .0 .1 .1 .0 .1 .0 .1),
       store-none f e,
       sym (word-none f (slotsOf e)),
@@ -69,7 +68,7 @@ loop-holds c =
       c .pre .3,
       refl,
       c .pre .2,
-      omega arith
+      omega arith,
     )
 
 slot-of-requires : tie.Need-slot-of-requires Inv-loop μ-loop
@@ -113,19 +112,18 @@ loop-again c =
     let h = slotHeard (a .ram .now) (a .rom .now) e (a .n) in
     let r = c .before .before .before in
     let s = r .before .before .slot-of .result in
-    let sum = r .run-slot .ensures .1 in
-    (
+    let sum = r .run-slot .ensures .1 in (
       l .loop .inv .0,
       store-turn (slotAfter (a .ram .now) (a .rom .now) e (a .n)) (slotsOf e) e (l .loop .x) (l .loop .i) (r .run-slot .result) (omega arith) (l .loop .inv .1) (one c),
       turn c,
       sum
-      ∙ ap (λ (z : Slot). addTo (h z) (l .loop .acc)) (r .before .before .slot-of .ensures)
-      ∙ ap (addTo (h (getD (slotsOf e) (l .loop .i) (free blank)))) (l .loop .inv .3)
-      ∙ sym (add-turn h (slotsOf e) (l .loop .i) (a .acc .now) (omega (arith, l .loop .inv .0))),
+          ∙ ap (λ (z : Slot). addTo (h z) (l .loop .acc)) (r .before .before .slot-of .ensures)
+          ∙ ap (addTo (h (getD (slotsOf e) (l .loop .i) (free blank)))) (l .loop .inv .3)
+          ∙ sym (add-turn h (slotsOf e) (l .loop .i) (a .acc .now) (omega (arith, l .loop .inv .0))),
       (λ j. rw sum (addTo-small (h s) (l .loop .acc) (l .loop .i) (r .run-slot .ensures .2) (l .loop .inv .4) j)),
       ap length sum ∙ addTo-length (h s) (l .loop .acc) ∙ l .loop .inv .5,
       l .loop .inv .6,
-      omega arith
+      omega arith,
     )
 
 with-word-requires : tie.Need-with-word-requires Inv-loop μ-loop
@@ -142,10 +140,9 @@ returns c =
     let e = a .e in
     let f = slotAfter (a .ram .now) (a .rom .now) e (a .n) in
     let h = slotHeard (a .ram .now) (a .rom .now) e (a .n) in
-    let i : l .loop .i ≡ 32 = omega arith in
-    (
+    let i : l .loop .i ≡ 32 = omega arith in (
       c .with-word .ensures ∙ store-all f e (l .loop .x) (l .loop .word) (l .loop .i) (l .loop .inv .0) i (l .loop .inv .1) (l .loop .inv .2),
-      l .loop .inv .3 ∙ ap (λ (ss : List Slot). addAll h ss (a .acc .now)) (take-all (l .loop .i) (slotsOf e) (omega (arith, l .loop .inv .0)))
+      l .loop .inv .3 ∙ ap (λ (ss : List Slot). addAll h ss (a .acc .now)) (take-all (l .loop .i) (slotsOf e) (omega (arith, l .loop .inv .0))),
     )
 
 pub run-all-spec : {M : Type 1} → statement M

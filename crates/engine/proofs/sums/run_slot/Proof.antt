@@ -49,11 +49,10 @@ returns-2 c =
     let s = a .s in
     let ch = d .before .channel-of .ensures in
     let w = d .window-of .ensures ∙ sym (window-part (a .ram .now) (a .rom .now) (s .voice)) in
-    let hd = ap₂ (λ (x : Channel) (y : List ℤ). heard x y (a .n) s) ch w in
-    (
+    let hd = ap₂ (λ (x : Channel) (y : List ℤ). heard x y (a .n) s) ch w in (
       r .run .ensures .0 ∙ ap₂ (λ (x : Channel) (y : List ℤ). after x y (a .n) s) ch w,
       r .run .ensures .1 ∙ ap (λ (xs : List ℤ). addTo xs (a .acc .now)) hd,
-      subst (Small 1) hd (r .run .ensures .2)
+      subst (Small 1) hd (r .run .ensures .2),
     )
 
 pub run-slot-spec : {M : Type 1} → statement M
