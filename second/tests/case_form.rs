@@ -132,6 +132,33 @@ fn what_there_is_room_for() {
     }
 }
 
+/// Strikes: 44,100·2^(-10) = 43 frames for the default times, 119 cB for velocity 64, a semitone up.
+#[test]
+fn lines_of_strikes() {
+    let mut plan = one_zone(&[(17, -20), (54, 2), (57, -1)], sample(2, 9));
+    let gens = quick(&[(37, 400), (38, 0), (54, 7), (48, 30)]);
+    plan.instruments[0].push(zone_to(&gens, 53, 0));
+    plan.strike_plan(1, &[], vec![zone_to(&[], 53, 0); 33]);
+    let mut s = Script::default();
+    s.title("strikes");
+    s.bank(&plan.bytes());
+    for program in 0..3 {
+        s.strike(program, 0, 61, 64);
+    }
+    s.admission();
+    let mut lines = Vec::new();
+    second::strike::play(s.bytes.as_slice(), &mut lines).expect("memory can be written");
+    let expected = "t strikes
+k 2
+v 43 43 43 43 43 0 -20 -1 119 100 44100 0 0 2 9 0 0
+v 0 0 0 0 44100 400 0 0 149 100 44100 3 0 2 9 0 7
+k 33
+k none
+bad
+";
+    assert_eq!(String::from_utf8_lossy(&lines), expected);
+}
+
 #[test]
 fn the_maker_writes_the_same_bytes_each_time() {
     let cases = second::make::all_cases();

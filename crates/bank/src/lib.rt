@@ -2,14 +2,16 @@
 ghost use mathlib.Core.Path.{_≡_};
 ghost use Prim.Native.Nat.{_-_, _<_};
 ghost use Rattle.records.specs.Search.{orElse};
-ghost use Rattle.bank.specs.Admission.{faultOf};
+ghost use Rattle.bank.specs.Admission.{faultOf, numberOf, admitted};
 
 mod chunks;
 mod indexes;
+mod listing;
 mod numbers;
 mod rates;
 mod windows;
 
+pub use listing::listed_at;
 use records::Found;
 
 // What is wrong with a bank, with the byte place, in the order in which it is tested.
@@ -83,4 +85,33 @@ pub fn admission(b: &[u8]) -> Fault
             }
         },
     }
+}
+
+// 01's number for what was found.
+pub fn number_of(f: Fault) -> u8
+    ensures { λ r. ⌜ r ≡ numberOf f ⌝ }
+{
+    match f {
+        Fault::Fine => 0,
+        Fault::Long(_) => 1,
+        Fault::Chunk(_) => 1,
+        Fault::Records(_) => 1,
+        Fault::Index(_) => 1,
+        Fault::Number(_) => 1,
+        Fault::Rate(_) => 1,
+        Fault::Window(_) => 1,
+    }
+}
+
+// 0 where the bank is admitted, else 1.
+pub fn admission_number(b: &[u8]) -> u8
+    ensures { λ r. ⌜ r ≡ numberOf (faultOf (now (b .entry))) ⌝ }
+{
+    number_of(admission(b))
+}
+
+pub fn admitted(b: &[u8]) -> bool
+    ensures { λ r. ⌜ r ≡ admitted (now (b .entry)) ⌝ }
+{
+    admission_number(b) == 0
 }

@@ -4,11 +4,16 @@ ghost use lib.IntN.{natAbs};
 use libc::STDOUT_FILENO;
 
 // Writes out what stands in the room.
-pub fn flush(room: &[u8], at: usize) {
-    if at < room.len() {
-        io::write_all(STDOUT_FILENO, &room[..at]);
+pub fn flush(room: &[u8; 65536], at: usize) {
+    write_out(room, at);
+}
+
+// The first n bytes, at most all of them.
+fn write_out(all: &[u8], n: usize) {
+    if n < all.len() {
+        io::write_all(STDOUT_FILENO, &all[..n]);
     } else {
-        io::write_all(STDOUT_FILENO, room);
+        io::write_all(STDOUT_FILENO, all);
     }
 }
 

@@ -11,4 +11,7 @@ pub mod Demand1Proof
 pub mod Demand2Proof
 pub mod Demand3Proof
 pub mod Banks
+pub mod Frames
+pub mod Voices
+pub mod NightProof
 pub mod Runs

@@ -3,7 +3,7 @@ ghost use mathlib.Core.Path.{_≡_};
 ghost use Prim.Native.Nat.{_+_, _≤_};
 ghost use mir.Syntax.{w8};
 ghost use mir.Val.{toZ};
-ghost use Rattle.records.specs.Bytes.{u8At, i8At};
+ghost use Rattle.records.specs.Bytes.{u8At, u32At, i8At};
 ghost use Rattle.records.specs.Sides.{sampleAt, programOf, bankOf};
 ghost use Rattle.records.specs.Window.{rateOf, romOf};
 use crate::Parts;
@@ -17,6 +17,13 @@ fn field_at(m: Parts, k: u32, offset: u8) -> usize
     ensures { λ r. ⌜ (r ≡ sampleAt m k + offset) × (r ≤ 2199023255552) ⌝ }
 {
     (m.samples as usize) + 46 * (k as usize) + (offset as usize)
+}
+
+// The place (start, end, loop start or loop end) at an offset of the header of sample k.
+pub fn place_of(b: &[u8], m: Parts, k: u32, offset: u8) -> u32
+    ensures { λ r. ⌜ r ≡ u32At (now (b .entry)) (sampleAt m k + offset) ⌝ }
+{
+    u32_at(b, field_at(m, k, offset))
 }
 
 pub fn rate_of(b: &[u8], m: Parts, k: u32) -> u32

@@ -24,6 +24,7 @@ pub use amounts::operator;
 pub use amounts::poured;
 pub use headers::bank_of;
 pub use headers::correction_of;
+pub use headers::place_of;
 pub use headers::program_of;
 pub use headers::rate_of;
 pub use headers::rom_of;

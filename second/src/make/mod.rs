@@ -11,7 +11,8 @@
 //! - global, ignored and repeated zones and generators: layer_cases::zone_kinds; ranges in every place:
 //!   layer_cases::ranges_in_places, range_edges, local_and_global_ranges
 //! - preset values added: value_cases::adding; instruments only: instruments_only; held totals: held_totals, key_times
-//!   (39 and 40); times and pitch at their limits: times, long_times, pitch_limits; attenuation: attenuation
+//!   (39 and 40); times and pitch at their limits: times, long_times, longest_delay_and_hold, pitch_limits; attenuation:
+//!   attenuation, attenuation_and_envelope; 46 and 47: fixed_key_and_velocity, struck_or_fixed
 //! - taking by released, velocity, age, with more layers than released voices: key_cases (taking_..); classes across
 //!   channels: classes, full_with_classes, class_refusals
 //! - pedal, 64 crossing, 123 and 120 with the pedal down: key_cases (pedal, pedal_crossing, all_notes_off, all_sound_off)
@@ -24,6 +25,7 @@
 //! - the October night: key_cases::october_night, october_night_full
 //! - banks and runs from fixed seeds, damaged banks: chance_cases
 //! - damaged case files: bad_cases
+//! - the numbers of each layer's voice: strike_cases; values of the tables: number_lines
 
 mod admission;
 mod bad_cases;

@@ -13,7 +13,9 @@ pub fn write(s: &mut Script) {
     key_times(s);
     pitch(s);
     attenuation(s);
+    attenuation_and_envelope(s);
     fixed_key_and_velocity(s);
+    struck_or_fixed(s);
 }
 
 /// Program p of the plan: struck at a key and velocity, rendered, and silenced.
@@ -355,7 +357,58 @@ fn attenuation(s: &mut Script) {
     }
 }
 
-/// 46 and 47 at and past their ranges; the struck key and velocity stay in ranges, note-off and taking.
+/// The envelope is added before the whole is held to at least 0: a negative total takes from it.
+fn attenuation_and_envelope(s: &mut Script) {
+    let mut plan = empty_plan();
+    for own in [-100, -299, -300, -301, -1_500] {
+        add_four(&mut plan, [&[(54, 1), (36, -12_000), (37, 300), (48, own)], &[], &[], &[]]);
+    }
+    s.begin_plan("attenuation and envelope", &plan, &noise(40, 52));
+    for velocity in [127, 64] {
+        strike_all(s, &plan, 60, velocity, &[5, 5, 5]);
+    }
+    for program in 0..plan.presets.len() as u8 {
+        s.program(0, program);
+        s.on(0, 60, 127);
+        s.go(30);
+        s.off(0, 60);
+        s.go(10);
+        s.go(40);
+    }
+}
+
+/// With 46 and 47 fixed, ranges and note-off still go by the struck key and velocity, and so does taking.
+fn struck_or_fixed(s: &mut Script) {
+    let mut plan = empty_plan();
+    let fixed = [(46, 90), (47, 120), (54, 1)];
+    let at_struck: [&[Gen]; 4] = [&[(43, 0x3c3c)], &[(44, 0x3232)], &[(43, 0x5a5a)], &[(44, 0x7878)]];
+    for range in at_struck {
+        let gens = quick(&fixed);
+        plan.strike_plan(plan.presets.len() as u16, &[], vec![zone_to(&[range, &gens].concat(), 53, 0)]);
+    }
+    plan.strike_plan(4, &[], vec![zone_to(&quick(&[(46, 90), (47, 1), (54, 1), (35, 5_000)]), 53, 0)]);
+    plan.strike_plan(5, &[], vec![zone_to(&quick(&[(54, 1), (35, 5_000)]), 53, 0)]);
+    s.begin_plan("struck or fixed key and velocity", &plan, &noise(40, 53));
+    for program in 0..4 {
+        s.program(0, program);
+        s.on(0, 60, 50);
+        s.on(0, 90, 120);
+        s.off(0, 90);
+        s.off(0, 60);
+        s.silence(0);
+    }
+    for key in 0..32 {
+        s.need_program(0, if key < 16 { 4 } else { 5 });
+        s.on(0, key, if key < 16 { 100 } else { 50 });
+    }
+    s.go(1);
+    for key in 60..64 {
+        s.on(0, key, 80);
+        s.go(1);
+    }
+}
+
+/// 46 and 47 at and past their ranges; a note-off goes by the struck key.
 fn fixed_key_and_velocity(s: &mut Script) {
     let mut plan = empty_plan();
     for fixed in [-32_768, -1, 0, 1, 60, 126, 127, 128, 32_767] {

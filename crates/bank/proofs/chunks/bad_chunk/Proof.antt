@@ -1,32 +1,24 @@
+-- `bank::chunks::bad_chunk` meets its contract.
 use Rattle.records.specs.Chunks.{names, nameAt}
 use Rattle.bank.specs.Admission.{badChunk}
 use lib.ListN.{getD, length}
 use lib.Dec.{eqb, ltb}
 use mathlib.Core.Bool.{true, false}
 use borrow.Author.Tests.{ne-eqb, eq-eqb}
-use mathlib.Core.Path.{_≡_, refl, sym, ap, _∙_}
+use mathlib.Core.Path.{_≡_, ap}
 use borrow.Author.Needs.{needs}
 use Rattle.bank.proofs.chunks.bad_chunk.Statement.{statement}
 use Rattle.bank.proofs.chunks.bad_chunk.Tie as tie
-use Rattle.bank.proofs.chunks.bad_chunk.Reads as reads
-use Rattle.bank.proofs.chunks.bad_chunk.Lts as lts
-use Rattle.records.proofs.chunk_at.Reads as chunk-at-reads
-use Rattle.bank.proofs.chunks.name.Reads as name-reads
-use Rattle.records.proofs.u32_at.Reads as u32-at-reads
 
--- src/lib.rt:419:18
 chunk-at-requires : tie.Need-chunk-at-requires
 chunk-at-requires c κs = search needs
 
--- src/lib.rt:419:8
 u32-at-requires : tie.Need-u32-at-requires
 u32-at-requires c κs = search needs
 
--- src/lib.rt:419:37
 name-requires : tie.Need-name-requires
 name-requires c κs = search needs
 
--- src/lib.rt:420:9
 returns : tie.Need-returns
 unfolding badChunk nameAt
 returns c =
@@ -35,15 +27,12 @@ returns c =
     let f : eqb (nameAt (a .b .now) (a .k)) (getD names (a .k) 0) ≡ false = cc in
     simp f
 
--- src/lib.rt:422:27
 add-chunk-at : tie.Need-add-chunk-at
 add-chunk-at c = search needs
 
--- src/lib.rt:422:15
 chunk-at-requires-2 : tie.Need-chunk-at-requires-2
 chunk-at-requires-2 c κs = search needs
 
--- src/lib.rt:415:1
 returns-2 : tie.Need-returns-2
 unfolding badChunk nameAt
 returns-2 c =

@@ -1,3 +1,4 @@
+-- `bank::chunks::bad_records` meets its contract.
 use Rattle.records.specs.Chunks.{sizes, bytesIn}
 use Rattle.bank.specs.Admission.{badRecords}
 use lib.ListN.{getD}
@@ -9,35 +10,22 @@ use mathlib.Core.Path.{_≡_, ap₂}
 use borrow.Author.Needs.{needs}
 use Rattle.bank.proofs.chunks.bad_records.Statement.{statement}
 use Rattle.bank.proofs.chunks.bad_records.Tie as tie
-use Rattle.bank.proofs.chunks.bad_records.Reads as reads
-use Rattle.bank.proofs.chunks.bad_records.Lts as lts
-use Rattle.records.proofs.chunk_at.Reads as chunk-at-reads
-use Rattle.bank.proofs.chunks.least.Reads as least-reads
-use Rattle.records.proofs.records_in.Reads as records-in-reads
-use Rattle.records.proofs.size.Reads as size-reads
-use Rattle.records.proofs.u32_at.Reads as u32-at-reads
 
--- src/lib.rt:455:18
 chunk-at-requires : tie.Need-chunk-at-requires
 chunk-at-requires c κs = search needs
 
--- src/lib.rt:455:18
 add-u32-at : tie.Need-add-u32-at
 add-u32-at c = search needs
 
--- src/lib.rt:455:8
 u32-at-requires : tie.Need-u32-at-requires
 u32-at-requires c κs = search needs
 
--- src/lib.rt:455:40
 size-requires : tie.Need-size-requires
 size-requires c κs = search needs
 
--- src/lib.rt:455:8
 rem-if1 : tie.Need-rem-if1
 rem-if1 c = search needs
 
--- src/lib.rt:456:9
 returns : tie.Need-returns
 unfolding badRecords bytesIn
 returns c =
@@ -46,15 +34,12 @@ returns c =
     let f : eqb (bytesIn (a .b .now) (a .k) % getD sizes (a .k) 0) 0 ≡ false = cc in
     simp f
 
--- src/lib.rt:458:5
 records-in-requires : tie.Need-records-in-requires
 records-in-requires c κs = search needs
 
--- src/lib.rt:458:24
 least-requires : tie.Need-least-requires
 least-requires c κs = search needs
 
--- src/lib.rt:451:1
 returns-2 : tie.Need-returns-2
 unfolding badRecords bytesIn
 returns-2 c =

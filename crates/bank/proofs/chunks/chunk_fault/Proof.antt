@@ -1,20 +1,17 @@
+-- `bank::chunks::chunk_fault` meets its contract.
 use Rattle.records.specs.declared.Found.the-variants.{Nothing, At}
 use Rattle.records.specs.SearchLaws.{first-none, first-miss0, first-hit0}
 use Rattle.records.specs.Search.{first}
 use Rattle.records.specs.Chunks.{chunkAt}
 use Rattle.bank.specs.Admission.{badChunk, chunkFault}
 use lib.ListN.{length}
-use Prim.Native.Nat.{_-_, _≤_, _<_}
+use Prim.Native.Nat.{_-_, _≤_}
 use borrow.Author.Tests.{lt-ltb, le-ltb}
 use native.Mathlib.Omega.{arith}
-use mathlib.Core.Path.{_≡_, refl, sym, ap, _∙_}
+use mathlib.Core.Path.{_≡_, sym, ap, _∙_}
 use borrow.Author.Needs.{needs}
 use Rattle.bank.proofs.chunks.chunk_fault.Statement.{statement}
 use Rattle.bank.proofs.chunks.chunk_fault.Tie as tie
-use Rattle.bank.proofs.chunks.chunk_fault.Reads as reads
-use Rattle.bank.proofs.chunks.chunk_fault.Lts as lts
-use Rattle.bank.proofs.chunks.bad_chunk.Reads as bad-chunk-reads
-use Rattle.records.proofs.chunk_at.Reads as chunk-at-reads
 
 abbrev Inv-loop : tie.InvT-loop
 Inv-loop b k₀ k = (first (badChunk b) 0 k ≡ Nothing) × (k ≤ 9)
@@ -22,19 +19,15 @@ Inv-loop b k₀ k = (first (badChunk b) 0 k ≡ Nothing) × (k ≤ 9)
 abbrev μ-loop : tie.MeasureT-loop
 μ-loop b k₀ k = 9 - k
 
--- src/lib.rt:430:5
 loop-holds : tie.Need-loop-holds Inv-loop μ-loop
 loop-holds c = (first-none _ _, search needs)
 
--- src/lib.rt:431:12
 bad-chunk-requires : tie.Need-bad-chunk-requires Inv-loop μ-loop
 bad-chunk-requires c κs = search needs
 
--- src/lib.rt:432:30
 chunk-at-requires : tie.Need-chunk-at-requires Inv-loop μ-loop
 chunk-at-requires c κs = search needs
 
--- src/lib.rt:432:13
 returns : tie.Need-returns Inv-loop μ-loop
 unfolding chunkFault
 returns c =
@@ -43,26 +36,21 @@ returns c =
     let e = first-hit0 (badChunk b) (l .loop .k) 9 (l .loop .inv .0) (sym (c .before .before .bad-chunk .ensures) ∙ c .before .if1 .taken) (search needs) in
     simp e (ap At (c .chunk-at .ensures .0))
 
--- src/lib.rt:434:13
 add-k : tie.Need-add-k Inv-loop μ-loop
 add-k c = search needs
 
--- src/lib.rt:430:5
 loop-less : tie.Need-loop-less Inv-loop μ-loop
 loop-less c = search needs
 
--- src/lib.rt:430:5
 loop-again : tie.Need-loop-again Inv-loop μ-loop
 loop-again c =
     let l = c .before .before .before in
     let b = l .before .before .args .b .now in
     (first-miss0 (badChunk b) (l .loop .k) (l .loop .inv .0) (sym (c .before .bad-chunk .ensures) ∙ c .if1 .left), search needs)
 
--- src/lib.rt:436:9
 chunk-at-requires-2 : tie.Need-chunk-at-requires-2 Inv-loop μ-loop
 chunk-at-requires-2 c κs = search needs
 
--- src/lib.rt:438:9
 returns-2 : tie.Need-returns-2 Inv-loop μ-loop
 unfolding chunkFault
 returns-2 c =
@@ -73,7 +61,6 @@ returns-2 c =
     let t = lt-ltb (chunkAt b 9) (length b) (omega (arith, c .before .chunk-at2 .ensures .0)) in
     simp (e, t) (ap At (c .before .chunk-at2 .ensures .0))
 
--- src/lib.rt:426:1
 returns-3 : tie.Need-returns-3 Inv-loop μ-loop
 unfolding chunkFault
 returns-3 c =

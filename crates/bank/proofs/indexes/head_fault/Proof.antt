@@ -1,7 +1,8 @@
+-- `bank::indexes::head_fault` meets its contract.
 use borrow.Author.Needs.{needs}
-use mathlib.Core.Path.{_≡_, refl, sym, ap, _∙_}
+use mathlib.Core.Path.{_≡_, sym, ap, _∙_}
 use native.Mathlib.Omega.{arith}
-use Prim.Native.Nat.{ℕ, _+_, _-_, _≤_, _<_}
+use Prim.Native.Nat.{ℕ, _+_, _-_, _≤_}
 use Rattle.bank.specs.Admission.{badHead, headFault}
 use Rattle.records.specs.Search.{first, placed}
 use Rattle.records.specs.SearchLaws.{first-none, first-miss0, first-hit0}
@@ -9,10 +10,6 @@ use Rattle.records.specs.Sides.{headAt}
 use Rattle.records.specs.declared.Found.the-variants.{Nothing, At}
 use Rattle.bank.proofs.indexes.head_fault.Statement.{statement}
 use Rattle.bank.proofs.indexes.head_fault.Tie as tie
-use Rattle.bank.proofs.indexes.head_fault.Reads as reads
-use Rattle.bank.proofs.indexes.head_fault.Lts as lts
-use Rattle.bank.proofs.indexes.bad_head.Reads as bad-head-reads
-use Rattle.records.proofs.times.Reads as times-reads
 
 abbrev Inv-loop : tie.InvT-loop
 Inv-loop b s n h₀ h = (first (badHead b s) 0 h ≡ Nothing) × (h ≤ n)
@@ -20,31 +17,24 @@ Inv-loop b s n h₀ h = (first (badHead b s) 0 h ≡ Nothing) × (h ≤ n)
 abbrev μ-loop : tie.MeasureT-loop
 μ-loop b s n h₀ h = n - h
 
--- src/lib.rt:265:5
 loop-holds : tie.Need-loop-holds Inv-loop μ-loop
 loop-holds c = (first-none _ _, search needs)
 
--- src/lib.rt:266:12
 bad-head-requires : tie.Need-bad-head-requires Inv-loop μ-loop
 bad-head-requires c κs = search needs
 
--- src/lib.rt:267:31
 cast-t7 : tie.Need-cast-t7 Inv-loop μ-loop
 cast-t7 c = search needs
 
--- src/lib.rt:267:66
 cast-times : tie.Need-cast-times Inv-loop μ-loop
 cast-times c = search needs
 
--- src/lib.rt:267:51
 times-requires : tie.Need-times-requires Inv-loop μ-loop
 times-requires c κs = search needs
 
--- src/lib.rt:267:30
 add-t10 : tie.Need-add-t10 Inv-loop μ-loop
 add-t10 c = search needs
 
--- src/lib.rt:267:13
 returns : tie.Need-returns Inv-loop μ-loop
 unfolding headFault
 returns c =
@@ -54,22 +44,18 @@ returns c =
     ∙ ap (placed (headAt (a .s)))
     (sym (first-hit0 (badHead (a .b .now) (a .s)) (l .loop .h) (a .s .nheads) (l .loop .inv .0) (sym (c .before .before .before .bad-head .ensures) ∙ c .before .before .if1 .taken) (search needs)))
 
--- src/lib.rt:269:13
 add-h : tie.Need-add-h Inv-loop μ-loop
 add-h c = search needs
 
--- src/lib.rt:265:5
 loop-less : tie.Need-loop-less Inv-loop μ-loop
 loop-less c = search needs
 
--- src/lib.rt:265:5
 loop-again : tie.Need-loop-again Inv-loop μ-loop
 loop-again c =
     let l = c .before .before .before in
     let a = l .before .before .args in
     (first-miss0 (badHead (a .b .now) (a .s)) (l .loop .h) (l .loop .inv .0) (sym (c .before .bad-head .ensures) ∙ c .if1 .left), search needs)
 
--- src/lib.rt:260:1
 returns-2 : tie.Need-returns-2 Inv-loop μ-loop
 unfolding headFault
 returns-2 c =
