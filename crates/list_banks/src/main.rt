@@ -32,10 +32,24 @@ fn read_number() -> Number {
     Number::Cut
 }
 
-// All of a part's bytes from the input.
-fn read_all(part: &mut [u8]) -> bool {
-    let n = part.len();
-    io::read_full(IN, part) == n
+// n bytes from the input to the front of the room: whether there is room, and all of them came.
+fn read_front(room: &mut [u8], n: usize) -> bool {
+    if room.len() < n {
+        return false;
+    }
+    io::read_full(IN, &mut room[0..n]) == n
+}
+
+// The first n bytes of the room.
+fn front(room: &[u8], n: usize) -> &[u8] {
+    if room.len() < n {
+        return &room[0..0];
+    }
+    &room[0..n]
+}
+
+fn wide(x: u8) -> usize {
+    x as usize
 }
 
 fn write_number(n: u64) {
@@ -87,10 +101,7 @@ fn lend(room: &mut [u8]) -> Turn {
         return bad();
     };
     let length = n as usize;
-    if room.len() < length {
-        return bad();
-    }
-    if read_all(&mut room[..length]) {
+    if read_front(room, length) {
         return Turn::On(length);
     }
     bad()
@@ -102,11 +113,11 @@ fn name(length: usize) -> Turn {
     if io::read_full(IN, &mut one) == 0 {
         return bad();
     }
-    let n = one[0] as usize;
+    let n = wide(one[0]);
     let mut text = [0u8; 256];
-    if read_all(&mut text[..n]) {
+    if read_front(&mut text, n) {
         io::write_all(OUT, b"t ");
-        io::write_all(OUT, &text[..n]);
+        io::write_all(OUT, front(&text, n));
         io::write_all(OUT, b"\n");
         return Turn::On(length);
     }
@@ -130,20 +141,17 @@ fn play(room: &mut [u8], length: usize, letter: u8) -> Turn {
     if letter == b't' {
         return name(length);
     }
-    if room.len() < length {
-        return bad();
-    }
     if letter == b'a' {
-        admit(&room[..length]);
+        admit(front(room, length));
         return Turn::On(length);
     }
     if letter == b'l' {
-        return step(&room[..length], length);
+        return step(front(room, length), length);
     }
     bad()
 }
 
-fn turn(room: &mut [u8], length: usize) -> Turn {
+fn next(room: &mut [u8], length: usize) -> Turn {
     let mut one = [0u8; 1];
     if io::read_full(IN, &mut one) == 0 {
         return Turn::Stop;
@@ -156,7 +164,7 @@ fn play_all(room: &mut [u8]) {
     let mut length: usize = 0;
     let mut turns = u64::MAX;
     while 0 < turns {
-        let Turn::On(n) = turn(room, length) else {
+        let Turn::On(n) = next(room, length) else {
             return;
         };
         length = n;
