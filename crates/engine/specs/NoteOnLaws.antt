@@ -1,6 +1,6 @@
 -- Laws of note-on: its answer behind the test of ranges, by admission, preset and layers.
 use Prim.Native.Nat.{ℕ, _+_, _-_, _≤_, _<_}
-use mathlib.Core.Path.{_≡_, refl, sym, ap, _∙_}
+use mathlib.Core.Path.{_≡_, refl, sym, ap, ap₂, _∙_}
 use mathlib.Core.Bool.{Bool, true, false, cond, not}
 use mathlib.Core.List.{List, _++_}
 use native.Mathlib.Omega.{arith}
@@ -11,6 +11,7 @@ use lib.ListN.{length, take, replicate}
 use lib.Seq.{take-at}
 use Rattle.bank.specs.Admission.{admitted}
 use Rattle.layers.specs.Layers.{presetFor, isPreset}
+use Rattle.layers.specs.declared.Struck.{Struck}
 use Rattle.layers.specs.VoiceOf.{voicesOf, hasPreset, struckVoices, struckOf}
 use Rattle.records.specs.Sides.{partsOf}
 use Rattle.records.specs.Search.{isAt}
@@ -88,3 +89,16 @@ module _ (b : List ℕ) (ram rom : List ℤ) (channel key velocity : ℕ) (e : E
 pub few : (vs : List Voice) → length vs ≤ 32 → take (length vs) (struckOf vs .voices) ≡ vs
 unfolding struckOf
 few vs h = rw (le-leb (length vs) 32 h) (take-at vs (replicate (32 - length vs) blank) (length vs) refl)
+
+pub few-count : (s : Struck) (vs : List Voice) → s ≡ struckOf vs → s .count ≡ length vs
+unfolding struckOf
+few-count s vs e = ap (λ (x : Struck). x .count) e
+
+pub few-by : (s : Struck) (vs : List Voice) → s ≡ struckOf vs → s .count ≤ 32 → take (s .count) (s .voices) ≡ vs
+few-by s vs e h =
+    ap₂ (λ (n : ℕ) (l : List Voice). take n l) (few-count s vs e) (ap (λ (x : Struck). x .voices) e) ∙ few vs (omega (arith, few-count s vs e))
+
+-- the preset that was found is one of the heads
+pub preset-low : (b : List ℕ) (m : Parts) (bank program h : ℕ) → presetFor b m bank program ≡ At h → h < m .presets .nheads
+unfolding presetFor
+preset-low b m bank program h e = omega (arith, first-is (isPreset b m bank program) 0 (m .presets .nheads - 1) h e .high)

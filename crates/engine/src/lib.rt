@@ -13,16 +13,16 @@ mod striking; // striking.rt: note-on
 mod lending; // lending.rt: admission and listing of a lent bank
 mod controls; // controls.rt: control change
 
+pub use board::panel;
 pub use channels::pitch_bend;
 pub use channels::program_change;
 pub use controls::control_change;
 pub use keys::note_off;
-pub use board::panel;
+pub use lending::admit;
+pub use lending::list;
 pub use quiet::fresh;
 pub use rendering::render;
 pub use striking::note_on;
-pub use lending::admit;
-pub use lending::list;
 use voice::Channel;
 use voice::Voice;
 
