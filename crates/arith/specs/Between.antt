@@ -1,10 +1,8 @@
--- One channel's number: the reading between two samples, the gain, the pan.
+-- 01, "A voice, frame by frame": the reading between two samples.
 use Prim.Native.Nat.{ℕ}
 use lib.IntN.{ℤ, pos, _+ℤ_, _-ℤ_, _*ℤ_}
 use Rattle.arith.specs.Floor.{floorZ}
 
+-- x0 + floor((x1 - x0) * fraction / 2^24)
 abbrev pub readingOf : ℤ → ℤ → ℕ → ℤ
 readingOf x0 x1 f = x0 +ℤ floorZ ((x1 -ℤ x0) *ℤ pos f) 16777216
-
-abbrev pub leftOf : ℤ → ℤ → ℕ → ℕ → ℤ → ℤ
-leftOf x0 x1 f g p = floorZ (floorZ (readingOf x0 x1 f *ℤ pos g) 65536 *ℤ (pos 500 -ℤ p)) 1000

@@ -1,15 +1,12 @@
 -- Signed code by reflection: an expression over bounded variables, at one width. One test, `ok`, computes that no operation in it leaves the width.
 -- `fits` then answers what each operation asks, and `back` what the local holds: both at the goal as the borrow checker leaves it.
 use mathlib.Core.Path.{_≡_, refl, sym, ap₂, ap, _∙_, subst}
-use mathlib.Core.Bool.{Bool, true, false, _&&_}
-use mathlib.Core.List.{List, [], _∷_}
-use Prim.Native.Nat.{ℕ, zero, suc, _+_, _*_, _/_, _^_, _<_}
-use native.Mathlib.Nat.{le-refl}
-use native.Mathlib.Omega.{arith}
+use mathlib.Core.Bool.{Bool, _&&_}
+use mathlib.Core.List.{List}
+use Prim.Native.Nat.{ℕ, _+_, _*_, _/_, _^_, _<_}
 use lib.Dec.{T, ltb, ltb→lt}
 use lib.IntN.{ℤ, pos, natAbs, _+ℤ_, _-ℤ_, _*ℤ_}
 use lib.ListN.{getD}
-use lib.Pow.{pow-pos}
 use lib.Signed.{shrZ, quotZ}
 use lib.Ieee.Fits.{and-l, and-r}
 use mir.Facts.{toZ-ofZ}

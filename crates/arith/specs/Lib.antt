@@ -1,3 +1,4 @@
+-- Definitions (Floor, Between, Over, Word, and `bit` of Bit) and laws that the crates share.
 pub mod Floor
 pub mod Within
 pub mod Rounding
@@ -9,3 +10,5 @@ pub mod Clamp
 pub mod Bit
 pub mod Loops
 pub mod Put
+pub mod Word
+pub mod WordLaws

@@ -1,14 +1,14 @@
--- Two ways to compute `floorZ x d` where `/` rounds toward zero: by the sign, and by an offset.
+-- `floorZ x d` by an offset, where `/` rounds toward zero; and that it is the floor.
 use mathlib.Core.Path.{_≡_, refl, sym, ap, _∙_, subst}
-use mathlib.Core.Bool.{Bool, true, false, cond}
+use mathlib.Core.Bool.{Bool, cond}
 use Prim.Native.Nat.{ℕ, zero, suc, _+_, _-_, _*_, _/_, _%_, _≤_, _<_}
-use native.Mathlib.Nat.{div-lt-iff-lt-mul, add-mul-div-right, div-eq-of-lt-le, div-add-mod', mod-lt, suc-mul, add-mul, zero-mul, mul-pos, div-mul-le-self}
+use native.Mathlib.Nat.{div-lt-iff-lt-mul, add-mul-div-right, div-add-mod', mod-lt, suc-mul, add-mul, zero-mul, mul-pos, div-mul-le-self}
 use native.Mathlib.Omega.{arith}
 use lib.IntN.{ℤ, pos, negsuc, negℤ, natAbs, subℕ, _+ℤ_, _-ℤ_, _*ℤ_, +ℤ-negℤ-cancel}
-use lib.Signed.{ltZ, quotZ, nonNeg, _≤ℤ_, _<ℤ_}
+use lib.Signed.{ltZ, nonNeg, _≤ℤ_, _<ℤ_}
 use lib.Arith.{digits-div}
-use lib.Dec.{T, ltb, le→leb, lt→ltb}
-use borrow.Author.Tests.{ltb-true, ltb-false, le-ltb, lt-ltb}
+use lib.Dec.{T, le→leb, lt→ltb}
+use borrow.Author.Tests.{le-ltb, lt-ltb}
 use Rattle.arith.specs.Floor.{floorZ}
 use Rattle.arith.specs.Within.{Within}
 
@@ -18,25 +18,6 @@ sub-pos a b h = ap (λ (t : Bool). cond t (negsuc (b - suc a)) (pos (a - b))) (l
 
 pub sub-neg : (a b : ℕ) → a < b → subℕ a b ≡ negsuc (b - suc a)
 sub-neg a b h = ap (λ (t : Bool). cond t (negsuc (b - suc a)) (pos (a - b))) (lt-ltb a b h)
-
--- -1 - x is the number that a negative x counts down from -1
-flip : (a : ℕ) → negsuc 0 -ℤ negsuc a ≡ pos a
-flip a = sub-pos (suc a) 1 (omega arith) ∙ ap pos (omega arith)
-
-unflip : (q : ℕ) → negsuc 0 -ℤ pos q ≡ negsuc q
-unflip zero = refl
-unflip (suc q) = ap negsuc (omega arith)
-
-pub floor-below : (x : ℤ) (d : ℕ) → ltZ x (pos 0) ≡ true → negsuc 0 -ℤ quotZ (negsuc 0 -ℤ x) (pos d) ≡ floorZ x d
-floor-below (pos a) d t = absurd (no a (ltb-true a 0 t))
-  where
-    no : (a : ℕ) → a < 0 → ⊥
-    no a h = omega arith
-floor-below (negsuc a) d t = ap (λ (z : ℤ). negsuc 0 -ℤ quotZ z (pos d)) (flip a) ∙ unflip (a / d)
-
-pub floor-above : (x : ℤ) (d : ℕ) → ltZ x (pos 0) ≡ false → quotZ x (pos d) ≡ floorZ x d
-floor-above (pos a) d t = refl
-floor-above (negsuc a) d t = absurd (subst (λ (b : Bool). T b) t tt)
 
 -- K * d more, which is not below 0, divided, and K less
 pub bias-nonneg : (x : ℤ) (n : ℕ) → Within x n → T (nonNeg (x +ℤ pos n))

@@ -1,9 +1,9 @@
 -- A whole number as an `f32`, times 2 ^ -t: nothing is rounded, up to 2 ^ 24.
-use mathlib.Core.Path.{_≡_, refl, sym, ap, _∙_, subst}
+use mathlib.Core.Path.{_≡_, refl, sym, ap, _∙_}
 use mathlib.Core.Logic.{_⊎_, inl, inr}
 use mathlib.Core.Bool.{Bool, true, false}
-use Prim.Native.Nat.{ℕ, zero, suc, _+_, _-_, _*_, _^_, _≤_, _<_}
-use native.Mathlib.Nat.{mul-assoc, mul-one, mul-pos, lt-of-lt-of-le, eq-or-lt-of-le, le-trans, lt-of-le-of-lt}
+use Prim.Native.Nat.{ℕ, suc, _+_, _*_, _^_, _≤_, _<_}
+use native.Mathlib.Nat.{mul-assoc, mul-one, mul-pos, lt-of-lt-of-le, eq-or-lt-of-le, le-trans}
 use native.Mathlib.Omega.{arith}
 use lib.Dec.{T, lit<, lit≤, le→leb, lt→ltb}
 use lib.IntN.{ℤ, pos, negsuc, natAbs}
@@ -13,8 +13,9 @@ use lib.Ieee.Exact.{HasValue, round-exact}
 use lib.Ieee.Fits.{down-pos}
 use lib.Ieee.Back.{round-whole}
 use lib.Ieee.Scale.{round-same}
-use Rattle.arith.specs.Within.{Within}
-use Rattle.arith.specs.Over.{Over, isNeg, unitOf, levelOf}
+use Rattle.arith.specs.Within.{Within, w-le}
+use Rattle.arith.specs.Over.{Over, heldTo, isNeg, unitOf, levelOf}
+use Rattle.arith.specs.Clamp.{held-within}
 
 unlike-false : (s : Bool) → unlike s false ≡ s
 unlike-false true = refl
@@ -69,3 +70,7 @@ pub in-float : (k : ℤ) (n : ℕ) → Within k n → n ≤ 16777216 → T (inFl
 unfolding inFloat
 in-float (pos a) n h l = le→leb a 16777216 (le-trans (h .within) l)
 in-float (negsuc a) n h l = lt→ltb a 16777216 (le-trans (h .within) l)
+
+-- a sum of voices, held to -2^23..2^23, is output as exactly its 2^23rd part
+pub mixed-exact : (z : ℤ) → Over (unitOf (heldTo (negsuc 8388607) (pos 8388608) z)) (heldTo (negsuc 8388607) (pos 8388608) z) 8388608
+mixed-exact z = unit-exact (heldTo (negsuc 8388607) (pos 8388608) z) (w-le (held-within z 8388607) (lit≤ tt))

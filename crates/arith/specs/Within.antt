@@ -1,5 +1,5 @@
 -- `Within z n`: z is from -n to n. Laws that build such a bound along an expression, so that a need `SFits w z` is one line.
-use mathlib.Core.Path.{_≡_, refl, sym, ap, subst}
+use mathlib.Core.Path.{_≡_, refl}
 use mathlib.Core.Bool.{Bool, true, false, cond}
 use Prim.Native.Nat.{ℕ, zero, suc, _+_, _-_, _*_, _/_, _≤_, _<_, _^_, zero-le}
 use native.Mathlib.Nat.{le-suc, zero-lt-suc, div-zero, div-mul-le-self, le-div-iff-mul-le, le-refl, le-of-eq, le-trans, mul-le-mul, mul-comm, div-le-self, div-le-of-le-mul, div-lt-iff-lt-mul, lt-of-le-of-lt, le-of-lt}

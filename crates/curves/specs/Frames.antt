@@ -3,7 +3,7 @@ use mathlib.Core.Bool.{cond}
 use Prim.Native.Nat.{ℕ, _*_, _/_, _%_, _^_}
 use lib.IntN.{ℤ, pos, negsuc, _+ℤ_, natAbs}
 use lib.ListN.{getD}
-use lib.Signed.{ltZ, leZ}
+use lib.Signed.{leZ}
 use Rattle.arith.specs.Over.{heldTo}
 use Rattle.curves.specs.Octaves.{octaves}
 

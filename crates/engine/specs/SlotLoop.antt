@@ -7,9 +7,11 @@ use native.Mathlib.Nat.{pow-zero, pow-suc, not-suc-le-zero, le-of-suc-le-suc}
 use native.Mathlib.Numerals.{add-one}
 use native.Mathlib.Omega.{arith}
 use lib.Dec.{eqb}
-use lib.ListN.{length, getD, take, length-map}
+use lib.ListN.{length, getD, set, take, length-map}
 use lib.Seq.{take-suc, length-take-le}
+use lib.Pow.{pow-mono}
 use Rattle.arith.specs.Bit.{bit, bit-zero, bit-suc}
+use Rattle.arith.specs.Loops.{upto, upto-at, upto-all, step-set}
 use Rattle.voice.specs.declared.Voice.{Voice}
 use Rattle.voice.specs.declared.Slot.{Slot}
 use Rattle.voice.specs.State.{blank, free}
@@ -111,6 +113,51 @@ word-all f ss n h = ap wordOf (whole (map f ss) n (simp length-map h))
     whole (x ∷ xs) zero e = absurd (native.Mathlib.Nat.suc-ne-zero (length xs) e)
     whole (x ∷ xs) (suc n) e = ap (_∷_ x) (whole xs n (native.Mathlib.Nat.suc-inj e))
 
+-- the word that a turn leaves: it read t, and added b, its flag
+pub flag-turn : (f : Slot → Slot) (ss : List Slot) (i word b : ℕ) (t : Slot) → f (free blank) ≡ free blank → i < length ss
+    → word ≡ wordTo f i ss → t ≡ f (getD ss i (free blank)) → b ≡ cond (t .sounding) (2 ^ i) 0 → word + b ≡ wordTo f (i + 1) ss
+flag-turn f ss i word b t k h w e q =
+    ap (λ (x : ℕ). x + b) w
+    ∙ ap (_+_ (wordTo f i ss)) (q ∙ ap (λ (s : Slot). cond (s .sounding) (2 ^ i) 0) e)
+    ∙ sym (word-turn f ss i k h)
+
+-- it fits the word
+pub word-fits : (f : Slot → Slot) (ss : List Slot) (i : ℕ) → length ss ≡ 32 → i ≤ 32 → wordTo f i ss < 4294967296
+word-fits f ss i n h =
+    let p : 2 ^ i ≤ 2 ^ 32 = pow-mono {i = i} {j = 32} h in
+    omega (arith, word-to-lt f ss i (omega arith), p)
+
+-- the state with other records
+abbrev pub withVoices : Engine → List Voice → Engine
+withVoices e vs =
+    record { voices = vs; channels = e .channels; sounding = e .sounding; order = e .order; clock = e .clock }
+
+pub voices-set : (ss : List Slot) (i : ℕ) (s : Slot) → voicesOf (set ss i s) ≡ set (voicesOf ss) i (s .voice)
+voices-set [] i s = refl
+voices-set (x ∷ ss) zero s = refl
+voices-set (x ∷ ss) (suc i) s = ap (_∷_ (x .voice)) (voices-set ss i s)
+
+-- the records that a turn leaves: it read t, and stored its record
+pub store-turn : (f : Slot → Slot) (ss : List Slot) (e x : Engine) (i : ℕ) (t : Slot) → i < length ss
+    → x ≡ withVoices e (voicesOf (upto f i ss)) → t ≡ f (getD ss i (free blank))
+    → withVoices x (set (x .voices) i (t .voice)) ≡ withVoices e (voicesOf (upto f (i + 1) ss))
+store-turn f ss e x i t h p q =
+    ap (λ (y : Engine). withVoices y (set (y .voices) i (t .voice))) p
+    ∙ ap (withVoices e)
+    (sym (voices-set (upto f i ss) i t) ∙ ap voicesOf (step-set f ss i (free blank) t h (q ∙ ap f (sym (upto-at f ss i (free blank))))))
+
+-- before the first turn
+pub store-none : (f : Slot → Slot) (e : Engine) → e ≡ withVoices e (voicesOf (upto f 0 (slotsOf e)))
+unfolding upto
+store-none f e = ap (withVoices e) (sym (voices-back (e .sounding) (e .voices)))
+
+-- behind the last turn
+pub store-all : (f : Slot → Slot) (e x : Engine) (word i : ℕ) → length (slotsOf e) ≡ 32 → i ≡ 32
+    → x ≡ withVoices e (voicesOf (upto f i (slotsOf e))) → word ≡ wordTo f i (slotsOf e) → withWord x word ≡ withSlots e (map f (slotsOf e))
+store-all f e x word i n h p q =
+    ap (λ (y : Engine). withWord y word) (p ∙ ap (λ (j : ℕ). withVoices e (voicesOf (upto f j (slotsOf e)))) h ∙ ap (λ (ss : List Slot). withVoices e (voicesOf ss)) (upto-all f (slotsOf e) 32 n))
+    ∙ ap (λ (w : ℕ). withWord (withVoices e (voicesOf (map f (slotsOf e)))) w) (q ∙ ap (λ (j : ℕ). wordTo f j (slotsOf e)) h ∙ word-all f (slotsOf e) 32 n)
+
 -- a state whose records stay and whose word is built anew
 pub rebuilt : (e : Engine) (ss : List Slot) → voicesOf ss ≡ e .voices → withWord e (wordOf ss) ≡ withSlots e ss
 rebuilt e ss h = ap with (sym h)
@@ -130,3 +177,18 @@ cut-voice p s = by (p s)
 pub cut-free : (channel : ℕ) (v : Voice) → cut (ofChannel channel) (free v) ≡ free v
 unfolding cut ofChannel
 cut-free channel v = refl
+
+-- a turn that frees slot i where a test picks it: it read s, tested it, and made t of it
+pub cut-turn : (p : Slot → Bool) (ss : List Slot) (i word b : ℕ) (picked : Bool) (s t : Slot) → cut p (free blank) ≡ free blank → i < length ss
+    → word ≡ wordTo (cut p) i ss → s ≡ getD ss i (free blank) → picked ≡ p s → t ≡ cond picked (free (s .voice)) s
+    → b ≡ cond (t .sounding) (2 ^ i) 0 → word + b ≡ wordTo (cut p) (i + 1) ss
+unfolding cut
+cut-turn p ss i word b picked s t k h w e q m = flag-turn (cut p) ss i word b t k h w
+    (m ∙ ap (λ (x : Bool). cond x (free (s .voice)) s) q ∙ ap (cut p) e)
+
+-- behind the last turn of such a loop: the records stay
+pub cut-all : (p : Slot → Bool) (e : Engine) (word i : ℕ) → length (slotsOf e) ≡ 32 → i ≡ 32 → word ≡ wordTo (cut p) i (slotsOf e)
+    → withWord e word ≡ withSlots e (map (cut p) (slotsOf e))
+cut-all p e word i n h w =
+    ap (withWord e) (w ∙ ap (λ (j : ℕ). wordTo (cut p) j (slotsOf e)) h ∙ word-all (cut p) (slotsOf e) 32 n)
+    ∙ rebuilt e (map (cut p) (slotsOf e)) (same-voices (cut p) (cut-voice p) (slotsOf e) ∙ voices-back (e .sounding) (e .voices))

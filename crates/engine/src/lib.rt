@@ -1,13 +1,24 @@
-// The engine's state, and the answer of an operation.
-ghost use mathlib.Core.Path.{_≡_};
-ghost use mathlib.Core.Bool.{cond};
-ghost use Prim.Native.Nat.{_<_, _^_};
-ghost use Rattle.engine.specs.State.{withWord};
-ghost use Rattle.engine.specs.NoteOff.{ofChannel};
-ghost use Rattle.engine.specs.Controls.{silence, cut};
-use arith::has;
+// The engine: its state, the answer of an operation, and the calls that it takes.
+mod answers; // answers.rt: done or refused, and the test of ranges
+mod slots; // slots.rt: one slot of a state, and the word
+mod channels; // channels.rt: a channel of a state; program change and pitch bend
+mod keys; // keys.rt: note-off, and which voices are let off
+mod panel; // panel.rt: what the panel is told
+mod quiet; // quiet.rt: the fresh state
+mod seats; // seats.rt: which slot a layer takes, and the order of age
+mod strikes; // strikes.rt: classes, and layers started in slots
+mod sums; // sums.rt: the voices of a state, added up
+mod rendering; // rendering.rt: render
+mod controls; // controls.rt: control change
+
+pub use channels::pitch_bend;
+pub use channels::program_change;
+pub use controls::control_change;
+pub use keys::note_off;
+pub use panel::ask_panel;
+pub use quiet::fresh;
+pub use rendering::render;
 use voice::Channel;
-use voice::Slot;
 use voice::Voice;
 
 // Each value of this type is a legal state.
@@ -28,63 +39,15 @@ pub struct Answered {
     pub engine: Engine,
 }
 
-// The state with another word.
-fn with_word(e: Engine, word: u32) -> Engine
-    ensures { λ r. ⌜ r ≡ withWord e word ⌝ }
-{
-    let mut x = e;
-    x.sounding = word;
-    x
+// Which of a channel's voices are let off: the held ones of a key, all the held ones, or those that the pedal holds.
+pub enum Whom {
+    Key { key: u8 },
+    Every,
+    Marked,
 }
 
-// It sounds, and is of the channel.
-fn of_channel(s: Slot, channel: u8) -> bool
-    ensures { λ r. ⌜ r ≡ ofChannel channel s ⌝ }
-{
-    if !s.sounding {
-        return false;
-    }
-    let v = s.voice;
-    v.channel == channel
-}
-
-// The slot freed where it is of the channel.
-fn cut_one(s: Slot, channel: u8) -> Slot
-    ensures { λ r. ⌜ r ≡ cut (ofChannel channel) s ⌝ }
-{
-    if of_channel(s, channel) {
-        let v = s.voice;
-        return Slot {
-            sounding: false,
-            voice: v,
-        };
-    }
-    s
-}
-
-// The bit of slot i in a word.
-fn flag(on: bool, i: u32) -> u32
-    requires { ⌜ i < 32 ⌝ }
-    ensures { λ r. ⌜ r ≡ cond on (2 ^ i) 0 ⌝ }
-{
-    if on { 1 << i } else { 0 }
-}
-
-// Control 120: the channel's voices are freed.
-pub fn silenced(e: Engine, channel: u8) -> Engine
-    ensures { λ r. ⌜ r ≡ silence channel e ⌝ }
-{
-    let mut word: u32 = 0;
-    let mut i: usize = 0;
-    while i < 32 {
-        let v = e.voices[i];
-        let s = Slot {
-            sounding: has(e.sounding, i as u32),
-            voice: v,
-        };
-        let t = cut_one(s, channel);
-        word = word + flag(t.sounding, i as u32);
-        i = i + 1;
-    }
-    with_word(e, word)
+// A state, and the word of the slots that a note-on has started in it.
+pub struct Begun {
+    pub engine: Engine,
+    pub mine: u32,
 }

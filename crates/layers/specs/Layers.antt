@@ -10,6 +10,7 @@ use Rattle.records.specs.Zones.{zoneAt, zoneCount, globalOf}
 use Rattle.records.specs.declared.Found.{Found}
 use Rattle.records.specs.declared.Parts.{Parts}
 use Rattle.records.specs.declared.Side.{Side}
+use Rattle.records.specs.declared.Zone.{Zone}
 use Rattle.layers.specs.Ranges.{matches}
 use Rattle.layers.specs.declared.Layer.{Layer}
 use Rattle.layers.specs.declared.Layers.{Layers}
@@ -23,9 +24,13 @@ isPreset b m bank program h = eqb (bankOf b m h) bank && eqb (programOf b m h) p
 unfoldable pub presetFor : List ℕ → Parts → ℕ → ℕ → Found
 presetFor b m bank program = first (isPreset b m bank program) 0 (m .presets .nheads - 1)
 
--- whether zone z of head h is sounding and matches key and velocity
+-- whether a zone, beside the global one of its head, is sounding and matches key and velocity
+unfoldable pub picked : List ℕ → Side → Zone → Zone → ℕ → ℕ → Bool
+picked b s zone global key velocity = zone .sounding && matches b s zone global key velocity
+
+-- whether zone z of head h is
 unfoldable pub chosen : List ℕ → Side → ℕ → ℕ → ℕ → ℕ → Bool
-chosen b s key velocity h z = zoneAt b s z .sounding && matches b s (zoneAt b s z) (globalOf b s h) key velocity
+chosen b s key velocity h z = picked b s (zoneAt b s z) (globalOf b s h) key velocity
 
 -- preset zone z with each matching zone of instrument k, of its first n zones
 unfoldable pub under : List ℕ → Side → ℕ → ℕ → ℕ → ℕ → ℕ → List Pair

@@ -7,12 +7,15 @@ use native.Mathlib.Nat.{add-zero, add-suc}
 use native.Mathlib.Numerals.{add-one}
 use native.Mathlib.Omega.{arith}
 use lib.ListN.{length, take, replicate, set, length-append}
+use lib.Dec.{eqb}
+use borrow.Author.Tests.{eq-eqb, ne-eqb}
 use lib.Seq.{take-all, set-at, take-at}
-use Rattle.records.specs.Sides.{bagOf}
-use Rattle.records.specs.Zones.{zoneAt, zoneCount}
+use Rattle.records.specs.Sides.{bagOf, bankOf, programOf}
+use Rattle.records.specs.declared.Parts.{Parts}
+use Rattle.records.specs.Zones.{zoneAt, zoneCount, globalOf}
 use Rattle.records.specs.declared.Side.{Side}
 use Rattle.records.specs.declared.Zone.{Zone}
-use Rattle.layers.specs.Layers.{chosen, under, allUnder, layersBelow, noPair, upTo33}
+use Rattle.layers.specs.Layers.{isPreset, picked, chosen, under, allUnder, layersBelow, noPair, upTo33}
 use Rattle.layers.specs.declared.Layers.{Layers}
 use Rattle.layers.specs.declared.Pair.{Pair}
 
@@ -121,3 +124,18 @@ module _ (b : List ℕ) (p i : Side) (key velocity h from : ℕ) (begins : from 
         let w = rw c at (below-more b p i key velocity h (n + 1) (count - (n + 1))) in
         let l = layersBelow b p i key velocity h n in
         more (record { rest = u .rest; whole = below-yes ∙ ap (λ (x : List Pair). l ++ x) (u .whole) ∙ sym (append-assoc l (under b i key velocity (from + n) (zone .link) (j + 1)) (u .rest)) }) w
+
+-- a zone and its head's global zone, each found before it is asked for
+pub chosen-by : (b : List ℕ) (s : Side) (key velocity h z : ℕ) (zone global : Zone) (r : Bool) → r ≡ picked b s zone global key velocity → zone ≡ zoneAt b s z → global ≡ globalOf b s h → chosen b s key velocity h z ≡ r
+unfolding chosen
+chosen-by b s key velocity h z zone global r asked is beside = cc
+
+-- a record's bank is the one looked for, or another
+module _ (b : List ℕ) (m : Parts) (bank program h x : ℕ) (is : x ≡ bankOf b m h) where
+  pub preset-yes : (y : ℕ) → y ≡ programOf b m h → x ≡ bank → eqb y program ≡ isPreset b m bank program h
+  unfolding isPreset
+  preset-yes y has same = rw (eq-eqb (bankOf b m h) bank (sym is ∙ same), has) refl
+
+  pub preset-no : (x ≡ bank → ⊥) → false ≡ isPreset b m bank program h
+  unfolding isPreset
+  preset-no other = rw (ne-eqb (bankOf b m h) bank (λ e. other (is ∙ e))) refl

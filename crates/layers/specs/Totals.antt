@@ -32,14 +32,13 @@ held g x =
     (cond (eqb g 52) (heldTo (negsuc 98) (pos 99) x)
     (cond (eqb g 56) (heldTo (pos 0) (pos 1200) x) x)))))
 
--- the instrument's local, else global, else default
-unfoldable pub instrumentPart : List ℕ → Parts → Layer → ℕ → ℤ
-instrumentPart b m l g = value b (m .instruments) (l .instrument) (l .beside) (defaultOf g) g
+-- the instrument's value of generator g plus the preset's, held; or the instrument's alone, held
+unfoldable pub totalOf : ℕ → ℤ → ℤ → ℤ
+totalOf g own added = held g (cond (instrumentOnly g) own (own +ℤ added))
 
--- the preset's local, else global, else 0; 0 for what counts in instruments only
-unfoldable pub presetPart : List ℕ → Parts → Layer → ℕ → ℤ
-presetPart b m l g = cond (instrumentOnly g) (pos 0) (value b (m .presets) (l .preset) (l .above) (pos 0) g)
-
--- the total of generator g
+-- the total of generator g: the instrument's local, else global, else default, plus the preset's local, else global, else 0
 unfoldable pub total : List ℕ → Parts → Layer → ℕ → ℤ
-total b m l g = held g (instrumentPart b m l g +ℤ presetPart b m l g)
+total b m l g =
+    totalOf g
+    (value b (m .instruments) (l .instrument) (l .beside) (defaultOf g) g)
+    (value b (m .presets) (l .preset) (l .above) (pos 0) g)

@@ -9,3 +9,6 @@ pub mod Sides
 pub mod Zones
 pub mod ZoneLaws
 pub mod Window
+pub mod Amounts
+pub mod AmountLaws
+pub mod Memory

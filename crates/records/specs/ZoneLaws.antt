@@ -6,10 +6,11 @@ use Prim.Native.Nat.{ℕ, zero, suc, _+_, _-_, _<_}
 use native.Mathlib.Nat.{add-zero, add-suc}
 use native.Mathlib.Numerals.{add-one}
 use native.Mathlib.Omega.{arith}
-use Rattle.records.specs.Search.{first}
+use Rattle.records.specs.Search.{first, placed}
 use Rattle.records.specs.SearchLaws.{Hit, first-hit, first-is, last-is}
 use Rattle.records.specs.Sides.{bagOf, genOf}
 use Rattle.records.specs.Zones.{has, genCount, closingOf, lastOf, zoneCount, zoneBelow, firstZone}
+use Rattle.records.specs.declared.Found.{Found}
 use Rattle.records.specs.declared.Found.the-variants.{Nothing, At}
 use Rattle.records.specs.declared.Side.{Side}
 use Rattle.records.specs.declared.Zone.{Zone}
@@ -41,12 +42,23 @@ module _ (b : List ℕ) (s : Side) (p : ℕ → ℕ → Bool) where
   stays h (suc d) z e = rw (add-suc, stays h d z e) refl
 
   -- the first is found in head h, also where the search would go on
-  pub zone-hit : (h j : ℕ) → zoneBelow b s p h ≡ Nothing → first (p h) (bagOf b s h) j ≡ Nothing → p h (bagOf b s h + j) ≡ true → j < zoneCount b s h → h < s .nheads - 1 → firstZone b s p ≡ At (bagOf b s h + j)
+  pub zone-in : (h z : ℕ) → zoneBelow b s p h ≡ Nothing → first (p h) (bagOf b s h) (zoneCount b s h) ≡ At z → h < s .nheads - 1 → firstZone b s p ≡ At z
   unfolding zoneBelow firstZone
-  zone-hit h j e f t l m =
-      let here : zoneBelow b s p (suc h) ≡ At (bagOf b s h + j) = rw (e, first-hit (p h) (bagOf b s h) j (zoneCount b s h) f t l) refl in
+  zone-in h z e f m =
+      let here : zoneBelow b s p (suc h) ≡ At z = rw (e, f) refl in
       let eq : suc h + (s .nheads - 1 - suc h) ≡ s .nheads - 1 = omega arith in
-      subst (λ (k : ℕ). zoneBelow b s p k ≡ At (bagOf b s h + j)) eq (stays (suc h) (s .nheads - 1 - suc h) (bagOf b s h + j) here)
+      subst (λ (k : ℕ). zoneBelow b s p k ≡ At z) eq (stays (suc h) (s .nheads - 1 - suc h) z here)
+
+  pub zone-hit : (h j : ℕ) → zoneBelow b s p h ≡ Nothing → first (p h) (bagOf b s h) j ≡ Nothing → p h (bagOf b s h + j) ≡ true → j < zoneCount b s h → h < s .nheads - 1 → firstZone b s p ≡ At (bagOf b s h + j)
+  zone-hit h j e f t l m = zone-in h (bagOf b s h + j) e (first-hit (p h) (bagOf b s h) j (zoneCount b s h) f t l) m
+
+  -- the same with the place of what is found
+  pub zone-placed : (f : ℕ → ℕ) (h q : ℕ) → zoneBelow b s p h ≡ Nothing → placed f (first (p h) (bagOf b s h) (zoneCount b s h)) ≡ At q → h < s .nheads - 1 → placed f (firstZone b s p) ≡ At q
+  zone-placed f h q e g m = by (first (p h) (bagOf b s h) (zoneCount b s h)) refl g
+    where
+      by : (x : Found) → first (p h) (bagOf b s h) (zoneCount b s h) ≡ x → placed f x ≡ At q → placed f (firstZone b s p) ≡ At q
+      by Nothing x k = let z : _≡_ {A = ℕ} 0 1 = cc in absurd (omega arith)
+      by (At z) x k = rw (zone-in h z e x m) k
 
   -- the same, where the loop holds the first zone of head h and their number
   pub zone-found : (h j from count : ℕ) → from ≡ bagOf b s h → count ≡ zoneCount b s h → zoneBelow b s p h ≡ Nothing → first (p h) from j ≡ Nothing → p h (from + j) ≡ true → j < count → h < s .nheads - 1 → firstZone b s p ≡ At (from + j)

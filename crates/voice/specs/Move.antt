@@ -2,26 +2,19 @@
 use Prim.Native.Nat.{ℕ, _+_, _-_, _*_, _%_}
 use mathlib.Core.Bool.{Bool, true, false, cond, not, _&&_, _||_}
 use lib.Dec.{eqb, leb, ltb}
-use lib.IntN.{ℤ, pos, negsuc, natAbs, _+ℤ_, _-ℤ_, _*ℤ_}
-use Rattle.arith.specs.Floor.{floorZ}
+use lib.IntN.{ℤ, pos, negsuc, _+ℤ_}
 use Rattle.arith.specs.Over.{heldTo}
 use Rattle.curves.specs.Step.{stepOf}
+unfoldable pub use Rattle.curves.specs.Pitch.{bendCents}
+pub use Rattle.curves.specs.Pitch.{lifted}
 use Rattle.voice.specs.declared.Stage.{Stage}
 use Rattle.voice.specs.declared.Voice.{Voice}
 use Rattle.voice.specs.declared.Channel.{Channel}
 use Rattle.voice.specs.Stages.{released}
 
--- floor((bend - 8,192) * 25 / 1,024)
-unfoldable pub bendCents : ℕ → ℤ
-bendCents bend = floorZ ((pos bend -ℤ pos 8192) *ℤ pos 25) 1024
-
 -- the pitch total, held to -9,600..4,800
 unfoldable pub pitchTotal : Channel → Voice → ℤ
 pitchTotal c v = heldTo (negsuc 9599) (pos 4800) (v .pitch +ℤ bendCents (c .bend))
-
--- cents above -9,600, as the table of steps counts them
-abbrev pub lifted : ℤ → ℕ
-lifted cents = natAbs (cents +ℤ pos 9600)
 
 -- the voice's step, in 2^-24 samples
 unfoldable pub step : Channel → Voice → ℕ

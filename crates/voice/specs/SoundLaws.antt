@@ -1,4 +1,4 @@
--- Laws of the sound: no gain is above 2^24; what the tests of the code say of a number held to at least 0.
+-- Laws of the sound: what the tests of the code say of a number held to at least 0.
 use Prim.Native.Nat.{ℕ, zero, suc, _≤_, _<_}
 use mathlib.Core.Path.{_≡_, refl, ap, subst}
 use mathlib.Core.Bool.{Bool, true, false}
@@ -15,24 +15,6 @@ use Rattle.arith.specs.Within.{Within}
 use Rattle.curves.specs.Gains.{gains}
 use Rattle.curves.specs.Decibels.{gainOf}
 use Rattle.voice.specs.Sound.{least0}
-
-allLe : ℕ → List ℕ → Bool
-allLe m [] = true
-allLe m (x ∷ xs) = both (leb x m) (allLe m xs)
-
-each : (m : ℕ) (xs : List ℕ) → T (allLe m xs) → (i : ℕ) → getD xs i 0 ≤ m
-unfolding allLe
-each m [] t i = omega arith
-each m (x ∷ xs) t zero = leb→le x m (both-left (leb x m) (allLe m xs) t)
-each m (x ∷ xs) t (suc i) = each m xs (both-right (leb x m) (allLe m xs) t) i
-
-tested : T (allLe 16777216 gains)
-unfolding allLe
-tested = tt
-
-pub gain-le : (a : ℕ) → gainOf a ≤ 16777216
-unfolding gainOf
-gain-le a = each 16777216 gains tested a
 
 pub least0-below : (z : ℤ) → ltZ z (pos 0) ≡ true → least0 z ≡ 0
 least0-below (pos n) t = absurd (no n (ltb-true n 0 t))

@@ -1,12 +1,12 @@
 -- Numbers added into a list of sums, and the bounds of the sums. `loudest` bounds what one voice adds.
 use Prim.Native.Nat.{ℕ, zero, suc, _+_, _*_, _≤_, _<_}
-use mathlib.Core.Path.{_≡_, refl, ap, sym, _∙_}
+use mathlib.Core.Path.{_≡_, refl, ap, ap₂, sym, _∙_}
 use mathlib.Core.List.{List, [], _∷_, _++_, append-assoc}
 use native.Mathlib.Nat.{suc-ne-zero, suc-inj, not-suc-le-zero, le-of-suc-le-suc}
 use native.Mathlib.Omega.{arith}
 use lib.Dec.{lit<, lit≤}
-use lib.IntN.{ℤ, pos, _+ℤ_}
-use lib.ListN.{length, getD, set, length-append}
+use lib.IntN.{ℤ, pos, _+ℤ_, +ℤ-idr}
+use lib.ListN.{length, getD, set, replicate, length-append}
 use mir.Syntax.{w32}
 use mir.Val.{SFits, toZ, ofZ}
 use mir.Facts.{toZ-ofZ}
@@ -67,8 +67,23 @@ second xs ys k a e h =
     let l : length (xs ++ (a ∷ [])) ≡ k + 1 = simp length-append (omega arith) in
     ap (λ (z : List ℤ). getD z (k + 1) (pos 0)) (addTo-set xs ys k a e (omega arith)) ∙ addTo-at (xs ++ (a ∷ [])) ys (k + 1) l
 
+-- two zeros behind the numbers that are added change nothing
+pub add-nothing : (xs ys : List ℤ) → addTo (xs ++ (pos 0 ∷ pos 0 ∷ [])) ys ≡ addTo xs ys
+unfolding addTo
+add-nothing [] [] = refl
+add-nothing [] (y ∷ []) = ap (λ (z : ℤ). z ∷ []) (+ℤ-idr y)
+add-nothing [] (y ∷ z ∷ ys) = ap₂ (λ (a b : ℤ). a ∷ b ∷ ys) (+ℤ-idr y) (+ℤ-idr z)
+add-nothing (x ∷ xs) [] = refl
+add-nothing (x ∷ xs) (y ∷ ys) = ap (_∷_ (y +ℤ x)) (add-nothing xs ys)
+
 pub small-none : Small 1 []
 small-none j = w-nat (lit≤ tt)
+
+-- sums of zeros
+pub zeros-small : (n : ℕ) → Small 0 (replicate n (pos 0))
+zeros-small zero j = w-nat (lit≤ tt)
+zeros-small (suc n) zero = w-nat (lit≤ tt)
+zeros-small (suc n) (suc j) = zeros-small n j
 
 pub small-two : (xs : List ℤ) (a b : ℤ) → Small 1 xs → Within a (1 * loudest) → Within b (1 * loudest) → Small 1 (xs ++ (a ∷ b ∷ []))
 small-two [] a b h p q zero = p

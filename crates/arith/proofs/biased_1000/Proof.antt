@@ -1,3 +1,4 @@
+-- The floor by an offset.
 use Prim.Native.Nat.{_/_}
 use native.Mathlib.Nat.{div-le-self, le-trans, lt-of-le-of-lt}
 use lib.Dec.{lit<}

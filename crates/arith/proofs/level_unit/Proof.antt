@@ -1,4 +1,5 @@
-use lib.Dec.{lit<, lit≤}
+-- A level times 2^-24, with nothing rounded.
+use lib.Dec.{lit≤}
 use mathlib.Core.Path.{_≡_, refl}
 use mathlib.Core.Bool.{false}
 use lib.IntN.{pos, negsuc}

@@ -1,3 +1,4 @@
+-- Both sides of the stereo frame.
 use borrow.Author.Needs.{needs, sfits-of}
 use mir.Facts.{toZ-ofZ}
 use Rattle.arith.proofs.mix.Statement.{statement}

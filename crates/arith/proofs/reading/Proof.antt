@@ -1,3 +1,4 @@
+-- The reading, by the signed expression.
 use mathlib.Core.List.{List, [], _∷_}
 use lib.Dec.{lit≤}
 use mir.Syntax.{w64}

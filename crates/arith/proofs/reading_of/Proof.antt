@@ -1,3 +1,4 @@
+-- The reading of two samples, each widened to 64 bits.
 use borrow.Author.Needs.{needs}
 use mathlib.Core.Path.{_≡_}
 use lib.IntN.{ℤ}

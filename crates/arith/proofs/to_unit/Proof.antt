@@ -1,3 +1,4 @@
+-- A whole number times 2^-23, with nothing rounded.
 use lib.Dec.{lit≤}
 use mathlib.Core.Path.{_≡_, refl}
 use mathlib.Core.Bool.{false}

@@ -1,109 +1,80 @@
+-- `bank::admission` meets its contract.
 use Rattle.records.specs.declared.Found.the-variants.{Nothing, At}
 use Rattle.records.specs.Sides.{partsOf}
 use Rattle.bank.specs.RulesLaws.{long-none, long-some, whole-bank}
 use Rattle.bank.specs.AdmissionLaws.{fault-long, fault-chunk, fault-records, fault-index, fault-number, fault-rate, fault-window, fault-none}
 use Rattle.bank.specs.Admission.{chunkFault, recordsFault, indexFault, numberFault, rateFault, windowFault}
 use native.Mathlib.Omega.{arith}
-use mathlib.Core.Path.{_≡_, refl, sym, ap, _∙_}
+use mathlib.Core.Path.{_≡_, sym}
 use borrow.Author.Needs.{needs}
 use Rattle.bank.proofs.admission.Statement.{statement}
 use Rattle.bank.proofs.admission.Tie as tie
-use Rattle.bank.proofs.admission.Reads as reads
-use Rattle.bank.proofs.admission.Lts as lts
-use Rattle.bank.proofs.chunk_fault.Reads as chunk-fault-reads
-use Rattle.bank.proofs.index_fault.Reads as index-fault-reads
-use Rattle.bank.proofs.number_fault.Reads as number-fault-reads
-use Rattle.records.proofs.parts_of.Reads as parts-of-reads
-use Rattle.bank.proofs.rate_fault.Reads as rate-fault-reads
-use Rattle.bank.proofs.records_fault.Reads as records-fault-reads
-use Rattle.bank.proofs.window_fault.Reads as window-fault-reads
 
--- src/lib.rt:777:9
 returns : tie.Need-returns
 returns c =
     let b = c .before .before .args .b .now in
     sym (fault-long b 65536 (long-some b (c .if1 .taken)))
 
--- src/lib.rt:779:11
 chunk-fault-requires : tie.Need-chunk-fault-requires
 chunk-fault-requires c κs = search needs
 
--- src/lib.rt:780:19
 enum-known-p : tie.Need-enum-known-p
 enum-known-p c = search needs
 
--- src/lib.rt:781:33
 enum-told : tie.Need-enum-told
 enum-told c = search needs
 
--- src/lib.rt:781:33
 records-fault-requires : tie.Need-records-fault-requires
 records-fault-requires c κs = search needs
 
--- src/lib.rt:782:23
 enum-known-p-2 : tie.Need-enum-known-p-2
 enum-known-p-2 c = search needs
 
--- src/lib.rt:784:21
 enum-told-2 : tie.Need-enum-told-2
 enum-told-2 c = search needs
 
--- src/lib.rt:784:21
 parts-of-requires : tie.Need-parts-of-requires
 parts-of-requires c κs =
     let b = c .before .before .before .before .before .before .before .before .args .b .now in
     let n2 : chunkFault b ≡ Nothing = cc in
     omega (arith, whole-bank b n2)
 
--- src/lib.rt:785:23
 index-fault-requires : tie.Need-index-fault-requires
 index-fault-requires c κs = search needs
 
--- src/lib.rt:786:31
 enum-known-p-3 : tie.Need-enum-known-p-3
 enum-known-p-3 c = search needs
 
--- src/lib.rt:787:45
 enum-told-3 : tie.Need-enum-told-3
 enum-told-3 c = search needs
 
--- src/lib.rt:787:45
 number-fault-requires : tie.Need-number-fault-requires
 number-fault-requires c κs = search needs
 
--- src/lib.rt:788:35
 enum-known-p-4 : tie.Need-enum-known-p-4
 enum-known-p-4 c = search needs
 
--- src/lib.rt:789:49
 enum-told-4 : tie.Need-enum-told-4
 enum-told-4 c = search needs
 
--- src/lib.rt:789:49
 rate-fault-requires : tie.Need-rate-fault-requires
 rate-fault-requires c κs = search needs
 
--- src/lib.rt:790:39
 enum-known-p-5 : tie.Need-enum-known-p-5
 enum-known-p-5 c = search needs
 
--- src/lib.rt:791:53
 enum-told-5 : tie.Need-enum-told-5
 enum-told-5 c = search needs
 
--- src/lib.rt:791:53
 window-fault-requires : tie.Need-window-fault-requires
 window-fault-requires c κs = search needs
 
--- src/lib.rt:792:43
 enum-known-p-6 : tie.Need-enum-known-p-6
 enum-known-p-6 c = search needs
 
--- src/lib.rt:793:51
 enum-told-6 : tie.Need-enum-told-6
 enum-told-6 c = search needs
 
--- src/lib.rt:773:1
 returns-2 : tie.Need-returns-2
 returns-2 c =
     let b = c .before .before .before .before .before .before .args .b .now in
@@ -111,7 +82,6 @@ returns-2 c =
     let e : chunkFault b ≡ At (c .before .p .given .0 .0) = cc in
     sym (fault-chunk b n1 (c .before .p .given .0 .0) e)
 
--- src/lib.rt:773:1
 returns-3 : tie.Need-returns-3
 returns-3 c =
     let b = c .before .before .before .before .before .before .before .before .before .args .b .now in
@@ -120,7 +90,6 @@ returns-3 c =
     let e : recordsFault b ≡ At (c .before .p2 .given .0 .0) = cc in
     sym (fault-records b n1 n2 (c .before .p2 .given .0 .0) e)
 
--- src/lib.rt:773:1
 returns-4 : tie.Need-returns-4
 returns-4 c =
     let b = c .before .before .before .before .before .before .before .before .before .before .before .before .before .args .b .now in
@@ -130,7 +99,6 @@ returns-4 c =
     let e : indexFault b (partsOf b) ≡ At (c .before .p3 .given .0 .0) = cc in
     sym (fault-index b n1 n2 n3 (c .before .p3 .given .0 .0) e)
 
--- src/lib.rt:773:1
 returns-5 : tie.Need-returns-5
 returns-5 c =
     let b = c .before .before .before .before .before .before .before .before .before .before .before .before .before .before .before .before .args .b .now in
@@ -141,7 +109,6 @@ returns-5 c =
     let e : numberFault b (partsOf b) ≡ At (c .before .p4 .given .0 .0) = cc in
     sym (fault-number b n1 n2 n3 n4 (c .before .p4 .given .0 .0) e)
 
--- src/lib.rt:773:1
 returns-6 : tie.Need-returns-6
 returns-6 c =
     let b = c .before .before .before .before .before .before .before .before .before .before .before .before .before .before .before .before .before .before .before .args .b .now in
@@ -153,7 +120,6 @@ returns-6 c =
     let e : rateFault b (partsOf b) ≡ At (c .before .p5 .given .0 .0) = cc in
     sym (fault-rate b n1 n2 n3 n4 n5 (c .before .p5 .given .0 .0) e)
 
--- src/lib.rt:773:1
 returns-7 : tie.Need-returns-7
 returns-7 c =
     let b = c .before .before .before .before .before .before .before .before .before .before .before .before .before .before .before .before .before .before .before .before .before .before .args .b .now in
@@ -166,7 +132,6 @@ returns-7 c =
     let e : windowFault b (partsOf b) ≡ At (c .before .p6 .given .0 .0) = cc in
     sym (fault-window b n1 n2 n3 n4 n5 n6 (c .before .p6 .given .0 .0) e)
 
--- src/lib.rt:773:1
 returns-8 : tie.Need-returns-8
 returns-8 c =
     let b = c .before .before .before .before .before .before .before .before .before .before .before .before .before .before .before .before .before .before .before .before .before .args .b .now in

@@ -1,0 +1,26 @@
+-- `bank::indexes::bad_head` meets its contract.
+use Rattle.bank.specs.Admission.{badHead}
+use borrow.Author.Needs.{needs}
+use Rattle.bank.proofs.indexes.bad_head.Statement.{statement}
+use Rattle.bank.proofs.indexes.bad_head.Tie as tie
+
+less-one-requires : tie.Need-less-one-requires
+less-one-requires c κs = search needs
+
+bag-of-requires : tie.Need-bag-of-requires
+bag-of-requires c κs = search needs
+
+bag-of-requires-2 : tie.Need-bag-of-requires-2
+bag-of-requires-2 c κs = search needs
+
+bad-index-requires : tie.Need-bad-index-requires
+bad-index-requires c κs = search needs
+
+returns : tie.Need-returns
+unfolding badHead
+returns c = cc
+
+pub bad-head-spec : {M : Type 1} → statement M
+bad-head-spec =
+    tie.close
+    (tie.spec less-one-requires bag-of-requires bag-of-requires-2 bad-index-requires returns)

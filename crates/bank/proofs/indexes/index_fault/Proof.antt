@@ -1,0 +1,43 @@
+-- `bank::indexes::index_fault` meets its contract.
+use Rattle.bank.specs.Admission.{indexFault}
+use borrow.Author.Needs.{needs}
+use Rattle.bank.proofs.indexes.index_fault.Statement.{statement}
+use Rattle.bank.proofs.indexes.index_fault.Tie as tie
+
+head-fault-requires : tie.Need-head-fault-requires
+head-fault-requires c κs = search needs
+
+bag-fault-requires : tie.Need-bag-fault-requires
+bag-fault-requires c κs = search needs
+
+or-else-requires : tie.Need-or-else-requires
+or-else-requires c κs = search needs
+
+head-fault-requires-2 : tie.Need-head-fault-requires-2
+head-fault-requires-2 c κs = search needs
+
+bag-fault-requires-2 : tie.Need-bag-fault-requires-2
+bag-fault-requires-2 c κs = search needs
+
+or-else-requires-2 : tie.Need-or-else-requires-2
+or-else-requires-2 c κs = search needs
+
+or-else-requires-3 : tie.Need-or-else-requires-3
+or-else-requires-3 c κs = search needs
+
+returns : tie.Need-returns
+unfolding indexFault
+returns c = cc
+
+pub index-fault-spec : {M : Type 1} → statement M
+index-fault-spec =
+    tie.close
+    (tie.spec
+    head-fault-requires
+    bag-fault-requires
+    or-else-requires
+    head-fault-requires-2
+    bag-fault-requires-2
+    or-else-requires-2
+    or-else-requires-3
+    returns)

@@ -1,0 +1,71 @@
+-- `bank::listing::listed_at` meets its contract.
+use mathlib.Core.Bool.{true, false}
+use Prim.Native.Nat.{_-_, _≤_, _<_}
+use Rattle.bank.specs.Admission.{admitted}
+use borrow.Author.Needs.{needs}
+use borrow.Author.Tests.{lt-ltb, le-ltb}
+use mathlib.Core.Path.{_≡_, sym, _∙_}
+use Rattle.bank.specs.AdmittedLaws.{admitted-room}
+use Rattle.bank.specs.Listing.{listed}
+use Rattle.records.specs.Sides.{partsOf}
+use Rattle.bank.proofs.listing.listed_at.Statement.{statement}
+use Rattle.bank.proofs.listing.listed_at.Tie as tie
+
+admitted-requires : tie.Need-admitted-requires
+admitted-requires c κs = search needs
+
+parts-of-requires : tie.Need-parts-of-requires
+parts-of-requires c κs = admitted-room (c .before .before .before .args .b .now) (sym (c .before .admitted .ensures) ∙ c .if1 .taken)
+
+less-one-requires : tie.Need-less-one-requires
+less-one-requires c κs = search needs
+
+program-of-requires : tie.Need-program-of-requires
+program-of-requires c κs = search needs
+
+bank-of-requires : tie.Need-bank-of-requires
+bank-of-requires c κs = search needs
+
+add-t12 : tie.Need-add-t12
+add-t12 c = search needs
+
+returns : tie.Need-returns
+unfolding listed
+returns c =
+    let t = c .before .before in
+    let m = t .before .before .before in
+    let a = m .before .before .before .before .args in
+    let yes : admitted (a .b .now) ≡ true = sym (m .before .before .admitted .ensures) ∙ m .before .if1 .taken in
+    let e : t .before .less-one .result ≡ partsOf (a .b .now) .presets .nheads - 1 = rw (m .parts-of .ensures) at (t .before .less-one .ensures .0) in
+    let low : a .place < partsOf (a .b .now) .presets .nheads - 1 = rw e at (t .if2 .taken) in
+    simp (yes, lt-ltb _ _ low) (cc)
+
+returns-2 : tie.Need-returns-2
+unfolding listed
+returns-2 c =
+    let m = c .before .before .before in
+    let a = m .before .before .before .before .args in
+    let yes : admitted (a .b .now) ≡ true = sym (m .before .before .admitted .ensures) ∙ m .before .if1 .taken in
+    let e : c .before .less-one .result ≡ partsOf (a .b .now) .presets .nheads - 1 = rw (m .parts-of .ensures) at (c .before .less-one .ensures .0) in
+    let high : partsOf (a .b .now) .presets .nheads - 1 ≤ a .place = rw e at (c .if2 .left) in
+    simp (yes, le-ltb _ _ high)
+
+returns-3 : tie.Need-returns-3
+unfolding listed
+returns-3 c =
+    let no : admitted (c .before .before .before .args .b .now) ≡ false = sym (c .before .admitted .ensures) ∙ c .if1 .left in
+    simp no
+
+pub listed-at-spec : {M : Type 1} → statement M
+listed-at-spec =
+    tie.close
+    (tie.spec
+    admitted-requires
+    parts-of-requires
+    less-one-requires
+    program-of-requires
+    bank-of-requires
+    add-t12
+    returns
+    returns-2
+    returns-3)

@@ -1,0 +1,29 @@
+-- `bank::numbers::bad_number` meets its contract.
+use Rattle.bank.specs.Admission.{badNumber}
+use borrow.Author.Needs.{needs}
+use Rattle.bank.proofs.numbers.bad_number.Statement.{statement}
+use Rattle.bank.proofs.numbers.bad_number.Tie as tie
+
+zone-at-requires : tie.Need-zone-at-requires
+zone-at-requires c κs = search needs
+
+cast-result : tie.Need-cast-result
+cast-result c = search needs
+
+less-one-requires : tie.Need-less-one-requires
+less-one-requires c κs = search needs
+
+returns : tie.Need-returns
+unfolding badNumber
+returns c =
+    let k = c .before .before in
+    let e = rw (k .before .zone-at .ensures) at (k .if1 .taken) in
+    simp e (cc)
+
+returns-2 : tie.Need-returns-2
+unfolding badNumber
+returns-2 c = simp (rw (c .before .zone-at .ensures) at (c .if1 .left))
+
+pub bad-number-spec : {M : Type 1} → statement M
+bad-number-spec =
+    tie.close (tie.spec zone-at-requires cast-result less-one-requires returns returns-2)

@@ -1,0 +1,22 @@
+-- `bank::numbers::number_fault` meets its contract.
+use Rattle.bank.specs.Admission.{numberFault}
+use borrow.Author.Needs.{needs}
+use Rattle.bank.proofs.numbers.number_fault.Statement.{statement}
+use Rattle.bank.proofs.numbers.number_fault.Tie as tie
+
+link-fault-requires : tie.Need-link-fault-requires
+link-fault-requires c κs = search needs
+
+link-fault-requires-2 : tie.Need-link-fault-requires-2
+link-fault-requires-2 c κs = search needs
+
+or-else-requires : tie.Need-or-else-requires
+or-else-requires c κs = search needs
+
+returns : tie.Need-returns
+unfolding numberFault
+returns c = cc
+
+pub number-fault-spec : {M : Type 1} → statement M
+number-fault-spec =
+    tie.close (tie.spec link-fault-requires link-fault-requires-2 or-else-requires returns)

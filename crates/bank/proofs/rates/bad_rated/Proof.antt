@@ -1,0 +1,47 @@
+-- `bank::rates::bad_rated` meets its contract.
+use Rattle.bank.specs.OnePass.{badRated}
+use borrow.Author.Needs.{needs}
+use Rattle.bank.proofs.rates.bad_rated.Statement.{statement}
+use Rattle.bank.proofs.rates.bad_rated.Tie as tie
+
+zone-at-requires : tie.Need-zone-at-requires
+zone-at-requires c κs = search needs
+
+cast-known : tie.Need-cast-known
+cast-known c = search needs
+
+less-one-requires : tie.Need-less-one-requires
+less-one-requires c κs = search needs
+
+cast-rate-of : tie.Need-cast-rate-of
+cast-rate-of c = search needs
+
+rate-of-requires : tie.Need-rate-of-requires
+rate-of-requires c κs = search needs
+
+good-rate-requires : tie.Need-good-rate-requires
+good-rate-requires c κs = search needs
+
+both-requires : tie.Need-both-requires
+both-requires c κs = search needs
+
+both-requires-2 : tie.Need-both-requires-2
+both-requires-2 c κs = search needs
+
+returns : tie.Need-returns
+unfolding badRated
+returns c = cc
+
+pub bad-rated-spec : {M : Type 1} → statement M
+bad-rated-spec =
+    tie.close
+    (tie.spec
+    zone-at-requires
+    cast-known
+    less-one-requires
+    cast-rate-of
+    rate-of-requires
+    good-rate-requires
+    both-requires
+    both-requires-2
+    returns)

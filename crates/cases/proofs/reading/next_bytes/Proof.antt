@@ -1,0 +1,53 @@
+-- The room and the place go on, and the length of what is lent stays. Assumes nothing.
+use borrow.Author.Needs.{needs}
+use mathlib.Core.Path.{_≡_}
+use Prim.Native.Nat.{_≤_, _-_}
+use native.Mathlib.Omega.{arith}
+use lib.ListN.{length, length-set}
+use Rattle.cases.proofs.reading.next_bytes.Statement.{statement}
+use Rattle.cases.proofs.reading.next_bytes.Tie as tie
+
+abbrev Inv-loop : tie.InvT-loop
+Inv-loop room₀ into₀ p₀ i₀ room into p i = (length into ≡ length into₀) × (i ≤ length into)
+
+abbrev μ-loop : tie.MeasureT-loop
+μ-loop room₀ into₀ p₀ i₀ room into p i = length into - i
+
+loop-holds : tie.Need-loop-holds Inv-loop μ-loop
+loop-holds c = search needs
+
+next-byte-requires : tie.Need-next-byte-requires Inv-loop μ-loop
+next-byte-requires c κs = search needs
+
+slice-write-into : tie.Need-slice-write-into Inv-loop μ-loop
+slice-write-into c = search needs
+
+add-i : tie.Need-add-i Inv-loop μ-loop
+add-i c = search needs
+
+loop-less : tie.Need-loop-less Inv-loop μ-loop
+loop-less c = simp length-set (omega arith)
+
+loop-again : tie.Need-loop-again Inv-loop μ-loop
+loop-again c = simp length-set (omega arith, omega arith)
+
+same-length : tie.Need-same-length Inv-loop μ-loop
+same-length c = search needs
+
+returns : tie.Need-returns Inv-loop μ-loop
+returns c = search needs
+
+pub next-bytes-spec : {M : Type 1} → statement M
+next-bytes-spec =
+    tie.close
+    (tie.spec
+    Inv-loop
+    μ-loop
+    loop-holds
+    next-byte-requires
+    slice-write-into
+    add-i
+    loop-less
+    loop-again
+    same-length
+    returns)

@@ -1,0 +1,3 @@
+-- What the contracts of `cases` cite.
+pub mod Hash
+pub mod HashLaws

@@ -1,0 +1,23 @@
+// Case files and traces: what the programs that play cases share. They lend a room to read into and one to write from.
+mod hash; // hash.rt: the hash over a render's output
+mod reading; // reading.rt: bytes and little-endian numbers of standard input
+mod writing; // writing.rt: text to standard output
+
+pub use hash::bits_of;
+pub use hash::fnv;
+pub use reading::Byte;
+pub use reading::Long;
+pub use reading::Place;
+pub use reading::Short;
+pub use reading::next_byte;
+pub use reading::next_bytes;
+pub use reading::next_samples;
+pub use reading::next_u16;
+pub use reading::next_u32;
+pub use reading::start;
+pub use writing::decimal;
+pub use writing::flush;
+pub use writing::hex;
+pub use writing::put;
+pub use writing::signed;
+pub use writing::word;

@@ -1,0 +1,139 @@
+// Reading standard input as it comes, through a lent room: bytes, little-endian numbers, samples.
+ghost use mathlib.Core.Path.{_≡_};
+ghost use Prim.Native.Nat.{_+_, _*_};
+use libc::STDIN_FILENO;
+
+// The part of the room that is still to be read, and whether a read came up short. Once cut, always cut: a program tests it when it has read all that it wants.
+pub struct Place {
+    pub at: usize,
+    pub end: usize,
+    pub cut: bool,
+}
+
+// What was read, 0 where the input is cut off, and where to go on.
+pub struct Byte {
+    pub value: u8,
+    pub place: Place,
+}
+
+pub struct Short {
+    pub value: u16,
+    pub place: Place,
+}
+
+pub struct Long {
+    pub value: u32,
+    pub place: Place,
+}
+
+// Nothing is read yet.
+pub fn start() -> Place {
+    Place {
+        at: 0,
+        end: 0,
+        cut: false,
+    }
+}
+
+// The room is filled again where all of it is read. A read that fails counts as the end of the input.
+fn filled(room: &mut [u8; 65536], from: Place) -> Place {
+    if from.cut || from.at < from.end {
+        return from;
+    }
+    let got = libc::read(STDIN_FILENO, room);
+    let n = io::count(got, room);
+    Place {
+        at: 0,
+        end: n,
+        cut: n == 0,
+    }
+}
+
+// The next byte.
+pub fn next_byte(room: &mut [u8; 65536], from: Place) -> Byte {
+    let p = filled(room, from);
+    let at = p.at;
+    if at < p.end && at < 65536 {
+        let next = Place {
+            at: at + 1,
+            end: p.end,
+            cut: p.cut,
+        };
+        return Byte {
+            value: room[at],
+            place: next,
+        };
+    }
+    let over = Place {
+        at,
+        end: p.end,
+        cut: true,
+    };
+    Byte {
+        value: 0,
+        place: over,
+    }
+}
+
+// The next two bytes, the low one first.
+pub fn next_u16(room: &mut [u8; 65536], from: Place) -> Short {
+    let low = next_byte(room, from);
+    let middle = low.place;
+    let high = next_byte(room, middle);
+    let place = high.place;
+    Short {
+        value: two(low.value, high.value),
+        place,
+    }
+}
+
+// The next four bytes, the lowest first.
+pub fn next_u32(room: &mut [u8; 65536], from: Place) -> Long {
+    let low = next_u16(room, from);
+    let middle = low.place;
+    let high = next_u16(room, middle);
+    let place = high.place;
+    Long {
+        value: four(low.value, high.value),
+        place,
+    }
+}
+
+fn two(low: u8, high: u8) -> u16
+    ensures { λ r. ⌜ r ≡ low + high * 256 ⌝ }
+{
+    (low as u16) + (high as u16) * 256
+}
+
+fn four(low: u16, high: u16) -> u32
+    ensures { λ r. ⌜ r ≡ low + high * 65536 ⌝ }
+{
+    (low as u32) + (high as u32) * 65536
+}
+
+// As many bytes as are lent.
+pub fn next_bytes(room: &mut [u8; 65536], from: Place, into: &mut [u8]) -> Place {
+    let mut p = from;
+    let mut i = 0;
+    while i < into.len() {
+        let b = next_byte(room, p);
+        into[i] = b.value;
+        p = b.place;
+        i += 1;
+    }
+    p
+}
+
+// As many signed samples of two bytes as are lent.
+pub fn next_samples(room: &mut [u8; 65536], from: Place, into: &mut [i16]) -> Place {
+    let mut p = from;
+    let mut i = 0;
+    while i < into.len() {
+        let b = next_u16(room, p);
+        let s = records::signed16(b.value);
+        into[i] = s;
+        p = b.place;
+        i += 1;
+    }
+    p
+}

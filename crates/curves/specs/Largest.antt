@@ -1,0 +1,6 @@
+-- The largest whole number with a property.
+use Prim.Native.Nat.{ℕ, _≤_}
+
+pub record Largest (P : ℕ → Type 0) (n : ℕ) : Type 0 where
+  pub holds : P n
+  pub most : (m : ℕ) → P m → m ≤ n

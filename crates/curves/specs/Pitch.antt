@@ -1,0 +1,27 @@
+-- 01, "From a key to layers" (bend, the pitch total's hold) and "Tables and steps" (step).
+use Prim.Native.Nat.{ℕ, _-_, _*_, _/_, _%_, _^_}
+use lib.IntN.{ℤ, pos, negsuc, natAbs, _+ℤ_, _-ℤ_, _*ℤ_}
+use Rattle.arith.specs.Floor.{floorZ}
+use Rattle.arith.specs.Over.{heldTo}
+use lib.ListN.{getD}
+use Rattle.curves.specs.Octaves.{octaves}
+
+-- floor((bend - 8,192) * 25 / 1,024)
+unfoldable pub bendCents : ℕ → ℤ
+bendCents bend = floorZ ((pos bend -ℤ pos 8192) *ℤ pos 25) 1024
+
+-- a pitch total, held to -9,600..4,800
+abbrev pub pitchHeld : ℤ → ℤ
+pitchHeld cents = heldTo (negsuc 9599) (pos 4800) cents
+
+-- cents above -9,600, as the table of steps counts them
+abbrev pub lifted : ℤ → ℕ
+lifted cents = natAbs (cents +ℤ pos 9600)
+
+-- floor(T * rate / (44,100 * 2^(6 - o))) for the pitch c - 9,600 = 1,200 * o + i: c / 1,200 is o + 8, and c % 1,200 is i
+unfoldable pub stepOf : ℕ → ℕ → ℕ
+stepOf c rate = getD octaves (c % 1200) 0 * rate / (44100 * 2 ^ (14 - c / 1200))
+
+-- the step of a pitch total before it is held, in 2^-24 samples
+unfoldable pub stepAt : ℤ → ℕ → ℕ
+stepAt cents rate = stepOf (lifted (pitchHeld cents)) rate

@@ -1,0 +1,27 @@
+-- The rule of the velocity table, for every velocity.
+use mathlib.Core.Bool.{Bool}
+use Prim.Native.Nat.{ℕ, zero, suc, _*_, _^_, _≤_}
+use native.Mathlib.Nat.{not-suc-le-zero, mul-le-mul-right, pow-le-pow-right}
+use lib.Dec.{T, lit<}
+use Rattle.curves.specs.Decibels.{cbOf}
+use Rattle.curves.specs.Largest.{Largest}
+use Rattle.curves.specs.LargestLaws.{fits, largest}
+use Rattle.curves.specs.Table.{every, at}
+use Rattle.curves.specs.VelocityList.{part0}
+
+raised : ℕ → ℕ → ℕ
+raised v a = 10 ^ a * v ^ 400
+
+right : ℕ → ℕ → Bool
+right i a = fits (raised (suc i)) (127 ^ 400) a
+
+whole : T (every right 0 part0)
+unfolding right raised
+whole = tt
+
+-- a is the largest whole number with 10^a * v^400 <= 127^400
+pub velocity-largest : (v : ℕ) → 1 ≤ v → v ≤ 127 → Largest (λ (a : ℕ). 10 ^ a * v ^ 400 ≤ 127 ^ 400) (cbOf v)
+unfolding cbOf right raised
+velocity-largest zero h k = absurd (not-suc-le-zero h)
+velocity-largest (suc i) h k =
+    largest (raised (suc i)) (127 ^ 400) (cbOf (suc i)) (λ x y l. mul-le-mul-right (suc i ^ 400) (pow-le-pow-right {n = 10} (lit< tt) l)) (at right part0 whole i k)

@@ -1,0 +1,64 @@
+-- Past its test, the channel is the old one with one part replaced.
+use mathlib.Core.Path.{_≡_, refl, sym, ap, _∙_}
+use Rattle.voice.specs.declared.Channel.{Channel}
+use Rattle.engine.specs.declared.Engine.{Engine}
+use Rattle.engine.specs.State.{channelAt, withChannel}
+use Rattle.engine.specs.Channels.{withBend}
+use Rattle.engine.specs.Answers.{done, pastBend}
+use Rattle.engine.specs.AnswerLaws.{refuses, passes, bend-low}
+use Rattle.engine.specs.Bend.{pitchBend}
+use borrow.Author.Needs.{needs}
+use Rattle.engine.proofs.channels.pitch_bend.Statement.{statement}
+use Rattle.engine.proofs.channels.pitch_bend.Tie as tie
+use Rattle.engine.proofs.channels.pitch_bend.Reads as reads
+use Rattle.engine.proofs.channels.pitch_bend.Lts as lts
+use Rattle.engine.proofs.channels.channel_of.Reads as channel-of-reads
+use Rattle.engine.proofs.answers.made.Reads as made-reads
+use Rattle.engine.proofs.answers.past_bend.Reads as past-bend-reads
+use Rattle.engine.proofs.answers.refuse.Reads as refuse-reads
+use Rattle.engine.proofs.channels.with_channel.Reads as with-channel-reads
+
+past-bend-requires : tie.Need-past-bend-requires
+past-bend-requires c κs = search needs
+
+refuse-requires : tie.Need-refuse-requires
+refuse-requires c κs = search needs
+
+returns : tie.Need-returns
+unfolding pitchBend
+returns c =
+    let a = c .before .before .before .args in
+    let p = c .before .before .past-bend in
+    c .refuse .ensures ∙ sym (refuses (pastBend (a .channel) (a .bend)) (a .e) _ (sym (p .ensures) ∙ c .before .if1 .taken))
+
+channel-of-requires : tie.Need-channel-of-requires
+channel-of-requires c κs = search needs
+
+with-channel-requires : tie.Need-with-channel-requires
+with-channel-requires c κs =
+    let a = c .before .before .before .args in
+    bend-low (a .channel) (a .bend) (sym (c .before .before .past-bend .ensures) ∙ c .before .if1 .left)
+
+made-requires : tie.Need-made-requires
+made-requires c κs = search needs
+
+returns-2 : tie.Need-returns-2
+unfolding pitchBend
+returns-2 c =
+    let k = c .before .before in
+    let a = k .before .before .before .args in
+    let q = sym (k .before .before .past-bend .ensures) ∙ k .before .if1 .left in
+    let put = ap (λ (x : Channel). withChannel (a .e) (a .channel) (withBend x (a .bend))) (k .channel-of .ensures) in
+    c .made .ensures ∙ ap (done 0) (c .before .with-channel .ensures ∙ put) ∙ sym (passes (pastBend (a .channel) (a .bend)) (a .e) _ q)
+
+pub pitch-bend-spec : {M : Type 1} → statement M
+pitch-bend-spec =
+    tie.close
+    (tie.spec
+    past-bend-requires
+    refuse-requires
+    returns
+    channel-of-requires
+    with-channel-requires
+    made-requires
+    returns-2)

@@ -1,0 +1,28 @@
+-- It is of the channel, and marked.
+use mathlib.Core.Path.{_≡_, refl, sym, ap, _∙_}
+use borrow.Author.Tests.{not-true, not-false}
+use Rattle.engine.specs.Controls.{pedalHeld}
+use borrow.Author.Needs.{needs}
+use Rattle.engine.proofs.keys.is_pedal_held.Statement.{statement}
+use Rattle.engine.proofs.keys.is_pedal_held.Tie as tie
+use Rattle.engine.proofs.keys.is_pedal_held.Reads as reads
+use Rattle.engine.proofs.keys.is_pedal_held.Lts as lts
+use Rattle.engine.proofs.slots.of_channel.Reads as of-channel-reads
+
+of-channel-requires : tie.Need-of-channel-requires
+of-channel-requires c κs = search needs
+
+returns : tie.Need-returns
+unfolding pedalHeld
+returns c =
+    let k = c .before .of-channel in
+    let e = sym (k .ensures) ∙ not-true (k .result) (c .if1 .taken) in simp e
+
+returns-2 : tie.Need-returns-2
+unfolding pedalHeld
+returns-2 c =
+    let k = c .before .before .of-channel in
+    let e = sym (k .ensures) ∙ not-false (k .result) (c .before .if1 .left) in simp e
+
+pub is-pedal-held-spec : {M : Type 1} → statement M
+is-pedal-held-spec = tie.close (tie.spec of-channel-requires returns returns-2)

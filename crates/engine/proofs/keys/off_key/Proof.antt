@@ -1,0 +1,32 @@
+-- Letting off the held ones of the key, as the pedal stands.
+use mathlib.Core.Path.{_≡_, refl, sym, ap, _∙_}
+use mathlib.Core.Bool.{Bool}
+use Rattle.engine.specs.declared.Whom.the-variants.{Key}
+use Rattle.engine.specs.NoteOff.{off, offKey}
+use Rattle.engine.specs.Whom.{offAll}
+use borrow.Author.Needs.{needs}
+use Rattle.engine.proofs.keys.off_key.Statement.{statement}
+use Rattle.engine.proofs.keys.off_key.Tie as tie
+use Rattle.engine.proofs.keys.off_key.Reads as reads
+use Rattle.engine.proofs.keys.off_key.Lts as lts
+use Rattle.curves.proofs.gains.Reads as gains-reads
+use Rattle.engine.proofs.keys.is_down.Reads as is-down-reads
+use Rattle.engine.proofs.keys.off_all.Reads as off-all-reads
+
+gains-requires : tie.Need-gains-requires
+gains-requires c κs = search needs
+
+is-down-requires : tie.Need-is-down-requires
+is-down-requires c κs = search needs
+
+off-all-requires : tie.Need-off-all-requires
+off-all-requires c κs = search needs
+
+returns : tie.Need-returns
+unfolding off offKey offAll
+returns c =
+    let a = c .before .before .before .before .args in
+    c .off-all .ensures ∙ ap (λ (b : Bool). offAll (a .channel) (Key (a .key)) b (a .e)) (c .before .before .is-down .ensures)
+
+pub off-key-spec : {M : Type 1} → statement M
+off-key-spec = tie.close (tie.spec gains-requires is-down-requires off-all-requires returns)

@@ -1,0 +1,40 @@
+-- What is not picked stays.
+use mathlib.Core.Path.{_≡_, refl, sym, ap, _∙_}
+use borrow.Author.Tests.{not-true, not-false}
+use mathlib.Core.Bool.{Bool, true, cond}
+use Rattle.voice.specs.declared.Voice.{Voice}
+use Rattle.voice.specs.declared.Slot.{Slot}
+use Rattle.engine.specs.NoteOff.{withVoice, letOff}
+use Rattle.engine.specs.Whom.{picked}
+use Rattle.engine.specs.WhomLaws.{off-keeps}
+use borrow.Author.Needs.{needs}
+use Rattle.engine.proofs.keys.off_one.Statement.{statement}
+use Rattle.engine.proofs.keys.off_one.Tie as tie
+use Rattle.engine.proofs.keys.off_one.Reads as reads
+use Rattle.engine.proofs.keys.off_one.Lts as lts
+use Rattle.engine.proofs.keys.is_picked.Reads as is-picked-reads
+use Rattle.engine.proofs.keys.off_voice.Reads as off-voice-reads
+
+is-picked-requires : tie.Need-is-picked-requires
+is-picked-requires c κs = search needs
+
+returns : tie.Need-returns
+returns c =
+    let a = c .before .before .args in
+    let k = c .before .is-picked in
+    sym (off-keeps (a .down) (picked (a .channel) (a .whom)) (a .s) (sym (k .ensures) ∙ not-true (k .result) (c .if1 .taken)))
+
+off-voice-requires : tie.Need-off-voice-requires
+off-voice-requires c κs = search needs
+
+returns-2 : tie.Need-returns-2
+unfolding letOff
+returns-2 c =
+    let b = c .before .before in
+    let a = b .before .before .args in
+    let k = b .before .is-picked in
+    let e = sym (k .ensures) ∙ not-false (k .result) (b .if1 .left) in
+    ap (withVoice (a .s)) (c .off-voice .ensures) ∙ simp e
+
+pub off-one-spec : {M : Type 1} → statement M
+off-one-spec = tie.close (tie.spec is-picked-requires returns off-voice-requires returns-2)

@@ -1,0 +1,147 @@
+// The voices that a key starts (01, "From a key to layers").
+ghost use mathlib.Core.Path.{_≡_};
+ghost use Rattle.curves.specs.Octaves.{octaves};
+ghost use Rattle.voice.specs.State.{blank};
+ghost use Rattle.layers.specs.Layers.{layerOf};
+ghost use Rattle.layers.specs.VoiceOf.{voiceBy, voiceOf, struckOf, voicesOf};
+use crate::Layer;
+use crate::Pair;
+use crate::Struck;
+use crate::layer_search::search;
+use crate::numbers::attenuation_of;
+use crate::numbers::class_of;
+use crate::numbers::keyed_time;
+use crate::numbers::pan_of;
+use crate::numbers::pitch_of;
+use crate::numbers::sustain_of;
+use crate::numbers::time_of;
+use crate::totals::added_values;
+use crate::totals::own_values;
+use crate::window::gap;
+use crate::window::mode_of;
+use crate::window::place_of;
+use crate::window::rate16;
+use records::Parts;
+use voice::Stage;
+use voice::Voice;
+
+// The four zones of a layer of preset h.
+fn layer_of(b: &[u8], m: Parts, h: u32, p: Pair) -> Layer
+    ensures { λ r. ⌜ r ≡ layerOf (now (b .entry)) m h p ⌝ }
+{
+    let zone = records::zone_at(b, m.presets, p.outer);
+    Layer {
+        preset: zone,
+        above: records::global_of(b, m.presets, h),
+        instrument: records::zone_at(b, m.instruments, p.inner),
+        beside: records::global_of(b, m.instruments, zone.link as u32),
+    }
+}
+
+// The sample that a layer names.
+fn sample_of(l: Layer) -> u32
+    ensures { λ r. ⌜ r ≡ l .instrument .link ⌝ }
+{
+    l.instrument.link as u32
+}
+
+// The voice that a layer starts.
+fn voice_by(
+    b: &[u8],
+    m: Parts,
+    l: Layer,
+    channel: u8,
+    key: u8,
+    velocity: u8,
+    t: &[u32; 1200],
+) -> Voice
+    requires { ⌜ now t ≡ octaves ⌝ }
+    ensures { λ r. ⌜ r ≡ voiceBy (now (b .entry)) m l channel key velocity ⌝ }
+{
+    let own = own_values(b, m, l);
+    let added = added_values(b, m, l);
+    let k = sample_of(l);
+    let start = place_of(b, m, &own, k, 20, 0, 4);
+    let header = records::root_byte(b, m, k);
+    let correction = records::correction_of(b, m, k);
+    Voice {
+        stage: Stage::Delay {
+            left: curves::short_frames(t, time_of(&own, &added, 33)),
+        },
+        place: 0,
+        channel,
+        key,
+        velocity,
+        marked: false,
+        class: class_of(&own),
+        rom: records::rom_of(b, m, k),
+        start,
+        end: place_of(b, m, &own, k, 24, 1, 12),
+        mode: mode_of(&own),
+        loopfrom: gap(start, place_of(b, m, &own, k, 28, 2, 45)),
+        loopto: gap(start, place_of(b, m, &own, k, 32, 3, 50)),
+        rate: rate16(records::rate_of(b, m, k)),
+        pitch: pitch_of(&own, &added, key, header, correction),
+        pan: pan_of(&own, &added),
+        attenuation: attenuation_of(&own, &added, velocity),
+        attack: curves::long_frames(t, time_of(&own, &added, 34)),
+        hold: curves::short_frames(t, keyed_time(&own, &added, key, 35, 39)),
+        decay: curves::long_frames(t, keyed_time(&own, &added, key, 36, 40)),
+        sustain: sustain_of(&own, &added),
+        release: curves::long_frames(t, time_of(&own, &added, 38)),
+    }
+}
+
+// The voice of zeros.
+fn silent() -> Voice
+    ensures { λ r. ⌜ r ≡ blank ⌝ }
+{
+    Voice {
+        stage: Stage::Delay { left: 0 },
+        place: 0,
+        channel: 0,
+        key: 0,
+        velocity: 0,
+        marked: false,
+        class: 0,
+        rom: false,
+        start: 0,
+        end: 0,
+        mode: 0,
+        loopfrom: 0,
+        loopto: 0,
+        rate: 0,
+        pitch: 0,
+        pan: 0,
+        attenuation: 0,
+        attack: 0,
+        hold: 0,
+        decay: 0,
+        sustain: 0,
+        release: 0,
+    }
+}
+
+// The voices that preset h starts for channel, key and velocity, in order.
+pub fn voices_for(b: &[u8], m: Parts, h: u32, channel: u8, key: u8, velocity: u8) -> Struck
+    ensures { λ r. ⌜ r ≡ struckOf (voicesOf (now (b .entry)) m h channel key velocity) ⌝ }
+{
+    let found = search(b, m, key, velocity, h);
+    let none = silent();
+    let mut voices = [none; 32];
+    let count = found.count;
+    if 32 < count {
+        return Struck { count, voices };
+    }
+    let t = curves::octaves();
+    let n = count as usize;
+    let mut i: usize = 0;
+    while i < n {
+        let p = found.pairs[i];
+        let l = layer_of(b, m, h, p);
+        let v = voice_by(b, m, l, channel, key, velocity, &t);
+        voices[i] = v;
+        i = i + 1;
+    }
+    Struck { count, voices }
+}

@@ -1,0 +1,104 @@
+// The lines of each function, over its list of arguments.
+ghost use Rattle.curves.specs.Gains.{gains};
+ghost use Rattle.curves.specs.Octaves.{octaves};
+ghost use mathlib.Core.Path.{_≡_};
+use crate::line::line;
+use crate::line::print_signed;
+use crate::line::signed_line;
+use crate::lists::bend_at;
+use crate::lists::cents_at;
+use crate::lists::level_at;
+use crate::lists::rate_at;
+use crate::lists::time_at;
+
+fn step_line(t: &[u32; 1200], cents: i32, rate: u16)
+    requires { ⌜ now t ≡ octaves ⌝ }
+{
+    io::write_all(1, b"step ");
+    print_signed(cents);
+    line(b" ", rate as i32, curves::step(t, cents, rate));
+}
+
+fn steps_at(t: &[u32; 1200], cents: i32)
+    requires { ⌜ now t ≡ octaves ⌝ }
+{
+    let mut i: usize = 0;
+    while i < 10 {
+        step_line(t, cents, rate_at(i));
+        i = i + 1;
+    }
+}
+
+pub fn steps(t: &[u32; 1200])
+    requires { ⌜ now t ≡ octaves ⌝ }
+{
+    let mut i: usize = 0;
+    while i < 161 {
+        steps_at(t, cents_at(i));
+        i = i + 1;
+    }
+}
+
+fn time_lines(t: &[u32; 1200], time: i32)
+    requires { ⌜ now t ≡ octaves ⌝ }
+{
+    line(b"frames ", time, curves::long_frames(t, time));
+    line(b"frames5000 ", time, curves::short_frames(t, time));
+}
+
+pub fn times(t: &[u32; 1200])
+    requires { ⌜ now t ≡ octaves ⌝ }
+{
+    let mut i: usize = 0;
+    while i < 175 {
+        time_lines(t, time_at(i));
+        i = i + 1;
+    }
+}
+
+pub fn gains(g: &[u32; 1441])
+    requires { ⌜ now g ≡ gains ⌝ }
+{
+    let mut a: u32 = 0;
+    while a < 1446 {
+        line(b"gain ", a as i32, curves::gain(g, a as u64));
+        a = a + 1;
+    }
+}
+
+pub fn attenuations(name: &[u8], first: u8) {
+    let mut v = first;
+    while v < 128 {
+        line(name, v as i32, curves::cb_of(v) as u32);
+        v = v + 1;
+    }
+}
+
+fn level_line(g: &[u32; 1441], level: u32)
+    requires { ⌜ now g ≡ gains ⌝ }
+{
+    io::write_all(1, b"least ");
+    io::print_decimal(1, level as u64);
+    io::write_all(1, b" = ");
+    io::print_decimal(1, curves::least_cb(g, level) as u64);
+    io::write_all(1, b"\n");
+}
+
+pub fn levels(g: &[u32; 1441])
+    requires { ⌜ now g ≡ gains ⌝ }
+{
+    let mut i: usize = 0;
+    while i < 109 {
+        level_line(g, level_at(i));
+        i = i + 1;
+    }
+}
+
+pub fn bends() {
+    let mut i: usize = 0;
+    while i < 406 {
+        let bend = bend_at(i);
+        signed_line(b"bend ", bend, curves::bend_cents(bend));
+        i = i + 1;
+    }
+}

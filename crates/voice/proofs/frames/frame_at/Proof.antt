@@ -1,0 +1,139 @@
+use Rattle.voice.specs.declared.Framed.{Framed}
+use Rattle.voice.specs.declared.Slot.{Slot}
+use Rattle.voice.specs.Sound.{leftOf, rightOf}
+use borrow.Author.Needs.{sfits-of}
+use mir.Facts.{toZ-ofZ}
+use mir.Syntax.{w64, w32, w16}
+use Prim.Native.Nat.{ℕ, _+_, _<_}
+use Rattle.voice.specs.StageLaws.{Room, Narrow, alive-room}
+use Rattle.voice.specs.Frame.{silent, loud, goOn, played}
+use Rattle.voice.specs.State.{withMoved, sounds}
+use Rattle.voice.specs.Stages.{entered, dead, waiting, spent}
+use Rattle.voice.specs.declared.Voice.{Voice}
+use Rattle.voice.specs.declared.Stage.{Stage}
+use lib.Dec.{lit<, lit≤}
+use Rattle.arith.specs.Within.{Within, w-nat, w-back}
+use borrow.Author.Tests.{not-true, not-false}
+use lib.IntN.{ℤ, pos}
+use Rattle.voice.specs.FrameLaws.{frame-free, frame-on, living-dead, living-waits, living-plays}
+use native.Mathlib.Omega.{arith}
+use mathlib.Core.Path.{ap₂}
+use mathlib.Core.Path.{_≡_, refl, sym, ap, _∙_, subst}
+use borrow.Author.Needs.{needs}
+use Rattle.voice.proofs.frames.frame_at.Statement.{statement}
+use Rattle.voice.proofs.frames.frame_at.Tie as tie
+
+zero-in : Within (pos 0) 25600003
+zero-in = w-nat (lit≤ tt)
+
+-- the stage that is entered alive has room
+room : (c : tie.Else2) → Room (c .before .before .enter .result)
+room c = let d = c .before in d .before .enter .ensures .1 (sym (d .is-dead .ensures) ∙ c .if2 .left)
+
+framed : {s s′ : Slot} {l l′ r r′ : ℤ} → s ≡ s′ → l ≡ l′ → r ≡ r′ →
+    _≡_ {A = Framed} (record { slot = s; left = l; right = r }) (record { slot = s′; left = l′; right = r′ })
+framed p q r = cc
+
+returns : tie.Need-returns
+returns c = let k = c .before .before in
+    (sym (frame-free (k .args .st) (k .args .l) (k .args .w .now) (k .args .s) (not-true (k .args .s .sounding) (c .if1 .taken))), zero-in, zero-in)
+
+enter-requires : tie.Need-enter-requires
+enter-requires c κs = search needs
+
+is-dead-requires : tie.Need-is-dead-requires
+is-dead-requires c κs = search needs
+
+returns-2 : tie.Need-returns-2
+returns-2 c = let d = c .before in
+    let k = d .before .before .before .before .before in
+    let w = k .args .w .now in
+    let st = k .args .st in
+    let l = k .args .l in
+    let s = k .args .s in
+    let v = s .voice in
+    let on = frame-on st l w s (not-false (s .sounding) (d .before .before .before .if1 .left)) in
+    let e = d .before .enter .ensures .0 in
+    let t = sym (ap (dead v) e) ∙ sym (d .is-dead .ensures) ∙ c .if2 .taken in
+    (sym (on ∙ living-dead st l w v (entered v (v .stage)) t), zero-in, zero-in)
+
+is-waiting-requires : tie.Need-is-waiting-requires
+is-waiting-requires c κs = search needs
+
+age-requires : tie.Need-age-requires
+age-requires c κs = room (c .before .before)
+
+with-moved-requires : tie.Need-with-moved-requires
+with-moved-requires c κs = search needs
+
+returns-3 : tie.Need-returns-3
+returns-3 c = let d = c .before .before .before .before .before in
+    let k = d .before .before .before .before .before in
+    let w = k .args .w .now in
+    let st = k .args .st in
+    let l = k .args .l in
+    let s = k .args .s in
+    let v = s .voice in
+    let on = frame-on st l w s (not-false (s .sounding) (d .before .before .before .if1 .left)) in
+    let e = d .before .enter .ensures .0 in
+    let t = sym (ap (dead v) e) ∙ sym (d .is-dead .ensures) ∙ c .before .before .before .before .if2 .left in
+    let u = sym (ap waiting e) ∙ sym (c .before .before .before .is-waiting .ensures) ∙ c .before .before .if3 .taken in
+    let m = c .with-moved .ensures ∙ ap (λ (x : Stage). withMoved v x (v .place) (v .marked)) (c .before .age .ensures ∙ ap spent e) in
+    (ap (λ (x : Voice). silent (sounds x)) m ∙ sym (on ∙ living-waits st l w v (entered v (v .stage)) t u), zero-in, zero-in)
+
+loud-of-requires : tie.Need-loud-of-requires
+loud-of-requires c κs = search needs
+
+to-left-requires : tie.Need-to-left-requires
+to-left-requires c κs = search needs
+
+to-right-requires : tie.Need-to-right-requires
+to-right-requires c κs = search needs
+
+go-on-requires : tie.Need-go-on-requires
+go-on-requires c κs = room (c .before .before .before .before .before .before .before)
+
+returns-4 : tie.Need-returns-4
+unfolding played
+returns-4 c = let d = c .before .before .before .before .before .before .before .before .before in
+    let k = d .before .before .before .before .before in
+    let w = k .args .w .now in
+    let st = k .args .st in
+    let l = k .args .l in
+    let s = k .args .s in
+    let v = s .voice in
+    let on = frame-on st l w s (not-false (s .sounding) (d .before .before .before .if1 .left)) in
+    let e = d .before .enter .ensures .0 in
+    let x = c .before .before .before .before .before .before .before .before in
+    let t = sym (ap (dead v) e) ∙ sym (d .is-dead .ensures) ∙ x .if2 .left in
+    let n = c .before .before .before .before .before .before in
+    let u = sym (ap waiting e) ∙ sym (n .before .is-waiting .ensures) ∙ n .if3 .left in
+    let g = c .before .before .before .before .before .loud-of in
+    let a = c .before .before .before .to-left in
+    let b = c .before .to-right in
+    let loudness = rw (w-back w64 (k .pre .1) (lit< tt)) at (g .ensures .0) ∙ ap (loud l w v) e in
+    let back = w-back w64 (g .ensures .1) (lit< tt) in
+    let pan = toZ-ofZ {w = w16} {z = v .pan} (sfits-of (k .good .1 .1 .1 .1 .0 .1 .1 .1 .0 .1 .1 .1 .1 .1 .1 .1 .1 .1 .1 .1 .1 .1 .1 .1 .1 .1 .0 .1)) in
+    let left = rw (back, pan) at (a .ensures .0) ∙ ap (λ (z : ℤ). leftOf z (v .pan)) loudness in
+    let right = rw (back, pan) at (b .ensures .0) ∙ ap (λ (z : ℤ). rightOf z (v .pan)) loudness in
+    let slot = c .go-on .ensures ∙ ap (λ (y : Stage). goOn v y (v .place + st)) e in
+    rw (w-back w32 (a .ensures .1) (lit< tt), w-back w32 (b .ensures .1) (lit< tt))
+    (framed slot left right ∙ sym (on ∙ living-plays st l w v (entered v (v .stage)) t u), a .ensures .1, b .ensures .1)
+
+pub frame-at-spec : {M : Type 1} → statement M
+frame-at-spec =
+    tie.close
+    (tie.spec
+    returns
+    enter-requires
+    is-dead-requires
+    returns-2
+    is-waiting-requires
+    age-requires
+    with-moved-requires
+    returns-3
+    loud-of-requires
+    to-left-requires
+    to-right-requires
+    go-on-requires
+    returns-4)

@@ -1,0 +1,31 @@
+use lib.Dec.{lit<, lit≤}
+use lib.IntN.{ℤ, pos}
+use mir.Syntax.{w64}
+use Rattle.arith.specs.Within.{Within, w-nat, w-le}
+use Rattle.arith.specs.Expr.{E, Var, var, lit, add, sub, mul, shr, given, fits, back, within}
+use mathlib.Core.List.{List, [], _∷_}
+use mathlib.Core.Path.{_≡_, refl, sym, ap, _∙_, subst}
+use borrow.Author.Needs.{needs}
+use Rattle.voice.proofs.sound.scaled_by.Statement.{statement}
+use Rattle.voice.proofs.sound.scaled_by.Tie as tie
+
+abbrev env : tie.Start → List Var
+env c = given (c .pre .0) ∷ given (w-nat (c .pre .1)) ∷ []
+
+abbrev product : E
+product = mul (var 0) (var 1)
+
+abbrev whole : E
+whole = shr product 16
+
+cast-result : tie.Need-cast-result
+cast-result c = search needs
+
+mul-result : tie.Need-mul-result
+mul-result c = fits w64 (env c) product tt
+
+returns : tie.Need-returns
+returns c = let e = back w64 (env c) whole tt in (e, rw e (w-le (within whole (env c)) (lit≤ tt)))
+
+pub scaled-by-spec : {M : Type 1} → statement M
+scaled-by-spec = tie.close (tie.spec cast-result mul-result returns)

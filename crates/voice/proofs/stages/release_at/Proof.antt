@@ -1,0 +1,30 @@
+use Rattle.voice.specs.Stages.{releaseAt}
+use Prim.Native.Nat.{ℕ, _≤_, _<_, _*_, _/_}
+use mathlib.Core.Path.{_≡_, refl, sym, ap, _∙_}
+use native.Mathlib.Nat.{min-eq-left, min-eq-right, div-le-self, div-zero, mul-zero}
+use native.Mathlib.Omega.{arith}
+use borrow.Author.Tests.{eq-eqb, ne-eqb, le-leb, lt-leb, le-ltb, lt-ltb}
+use borrow.Author.Needs.{needs}
+use Rattle.voice.proofs.stages.release_at.Statement.{statement}
+use Rattle.voice.proofs.stages.release_at.Tie as tie
+
+returns : tie.Need-returns
+unfolding releaseAt
+returns c = (simp (eq-eqb _ _ (c .if1 .taken)), omega arith)
+
+mul-result : tie.Need-mul-result
+mul-result c = search needs
+
+div-result : tie.Need-div-result
+div-result c = search needs
+
+add-result : tie.Need-add-result
+add-result c = let a = c .before .args in omega (arith, div-le-self (1000 * a .t) (a .n))
+
+returns-2 : tie.Need-returns-2
+unfolding releaseAt
+returns-2 c = let a = c .before .args in
+    (simp (ne-eqb (a .n) 0 (c .if1 .left)), omega (arith, div-le-self (1000 * a .t) (a .n)))
+
+pub release-at-spec : {M : Type 1} → statement M
+release-at-spec = tie.close (tie.spec returns mul-result div-result add-result returns-2)

@@ -1,0 +1,117 @@
+// Sound: attenuation, gain, the attack's level, left and right.
+ghost use mathlib.Core.Path.{_≡_};
+ghost use Prim.Native.Nat.{_≤_, _<_};
+ghost use lib.IntN.{pos, _+ℤ_, _*ℤ_};
+ghost use Rattle.arith.specs.Within.{Within};
+ghost use Rattle.arith.specs.Floor.{floorZ};
+ghost use Rattle.curves.specs.Gains.{gains};
+ghost use Rattle.curves.specs.Decibels.{cbOf};
+ghost use Rattle.voice.specs.Sound.{total, shaped, panOf, leftOf, rightOf};
+ghost use Rattle.voice.specs.Frame.{loud};
+use crate::Stage;
+use crate::Voice;
+use crate::motion::is_folding;
+use crate::reading::read;
+use crate::stages::envelope_of;
+use crate::stages::level_at;
+use arith::biased_1000;
+use curves::cb_of;
+use curves::gain;
+
+fn added(a: i32, x: u16, y: u16) -> i64
+    ensures { λ r. ⌜ (r ≡ a +ℤ pos x +ℤ pos y) × Within r 1099511627776 ⌝ }
+{
+    a as i64 + x as i64 + y as i64
+}
+
+// Generator 48 and velocity, 7 and 11.
+pub fn loss_of(v: Voice, volume: u8, expression: u8) -> i64
+    ensures { λ r. ⌜ (r ≡ v .attenuation +ℤ pos (cbOf volume) +ℤ pos (cbOf expression)) × Within r 1099511627776 ⌝ }
+{
+    let x = cb_of(volume);
+    let y = cb_of(expression);
+    added(v.attenuation, x, y)
+}
+
+// The attenuation, at least 0.
+fn total_of(l: i64, e: u64) -> u64
+    requires { ⌜ Within l 1099511627776 × (e < 8796093022208) ⌝ }
+    ensures { λ r. ⌜ r ≡ total l e ⌝ }
+{
+    let a = l + (e as i64);
+    if a < 0 { 0 } else { a as u64 }
+}
+
+// floor(x * g / 2^16)
+fn scaled_by(x: i64, g: u32) -> i64
+    requires { ⌜ Within x 100000 × (g ≤ 16777216) ⌝ }
+    ensures { λ r. ⌜ (r ≡ floorZ (x *ℤ pos g) 65536) × Within r 25600001 ⌝ }
+{
+    (x * (g as i64)) >> 16
+}
+
+// floor(u * level / 2^24)
+fn at_level(u: i64, g: u32) -> i64
+    requires { ⌜ Within u 25600001 × (g ≤ 16777216) ⌝ }
+    ensures { λ r. ⌜ (r ≡ floorZ (u *ℤ pos g) 16777216) × Within r 25600002 ⌝ }
+{
+    (u * (g as i64)) >> 24
+}
+
+// In attack, at its level.
+fn shape(v: Voice, s: Stage, u: i64) -> i64
+    requires { ⌜ Within u 25600001 ⌝ }
+    ensures { λ r. ⌜ (r ≡ shaped v s u) × Within r 25600002 ⌝ }
+{
+    match s {
+        Stage::Delay { left: _ } => u,
+        Stage::Attack { t } => at_level(u, level_at(v.attack, t)),
+        Stage::Hold { t: _ } => u,
+        Stage::Decay { t: _ } => u,
+        Stage::Sustain => u,
+        Stage::Release { from: _, t: _ } => u,
+    }
+}
+
+// The pan, held to -500..500.
+fn pan_of(p: i16) -> i64
+    ensures { λ r. ⌜ (r ≡ panOf p) × Within r 500 ⌝ }
+{
+    if p < -500 {
+        return -500;
+    }
+    if 500 < p {
+        return 500;
+    }
+    p as i64
+}
+
+// floor(u * (500 - p) / 1,000)
+pub fn to_left(u: i64, p: i16) -> i32
+    requires { ⌜ Within u 25600002 ⌝ }
+    ensures { λ r. ⌜ (r ≡ leftOf u p) × Within r 25600003 ⌝ }
+{
+    let q = pan_of(p);
+    biased_1000(u * (500 - q)) as i32
+}
+
+// floor(u * (500 + p) / 1,000)
+pub fn to_right(u: i64, p: i16) -> i32
+    requires { ⌜ Within u 25600002 ⌝ }
+    ensures { λ r. ⌜ (r ≡ rightOf u p) × Within r 25600003 ⌝ }
+{
+    let q = pan_of(p);
+    biased_1000(u * (500 + q)) as i32
+}
+
+// The reading at its gain, and in attack at its level.
+pub fn loud_of(l: i64, g: &[u32; 1441], w: &[i16], v: Voice, s: Stage) -> i64
+    requires { ⌜ (now g ≡ gains) × Within l 1099511627776 ⌝ }
+    ensures { λ r. ⌜ (r ≡ loud l (now (w .entry)) v s) × Within r 25600002 ⌝ }
+{
+    let f = is_folding(v, s);
+    let x = read(f, v.loopfrom, v.loopto, w, v.place);
+    let a = total_of(l, envelope_of(v, s));
+    let u = scaled_by(x, gain(g, a));
+    shape(v, s, u)
+}

@@ -1,0 +1,176 @@
+// Stages: the envelope, the attack's level, leaving spent stages, one frame more spent.
+ghost use mathlib.Core.Path.{_≡_};
+ghost use Prim.Native.Nat.{_-_, _≤_, _<_};
+ghost use Rattle.voice.specs.StageLaws.{Room, Roomy};
+ghost use Rattle.voice.specs.Stages.{levelAt, decayAt, releaseAt, envelope, fromDecay, fromHold, fromAttack, fromDelay, entered, dead, waiting, released, spent};
+use crate::Stage;
+use crate::Voice;
+
+// The attack's level in frame t of n.
+pub fn level_at(n: u32, t: u32) -> u32
+    ensures { λ r. ⌜ (r ≡ levelAt n t) × (r ≤ 16777216) ⌝ }
+{
+    if n == 0 {
+        return 0;
+    }
+    let q = 16777216 * (t as u64) / (n as u64);
+    if q < 16777216 { q as u32 } else { 16777216 }
+}
+
+// The decay's cB in frame t of n.
+pub fn decay_at(n: u32, z: u16, t: u32) -> u16
+    ensures { λ r. ⌜ r ≡ decayAt n z t ⌝ }
+{
+    if n == 0 {
+        return z;
+    }
+    let q = 1000 * (t as u64) / (n as u64);
+    if q < (z as u64) { q as u16 } else { z }
+}
+
+// The release's cB in frame t of n, from a.
+pub fn release_at(n: u32, a: u16, t: u32) -> u64
+    ensures { λ r. ⌜ (r ≡ releaseAt n a t) × (r < 8796093022208) ⌝ }
+{
+    if n == 0 {
+        return 1000;
+    }
+    (a as u64) + 1000 * (t as u64) / (n as u64)
+}
+
+pub fn wide(x: u16) -> u64
+    ensures { λ r. ⌜ r ≡ x ⌝ }
+{
+    x as u64
+}
+
+// The envelope's cB.
+pub fn envelope_of(v: Voice, s: Stage) -> u64
+    ensures { λ r. ⌜ (r ≡ envelope v s) × (r < 8796093022208) ⌝ }
+{
+    match s {
+        Stage::Delay { left: _ } => 0,
+        Stage::Attack { t: _ } => 0,
+        Stage::Hold { t: _ } => 0,
+        Stage::Decay { t } => wide(decay_at(v.decay, v.sustain, t)),
+        Stage::Sustain => wide(v.sustain),
+        Stage::Release { from, t } => release_at(v.release, from, t),
+    }
+}
+
+fn from_decay(v: Voice, t: u32) -> Stage
+    ensures { λ r. ⌜ r ≡ fromDecay v t ⌝ }
+{
+    if v.sustain <= decay_at(v.decay, v.sustain, t) {
+        Stage::Sustain
+    } else {
+        Stage::Decay { t }
+    }
+}
+
+fn from_hold(v: Voice, t: u32) -> Stage
+    ensures { λ r. ⌜ r ≡ fromHold v t ⌝ }
+{
+    if v.hold <= t {
+        from_decay(v, 0)
+    } else {
+        Stage::Hold { t }
+    }
+}
+
+fn from_attack(v: Voice, t: u32) -> Stage
+    ensures { λ r. ⌜ r ≡ fromAttack v t ⌝ }
+{
+    if v.attack <= t {
+        from_hold(v, 0)
+    } else {
+        Stage::Attack { t }
+    }
+}
+
+fn from_delay(v: Voice, left: u32) -> Stage
+    ensures { λ r. ⌜ r ≡ fromDelay v left ⌝ }
+{
+    if left == 0 {
+        from_attack(v, 0)
+    } else {
+        Stage::Delay { left }
+    }
+}
+
+// Spent stages are left.
+pub fn enter(v: Voice, s: Stage) -> Stage
+    ensures { λ r. ⌜ (r ≡ entered v s) × Roomy v r ⌝ }
+{
+    match s {
+        Stage::Delay { left } => from_delay(v, left),
+        Stage::Attack { t } => from_attack(v, t),
+        Stage::Hold { t } => from_hold(v, t),
+        Stage::Decay { t } => from_decay(v, t),
+        Stage::Sustain => Stage::Sustain,
+        Stage::Release { from, t } => Stage::Release { from, t },
+    }
+}
+
+// The envelope has died away.
+pub fn is_dead(v: Voice, s: Stage) -> bool
+    ensures { λ r. ⌜ r ≡ dead v s ⌝ }
+{
+    match s {
+        Stage::Delay { left: _ } => false,
+        Stage::Attack { t: _ } => false,
+        Stage::Hold { t: _ } => false,
+        Stage::Decay { t } => 1000 <= decay_at(v.decay, v.sustain, t),
+        Stage::Sustain => 1000 <= v.sustain,
+        Stage::Release { from, t } => 1000 <= release_at(v.release, from, t),
+    }
+}
+
+pub fn is_waiting(s: Stage) -> bool
+    ensures { λ r. ⌜ r ≡ waiting s ⌝ }
+{
+    match s {
+        Stage::Delay { left: _ } => true,
+        Stage::Attack { t: _ } => false,
+        Stage::Hold { t: _ } => false,
+        Stage::Decay { t: _ } => false,
+        Stage::Sustain => false,
+        Stage::Release { from: _, t: _ } => false,
+    }
+}
+
+pub fn is_released(s: Stage) -> bool
+    ensures { λ r. ⌜ r ≡ released s ⌝ }
+{
+    match s {
+        Stage::Delay { left: _ } => false,
+        Stage::Attack { t: _ } => false,
+        Stage::Hold { t: _ } => false,
+        Stage::Decay { t: _ } => false,
+        Stage::Sustain => false,
+        Stage::Release { from: _, t: _ } => true,
+    }
+}
+
+fn less_one(n: u32) -> u32
+    ensures { λ r. ⌜ r ≡ n - 1 ⌝ }
+{
+    if n == 0 { 0 } else { n - 1 }
+}
+
+// One frame more spent.
+pub fn age(s: Stage) -> Stage
+    requires { ⌜ Room s ⌝ }
+    ensures { λ r. ⌜ r ≡ spent s ⌝ }
+{
+    match s {
+        Stage::Delay { left } => Stage::Delay {
+            left: less_one(left),
+        },
+        Stage::Attack { t } => Stage::Attack { t: t + 1 },
+        Stage::Hold { t } => Stage::Hold { t: t + 1 },
+        Stage::Decay { t } => Stage::Decay { t: t + 1 },
+        Stage::Sustain => Stage::Sustain,
+        Stage::Release { from, t } => Stage::Release { from, t: t + 1 },
+    }
+}

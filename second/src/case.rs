@@ -1,0 +1,293 @@
+//! Case files and traces: commands are read from a case as it is played, and each call writes a line of the trace.
+
+use crate::bank_admission::{admit, list, Bank, Fault};
+use crate::slots_keys_clock::{Answer, Engine, Lent, BANK_NOT_ADMITTED};
+use crate::tables_and_steps::{tables, Tables};
+use crate::voice::{Stage, Voice};
+use std::io::{self, ErrorKind, Read, Write};
+
+/// What there is room for.
+pub const BANK_ROOM: u32 = 66_000;
+pub const MEMORY_ROOM: u32 = 65_536;
+pub const OUTPUT_ROOM: u32 = 8_448;
+
+/// What each number of a render's output holds before the call.
+const BEFORE: u32 = 0x1234_5678;
+
+/// Why a run ends: the case is damaged, or reading or writing failed.
+pub enum Stop {
+    Bad,
+    Failed(io::Error),
+}
+
+impl From<io::Error> for Stop {
+    /// A command that is cut off is a damaged case, and no failure of reading.
+    fn from(error: io::Error) -> Stop {
+        match error.kind() {
+            ErrorKind::UnexpectedEof => Stop::Bad,
+            _ => Stop::Failed(error),
+        }
+    }
+}
+
+/// The numbers of a command, little-endian.
+pub struct Commands<R: Read> {
+    pub input: R,
+}
+
+impl<R: Read> Commands<R> {
+    /// The next command's letter, nothing at the end of the case.
+    pub fn letter(&mut self) -> Result<Option<u8>, Stop> {
+        match self.byte() {
+            Ok(letter) => Ok(Some(letter)),
+            Err(Stop::Bad) => Ok(None),
+            Err(failed) => Err(failed),
+        }
+    }
+
+    pub fn byte(&mut self) -> Result<u8, Stop> {
+        let mut bytes = [0; 1];
+        self.input.read_exact(&mut bytes)?;
+        Ok(bytes[0])
+    }
+
+    fn u16(&mut self) -> Result<u16, Stop> {
+        let mut bytes = [0; 2];
+        self.input.read_exact(&mut bytes)?;
+        Ok(u16::from_le_bytes(bytes))
+    }
+
+    fn u32(&mut self) -> Result<u32, Stop> {
+        let mut bytes = [0; 4];
+        self.input.read_exact(&mut bytes)?;
+        Ok(u32::from_le_bytes(bytes))
+    }
+
+    pub fn bytes(&mut self, count: usize) -> Result<Vec<u8>, Stop> {
+        let mut bytes = vec![0; count];
+        self.input.read_exact(&mut bytes)?;
+        Ok(bytes)
+    }
+
+    /// A length that may not be above what there is room for.
+    fn length(&mut self, room: u32) -> Result<usize, Stop> {
+        let length = self.u32()?;
+        if length > room {
+            return Err(Stop::Bad);
+        }
+        Ok(length as usize)
+    }
+
+    pub fn bank(&mut self) -> Result<Vec<u8>, Stop> {
+        let length = self.length(BANK_ROOM)?;
+        self.bytes(length)
+    }
+
+    fn memory(&mut self) -> Result<Vec<i16>, Stop> {
+        let length = self.length(MEMORY_ROOM)?;
+        let bytes = self.bytes(2 * length)?;
+        let pairs = bytes.chunks_exact(2);
+        Ok(pairs.map(|b| i16::from_le_bytes([b[0], b[1]])).collect())
+    }
+}
+
+/// A sample memory and how much of it is lent.
+#[derive(Default)]
+struct Memory {
+    samples: Vec<i16>,
+    lent: usize,
+}
+
+impl Memory {
+    fn new(samples: Vec<i16>) -> Memory {
+        let lent = samples.len();
+        Memory { samples, lent }
+    }
+
+    /// Only the first n samples are lent, at most all of them.
+    fn cut(&mut self, n: u32) {
+        self.lent = self.samples.len().min(n as usize);
+    }
+
+    fn part(&self) -> &[i16] {
+        &self.samples[..self.lent]
+    }
+}
+
+/// The engine and what is lent to it, as a case goes on.
+struct Player {
+    tables: &'static Tables,
+    engine: Engine,
+    bank: Result<Bank, Fault>,
+    ram: Memory,
+    rom: Memory,
+}
+
+/// Plays a case and writes its trace. A damaged case ends with the line `bad`.
+pub fn play(input: impl Read, output: impl Write) -> io::Result<()> {
+    let mut player = Player {
+        tables: tables(),
+        engine: Engine::fresh(0),
+        bank: admit(&[]),
+        ram: Memory::default(),
+        rom: Memory::default(),
+    };
+    run(input, output, |letter, commands| player.command(letter, commands))
+}
+
+/// Reads commands to the end and writes what each answers.
+pub fn run<R: Read>(
+    input: R,
+    mut output: impl Write,
+    mut command: impl FnMut(u8, &mut Commands<R>) -> Result<Vec<u8>, Stop>,
+) -> io::Result<()> {
+    let mut commands = Commands { input };
+    let stop = loop {
+        match commands.letter() {
+            Ok(None) => break None,
+            Ok(Some(letter)) => match command(letter, &mut commands) {
+                Ok(line) => output.write_all(&line)?,
+                Err(stop) => break Some(stop),
+            },
+            Err(stop) => break Some(stop),
+        }
+    };
+    match stop {
+        None => {}
+        Some(Stop::Bad) => output.write_all(b"bad\n")?,
+        Some(Stop::Failed(error)) => return Err(error),
+    }
+    output.flush()
+}
+
+/// The line of a t command: a case's name.
+pub fn name_line<R: Read>(commands: &mut Commands<R>) -> Result<Vec<u8>, Stop> {
+    let length = commands.byte()?;
+    let name = commands.bytes(length as usize)?;
+    Ok([b"t ", name.as_slice(), b"\n"].concat())
+}
+
+impl Player {
+    /// One command; the answer is its line, or nothing where it has none.
+    fn command<R: Read>(&mut self, letter: u8, c: &mut Commands<R>) -> Result<Vec<u8>, Stop> {
+        match letter {
+            b'B' => self.bank = admit(&c.bank()?),
+            b'M' => self.ram = Memory::new(c.memory()?),
+            b'O' => self.rom = Memory::new(c.memory()?),
+            b'm' => self.ram.cut(c.u32()?),
+            b'x' => self.rom.cut(c.u32()?),
+            b'F' => self.engine = Engine::fresh(c.u32()?),
+            b't' => return name_line(c),
+            _ => return self.call(letter, c).map(String::into_bytes),
+        }
+        Ok(Vec::new())
+    }
+
+    /// A command that is a call, and its line.
+    fn call<R: Read>(&mut self, letter: u8, c: &mut Commands<R>) -> Result<String, Stop> {
+        let answer = match letter {
+            b'a' => counted(self.admission()),
+            b'l' => self.listing(c.u32()?),
+            b'n' => counted(self.note_on(c.byte()?, c.byte()?, c.byte()?)),
+            b'o' => counted(self.engine.note_off(self.tables, c.byte()?, c.byte()?)),
+            b'c' => {
+                let (channel, control, value) = (c.byte()?, c.byte()?, c.byte()?);
+                counted(self.engine.control(self.tables, channel, control, value))
+            }
+            b'p' => counted(self.engine.program(c.byte()?, c.byte()?)),
+            b'b' => counted(self.engine.bend(c.byte()?, c.u16()?)),
+            b'r' => self.render(c.u32()?, c.length(OUTPUT_ROOM)?),
+            b's' => self.panel(c.byte()?),
+            _ => return Err(Stop::Bad),
+        };
+        let state = self.state();
+        Ok(format!("{} {answer} | {state}\n", letter as char))
+    }
+
+    fn admission(&self) -> Answer {
+        match self.bank {
+            Ok(_) => Ok(0),
+            Err(_) => Err(BANK_NOT_ADMITTED),
+        }
+    }
+
+    fn listing(&self, place: u32) -> String {
+        match &self.bank {
+            Err(_) => BANK_NOT_ADMITTED.to_string(),
+            Ok(bank) => match list(bank, place) {
+                None => "0 end".to_string(),
+                Some((program, number, next)) => format!("0 {program} {number} {next}"),
+            },
+        }
+    }
+
+    fn note_on(&mut self, channel: u8, key: u8, velocity: u8) -> Answer {
+        let lent = Lent { bank: &self.bank, ram: self.ram.part(), rom: self.rom.part() };
+        self.engine.note_on(self.tables, &lent, channel, key, velocity)
+    }
+
+    fn render(&mut self, clock: u32, length: usize) -> String {
+        let lent = Lent { bank: &self.bank, ram: self.ram.part(), rom: self.rom.part() };
+        let mut output = vec![f32::from_bits(BEFORE); length];
+        let answer = self.engine.render(self.tables, &lent, clock, &mut output);
+        let number = answer.err().unwrap_or(0);
+        format!("{number} {:016x}", hash(&output))
+    }
+
+    fn panel(&self, slot: u8) -> String {
+        match self.engine.panel(slot) {
+            Err(number) => number.to_string(),
+            Ok(None) => "0 f".to_string(),
+            Ok(Some(voice)) => format!("0 {}", self.stage(voice)),
+        }
+    }
+
+    /// The clock, the word, and each sounding slot with its stage.
+    fn state(&self) -> String {
+        let mut text = format!("{:08x} {:08x}", self.engine.clock, self.engine.word());
+        for (slot, voice) in self.engine.slots.iter().enumerate() {
+            if let Some(voice) = voice {
+                text += &format!(" {slot}{}", self.stage(voice));
+            }
+        }
+        text
+    }
+
+    /// The stage's letter, and behind a colon the level as an exact binary32 fraction of full, where it carries one.
+    fn stage(&self, voice: &Voice) -> String {
+        let letter = match voice.stage {
+            Stage::Delay { .. } => 'd',
+            Stage::Attack { .. } => 'a',
+            Stage::Hold { .. } => 'h',
+            Stage::Decay { .. } => 'y',
+            Stage::Sustain => 'u',
+            Stage::Release { .. } => 'r',
+        };
+        match voice.level(self.tables) {
+            None => letter.to_string(),
+            Some(level) => {
+                let fraction = level as f32 / (1 << 24) as f32;
+                format!("{letter}:{:08x}", fraction.to_bits())
+            }
+        }
+    }
+}
+
+/// The number of the table and the count, which is 0 on a refusal.
+fn counted(answer: Answer) -> String {
+    match answer {
+        Ok(count) => format!("0 {count}"),
+        Err(number) => format!("{number} 0"),
+    }
+}
+
+/// The FNV-1a hash of 64 bits over the numbers' bits, the low byte of each first.
+fn hash(output: &[f32]) -> u64 {
+    let mut hash = 0xcbf2_9ce4_8422_2325u64;
+    for number in output {
+        for byte in number.to_bits().to_le_bytes() {
+            hash = (hash ^ byte as u64).wrapping_mul(0x100_0000_01b3);
+        }
+    }
+    hash
+}

@@ -1,0 +1,11 @@
+//! The second program as a library: one module for each section of document 01, and what reads and makes cases.
+
+pub mod bank_admission;
+pub mod big;
+pub mod case;
+pub mod key_to_layers;
+pub mod make;
+pub mod slots_keys_clock;
+pub mod strike;
+pub mod tables_and_steps;
+pub mod voice;

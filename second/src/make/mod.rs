@@ -1,0 +1,121 @@
+//! The maker of the stored cases and their traces; the same bytes on each run.
+//!
+//! What the cases must reach, and the functions that write the cases for it:
+//!
+//! - every number of 01's table at both sides of each boundary, and the order of the tests: numbers_of_table (ranges,
+//!   velocity_zero, order_of_note_on, memory_edge_of_note_on, output_lengths, distances, order_of_render,
+//!   memory_edge_of_render, listing), layer_cases::counts for 4, layer_cases::which_preset for 3
+//! - each admission rule broken alone, at its edge: admission (chunks, records, indexes, numbers, rates, windows, zones,
+//!   long_banks)
+//! - 0, 1, 32 and 33 layers: layer_cases::counts
+//! - global, ignored and repeated zones and generators: layer_cases::zone_kinds; ranges in every place:
+//!   layer_cases::ranges_in_places, range_edges, local_and_global_ranges
+//! - preset values added: value_cases::adding; instruments only: instruments_only; held totals: held_totals, key_times
+//!   (39 and 40); times and pitch at their limits: times, long_times, longest_delay_and_hold, pitch_limits; attenuation:
+//!   attenuation, attenuation_and_envelope; 46 and 47: fixed_key_and_velocity, struck_or_fixed
+//! - taking by released, velocity, age, with more layers than released voices: key_cases (taking_..); classes across
+//!   channels: classes, full_with_classes, class_refusals
+//! - pedal, 64 crossing, 123 and 120 with the pedal down: key_cases (pedal, pedal_crossing, all_notes_off, all_sound_off)
+//! - modes 0 to 3: voice_cases::modes, mode_three_release; release in every stage: release_in_every_stage,
+//!   release_in_slow_attack, release_lengths; loops shorter than the step: short_loops; windows of one sample:
+//!   one_sample_windows; RAM and ROM: memories; coarse offsets: coarse_offsets
+//! - attack, hold, decay of no frames: stages_of_no_frames; sustain 0 and 1,000: sustain_values
+//! - negative samples and rounding: rounding, run_examples, mix_is_held
+//! - clock wrap: numbers_of_table::clock_wrap; distances 0, 1, 4,096, 4,097, 2^31 - 1, 2^31, one back: distances
+//! - the October night: key_cases::october_night, october_night_full
+//! - banks and runs from fixed seeds, damaged banks: chance_cases
+//! - damaged case files: bad_cases
+//! - the numbers of each layer's voice: strike_cases; values of the tables: number_lines
+
+mod admission;
+mod bad_cases;
+pub mod bank_builder;
+pub mod chance;
+pub mod chance_cases;
+mod key_cases;
+mod layer_cases;
+mod number_lines;
+mod numbers_of_table;
+pub mod script;
+mod strike_cases;
+mod value_cases;
+mod voice_cases;
+
+use crate::bank_admission::admit;
+use crate::{case, strike};
+use script::{Lending, Script};
+use std::collections::HashSet;
+use std::fs;
+use std::io;
+use std::path::Path;
+
+/// Writes drive/, list_banks/, strike/ and numbers/ into the directory.
+pub fn write_all(directory: &Path) -> io::Result<()> {
+    let script = all_cases();
+    write_case(&directory.join("drive"), "stdin", "stdout", &script.bytes)?;
+    let banks = list_banks(&script.banks);
+    write_case(&directory.join("list_banks"), "stdin", "stdout", &banks)?;
+    for (name, bytes) in bad_cases::all() {
+        let [case, trace] = ["case", "trace"].map(|end| format!("{name}.{end}"));
+        write_case(&directory.join("drive/bad"), &case, &trace, &bytes)?;
+    }
+    write_strikes(&directory.join("strike"), &strike_cases::strikes())?;
+    let numbers = number_lines::lines();
+    write_file(&directory.join("numbers/stdout"), numbers.as_bytes())
+}
+
+/// A case and the trace that playing it gives.
+fn write_case(directory: &Path, case: &str, trace: &str, bytes: &[u8]) -> io::Result<()> {
+    let mut played = Vec::new();
+    case::play(bytes, &mut played)?;
+    write_file(&directory.join(case), bytes)?;
+    write_file(&directory.join(trace), &played)
+}
+
+/// A strike file and its lines.
+fn write_strikes(directory: &Path, bytes: &[u8]) -> io::Result<()> {
+    let mut played = Vec::new();
+    strike::play(bytes, &mut played)?;
+    write_file(&directory.join("stdin"), bytes)?;
+    write_file(&directory.join("stdout"), &played)
+}
+
+fn write_file(path: &Path, bytes: &[u8]) -> io::Result<()> {
+    if let Some(parent) = path.parent() {
+        fs::create_dir_all(parent)?;
+    }
+    fs::write(path, bytes)
+}
+
+/// All cases, one behind the other.
+pub fn all_cases() -> Script {
+    let mut script = Script::default();
+    numbers_of_table::write(&mut script);
+    admission::write(&mut script);
+    layer_cases::write(&mut script);
+    value_cases::write(&mut script);
+    voice_cases::write(&mut script);
+    key_cases::write(&mut script);
+    chance_cases::write(&mut script);
+    script
+}
+
+/// Each bank that a case examines, once, with its admission and the whole listing, the end and one place past it.
+fn list_banks(banks: &[Lending]) -> Vec<u8> {
+    let mut seen = HashSet::new();
+    let mut script = Script::default();
+    for bank in banks {
+        if !bank.examined || !seen.insert(&bank.bytes) {
+            continue;
+        }
+        script.title(&bank.case);
+        script.bank(&bank.bytes);
+        script.admission();
+        let records = admit(&bank.bytes).map_or(0, |bank| bank.presets.len());
+        for place in 0..records as u32 + 2 {
+            script.list(place);
+        }
+        script.list(u32::MAX);
+    }
+    script.bytes
+}
