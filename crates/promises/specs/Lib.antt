@@ -15,4 +15,5 @@ pub mod Frames
 pub mod Voices
 pub mod NightProof
 pub mod SeatsProof
+pub mod OutputProof
 pub mod Runs
