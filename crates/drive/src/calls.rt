@@ -5,7 +5,6 @@ use crate::lending::first_samples;
 use crate::lending::moved;
 use crate::lending::spoilt;
 use crate::trace;
-use bank::Fault;
 use bank::Listed;
 use cases::Place;
 use engine::Answered;
@@ -63,18 +62,10 @@ fn counted(text: &mut [u8; 65536], letter: u8, a: Answered, run: Run) -> Run {
     next
 }
 
-// The number of an admission.
-fn number_of(f: Fault) -> u8 {
-    match f {
-        Fault::Fine => 0,
-        _ => 1,
-    }
-}
-
 // a: admission.
 pub fn admission(bank: &[u8], text: &mut [u8; 65536], run: Run) -> Run {
     let e = run.engine;
-    let status = number_of(bank::admission(first_bytes(bank, run.bank)));
+    let status = bank::admission_number(first_bytes(bank, run.bank));
     let a = Answered {
         status,
         count: 0,
@@ -117,7 +108,7 @@ pub fn listing(bank: &[u8], room: &mut [u8; 65536], text: &mut [u8; 65536], run:
     let at = row(
         text,
         run.at,
-        crate::stand_in::listed(first_bytes(bank, run.bank), wanted.value),
+        bank::listed_at(first_bytes(bank, run.bank), wanted.value),
     );
     next.at = trace::state(text, at, e);
     next
@@ -238,7 +229,7 @@ fn rendered<'a>(
 ) -> Run {
     let before = run.engine;
     fill(out);
-    let a = crate::stand_in::render(before, ram, rom, out, to);
+    let a = engine::render(before, to, ram, rom, out);
     let e = a.engine;
     let mut at = trace::number(text, run.at, b'r', a.status);
     at = cases::put(text, at, b' ');
@@ -311,7 +302,7 @@ pub fn panel(room: &mut [u8; 65536], text: &mut [u8; 65536], run: Run) -> Run {
         return next;
     }
     let e = run.engine;
-    let at = shown(text, run.at, crate::stand_in::panel(e, slot.value));
+    let at = shown(text, run.at, engine::ask_panel(e, slot.value));
     next.at = trace::state(text, at, e);
     next
 }

@@ -32,7 +32,7 @@ pub struct Run {
 fn begin() -> Run {
     let none = Memory { held: 0, lent: 0 };
     Run {
-        engine: stand_in::fresh(),
+        engine: engine::fresh(),
         place: cases::start(),
         at: 0,
         bank: 0,
