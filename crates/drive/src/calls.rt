@@ -8,7 +8,6 @@ use crate::trace;
 use bank::Listed;
 use cases::Place;
 use engine::Answered;
-use engine::Engine;
 use voice::Shown;
 
 // Two or three bytes of a command, and the place behind them.
@@ -65,7 +64,7 @@ fn counted(text: &mut [u8; 65536], letter: u8, a: Answered, run: Run) -> Run {
 // a: admission.
 pub fn admission(bank: &[u8], text: &mut [u8; 65536], run: Run) -> Run {
     let e = run.engine;
-    let status = bank::admission_number(first_bytes(bank, run.bank));
+    let status = engine::admit(first_bytes(bank, run.bank));
     let a = Answered {
         status,
         count: 0,
@@ -108,7 +107,7 @@ pub fn listing(bank: &[u8], room: &mut [u8; 65536], text: &mut [u8; 65536], run:
     let at = row(
         text,
         run.at,
-        bank::listed_at(first_bytes(bank, run.bank), wanted.value),
+        engine::list(first_bytes(bank, run.bank), wanted.value),
     );
     next.at = trace::state(text, at, e);
     next
@@ -133,7 +132,7 @@ pub fn note_on<'a>(
     let e = run.engine;
     let ram_of = run.ram;
     let rom_of = run.rom;
-    let a = crate::stand_in::note_on(
+    let a = engine::note_on(
         e,
         first_bytes(bank, run.bank),
         first_samples(ram, ram_of.lent),
@@ -229,7 +228,7 @@ fn rendered<'a>(
 ) -> Run {
     let before = run.engine;
     fill(out);
-    let a = engine::render(before, to, ram, rom, out);
+    let a = engine::render(before, ram, rom, out, to);
     let e = a.engine;
     let mut at = trace::number(text, run.at, b'r', a.status);
     at = cases::put(text, at, b' ');
@@ -302,7 +301,7 @@ pub fn panel(room: &mut [u8; 65536], text: &mut [u8; 65536], run: Run) -> Run {
         return next;
     }
     let e = run.engine;
-    let at = shown(text, run.at, engine::ask_panel(e, slot.value));
+    let at = shown(text, run.at, engine::panel(e, slot.value));
     next.at = trace::state(text, at, e);
     next
 }
