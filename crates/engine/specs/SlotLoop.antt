@@ -132,7 +132,7 @@ abbrev pub withVoices : Engine → List Voice → Engine
 withVoices e vs =
     record { voices = vs; channels = e .channels; sounding = e .sounding; order = e .order; clock = e .clock }
 
-voices-set : (ss : List Slot) (i : ℕ) (s : Slot) → voicesOf (set ss i s) ≡ set (voicesOf ss) i (s .voice)
+pub voices-set : (ss : List Slot) (i : ℕ) (s : Slot) → voicesOf (set ss i s) ≡ set (voicesOf ss) i (s .voice)
 voices-set [] i s = refl
 voices-set (x ∷ ss) zero s = refl
 voices-set (x ∷ ss) (suc i) s = ap (_∷_ (x .voice)) (voices-set ss i s)
@@ -177,3 +177,18 @@ cut-voice p s = by (p s)
 pub cut-free : (channel : ℕ) (v : Voice) → cut (ofChannel channel) (free v) ≡ free v
 unfolding cut ofChannel
 cut-free channel v = refl
+
+-- a turn that frees slot i where a test picks it: it read s, tested it, and made t of it
+pub cut-turn : (p : Slot → Bool) (ss : List Slot) (i word b : ℕ) (picked : Bool) (s t : Slot) → cut p (free blank) ≡ free blank → i < length ss
+    → word ≡ wordTo (cut p) i ss → s ≡ getD ss i (free blank) → picked ≡ p s → t ≡ cond picked (free (s .voice)) s
+    → b ≡ cond (t .sounding) (2 ^ i) 0 → word + b ≡ wordTo (cut p) (i + 1) ss
+unfolding cut
+cut-turn p ss i word b picked s t k h w e q m = flag-turn (cut p) ss i word b t k h w
+    (m ∙ ap (λ (x : Bool). cond x (free (s .voice)) s) q ∙ ap (cut p) e)
+
+-- behind the last turn of such a loop: the records stay
+pub cut-all : (p : Slot → Bool) (e : Engine) (word i : ℕ) → length (slotsOf e) ≡ 32 → i ≡ 32 → word ≡ wordTo (cut p) i (slotsOf e)
+    → withWord e word ≡ withSlots e (map (cut p) (slotsOf e))
+cut-all p e word i n h w =
+    ap (withWord e) (w ∙ ap (λ (j : ℕ). wordTo (cut p) j (slotsOf e)) h ∙ word-all (cut p) (slotsOf e) 32 n)
+    ∙ rebuilt e (map (cut p) (slotsOf e)) (same-voices (cut p) (cut-voice p) (slotsOf e) ∙ voices-back (e .sounding) (e .voices))

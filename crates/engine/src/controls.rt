@@ -2,8 +2,8 @@
 ghost use mathlib.Core.Path.{_≡_};
 ghost use Prim.Native.Nat.{_<_};
 ghost use Rattle.engine.specs.Channels.{withStored, withVolume, withExpression};
-ghost use Rattle.engine.specs.NoteOff.{ofChannel, held, off};
-ghost use Rattle.engine.specs.Controls.{silence, cut, pedal, controlled, controlChange};
+ghost use Rattle.engine.specs.NoteOff.{held, off};
+ghost use Rattle.engine.specs.Controls.{silence, pedal, controlled, controlChange};
 use crate::Answered;
 use crate::Engine;
 use crate::Whom;
@@ -15,26 +15,12 @@ use crate::channels::with_channel;
 use crate::keys::is_down;
 use crate::keys::off_all;
 use crate::slots::flag;
+use crate::slots::freed_if;
 use crate::slots::of_channel;
 use crate::slots::slot_of;
 use crate::slots::with_word;
 use curves::gains;
 use voice::Channel;
-use voice::Slot;
-
-// The slot freed where it is of the channel.
-fn cut_one(s: Slot, channel: u8) -> Slot
-    ensures { λ r. ⌜ r ≡ cut (ofChannel channel) s ⌝ }
-{
-    if of_channel(s, channel) {
-        let v = s.voice;
-        return Slot {
-            sounding: false,
-            voice: v,
-        };
-    }
-    s
-}
 
 // Control 120: the channel's voices are freed.
 fn silenced(e: Engine, channel: u8) -> Engine
@@ -44,7 +30,7 @@ fn silenced(e: Engine, channel: u8) -> Engine
     let mut i: usize = 0;
     while i < 32 {
         let s = slot_of(e, i);
-        let t = cut_one(s, channel);
+        let t = freed_if(of_channel(s, channel), s);
         word = word + flag(t.sounding, i as u32);
         i = i + 1;
     }

@@ -2,6 +2,7 @@
 ghost use mathlib.Core.Path.{_≡_};
 ghost use mathlib.Core.Bool.{cond};
 ghost use Prim.Native.Nat.{_<_, _^_};
+ghost use Rattle.voice.specs.State.{free};
 ghost use Rattle.engine.specs.State.{withWord, slotAt};
 ghost use Rattle.engine.specs.NoteOff.{ofChannel};
 use crate::Engine;
@@ -46,4 +47,18 @@ pub fn of_channel(s: Slot, channel: u8) -> bool
     }
     let v = s.voice;
     v.channel == channel
+}
+
+// The slot freed where the test held; its record stays.
+pub fn freed_if(freed: bool, s: Slot) -> Slot
+    ensures { λ r. ⌜ r ≡ cond freed (free (s .voice)) s ⌝ }
+{
+    if freed {
+        let v = s.voice;
+        return Slot {
+            sounding: false,
+            voice: v,
+        };
+    }
+    s
 }

@@ -9,6 +9,7 @@ mod window;
 pub use layer_search::preset_for;
 pub use layer_search::search;
 use records::Zone;
+pub use strike::voices_for;
 use voice::Voice;
 
 // A layer: the bag numbers of its preset zone and of its instrument zone.

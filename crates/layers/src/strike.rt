@@ -91,3 +91,57 @@ fn voice_by(
         release: curves::long_frames(t, time_of(&own, &added, 38)),
     }
 }
+
+// The voice of zeros.
+fn silent() -> Voice
+    ensures { λ r. ⌜ r ≡ blank ⌝ }
+{
+    Voice {
+        stage: Stage::Delay { left: 0 },
+        place: 0,
+        channel: 0,
+        key: 0,
+        velocity: 0,
+        marked: false,
+        class: 0,
+        rom: false,
+        start: 0,
+        end: 0,
+        mode: 0,
+        loopfrom: 0,
+        loopto: 0,
+        rate: 0,
+        pitch: 0,
+        pan: 0,
+        attenuation: 0,
+        attack: 0,
+        hold: 0,
+        decay: 0,
+        sustain: 0,
+        release: 0,
+    }
+}
+
+// The voices that preset h starts for channel, key and velocity, in order.
+pub fn voices_for(b: &[u8], m: Parts, h: u32, channel: u8, key: u8, velocity: u8) -> Struck
+    ensures { λ r. ⌜ r ≡ struckOf (voicesOf (now (b .entry)) m h channel key velocity) ⌝ }
+{
+    let found = search(b, m, key, velocity, h);
+    let none = silent();
+    let mut voices = [none; 32];
+    let count = found.count;
+    if 32 < count {
+        return Struck { count, voices };
+    }
+    let t = curves::octaves();
+    let n = count as usize;
+    let mut i: usize = 0;
+    while i < n {
+        let p = found.pairs[i];
+        let l = layer_of(b, m, h, p);
+        let v = voice_by(b, m, l, channel, key, velocity, &t);
+        voices[i] = v;
+        i = i + 1;
+    }
+    Struck { count, voices }
+}

@@ -2,20 +2,23 @@
 use borrow.Author.Needs.{needs}
 use mathlib.Core.Path.{_≡_, refl, sym, ap, _∙_}
 use Prim.Native.Nat.{ℕ, _+_, _-_, _≤_, _<_}
+use mathlib.Core.Bool.{Bool, cond}
 use mathlib.Core.List.{map}
 use native.Mathlib.Omega.{arith}
-use lib.ListN.{length, length-map}
-use Rattle.voice.specs.State.{blank}
+use lib.ListN.{length, length-map, getD}
+use Rattle.voice.specs.declared.Slot.{Slot}
+use Rattle.voice.specs.State.{blank, free}
 use Rattle.engine.specs.State.{slotsOf, withWord}
 use Rattle.engine.specs.NoteOff.{ofChannel}
 use Rattle.engine.specs.Controls.{cut, silence}
-use Rattle.engine.specs.SlotLoop.{paired-length, voices-back, same-voices, wordTo, word-none, word-all, flag-turn, word-fits, rebuilt, cut-voice, cut-free}
+use Rattle.engine.specs.SlotLoop.{paired-length, wordTo, word-none, cut-turn, word-fits, cut-all, cut-free}
 use Rattle.engine.proofs.controls.silenced.Statement.{statement}
 use Rattle.engine.proofs.controls.silenced.Tie as tie
 use Rattle.engine.proofs.controls.silenced.Reads as reads
 use Rattle.engine.proofs.controls.silenced.Lts as lts
-use Rattle.engine.proofs.controls.cut_one.Reads as cut-one-reads
 use Rattle.engine.proofs.slots.flag.Reads as flag-reads
+use Rattle.engine.proofs.slots.freed_if.Reads as freed-if-reads
+use Rattle.engine.proofs.slots.of_channel.Reads as of-channel-reads
 use Rattle.engine.proofs.slots.slot_of.Reads as slot-of-reads
 use Rattle.engine.proofs.slots.with_word.Reads as with-word-reads
 
@@ -28,14 +31,14 @@ abbrev μ-loop : tie.MeasureT-loop
 
 -- a turn: the word after it
 turn : (c : tie.After-flag Inv-loop μ-loop)
-    → c .before .before .before .before .loop .word + c .flag .result
-    ≡ wordTo (cut (ofChannel (c .before .before .before .before .before .args .channel))) (c .before .before .before .before .loop .i + 1) (slotsOf (c .before .before .before .before .before .args .e))
+    → c .before .before .before .before .before .loop .word + c .flag .result
+    ≡ wordTo (cut (ofChannel (c .before .before .before .before .before .before .args .channel))) (c .before .before .before .before .before .loop .i + 1) (slotsOf (c .before .before .before .before .before .before .args .e))
 turn c =
-    let l = c .before .before .before .before in
-    let f = cut (ofChannel (l .before .args .channel)) in
-    flag-turn f (slotsOf (l .before .args .e)) (l .loop .i) (l .loop .word) (c .flag .result) (c .before .cut-one .result)
-    (cut-free (l .before .args .channel) blank) (omega (arith, l .loop .inv .0)) (l .loop .inv .1)
-    (c .before .cut-one .ensures ∙ ap f (c .before .before .slot-of .ensures)) (c .flag .ensures)
+    let l = c .before .before .before .before .before in
+    let p = ofChannel (l .before .args .channel) in
+    cut-turn p (slotsOf (l .before .args .e)) (l .loop .i) (l .loop .word) (c .flag .result) (c .before .before .of-channel .result)
+    (c .before .before .before .slot-of .result) (c .before .freed-if .result) (cut-free (l .before .args .channel) blank) (omega (arith, l .loop .inv .0))
+    (l .loop .inv .1) (c .before .before .before .slot-of .ensures) (c .before .before .of-channel .ensures) (c .before .freed-if .ensures) (c .flag .ensures)
 
 loop-holds : tie.Need-loop-holds Inv-loop μ-loop
 loop-holds c =
@@ -48,8 +51,11 @@ loop-holds c =
 slot-of-requires : tie.Need-slot-of-requires Inv-loop μ-loop
 slot-of-requires c κs = search needs
 
-cut-one-requires : tie.Need-cut-one-requires Inv-loop μ-loop
-cut-one-requires c κs = search needs
+of-channel-requires : tie.Need-of-channel-requires Inv-loop μ-loop
+of-channel-requires c κs = search needs
+
+freed-if-requires : tie.Need-freed-if-requires Inv-loop μ-loop
+freed-if-requires c κs = search needs
 
 cast-flag : tie.Need-cast-flag Inv-loop μ-loop
 cast-flag c = search needs
@@ -59,7 +65,7 @@ flag-requires c κs = search needs
 
 add-word : tie.Need-add-word Inv-loop μ-loop
 add-word c =
-    let l = c .before .before .before .before in
+    let l = c .before .before .before .before .before in
     let f = cut (ofChannel (l .before .args .channel)) in
     omega (arith, turn c, word-fits f (slotsOf (l .before .args .e)) (l .loop .i + 1) (l .loop .inv .0) (omega arith))
 
@@ -71,7 +77,7 @@ loop-less c = search needs
 
 loop-again : tie.Need-loop-again Inv-loop μ-loop
 loop-again c =
-    let l = c .before .before .before .before in
+    let l = c .before .before .before .before .before in
     (l .loop .inv .0, turn c, omega arith)
 
 with-word-requires : tie.Need-with-word-requires Inv-loop μ-loop
@@ -81,13 +87,8 @@ returns : tie.Need-returns Inv-loop μ-loop
 unfolding silence
 returns c =
     let l = c .before .before in
-    let e = l .before .args .e in
-    let p = ofChannel (l .before .args .channel) in
-    let f = cut p in
     let i : l .loop .i ≡ 32 = omega arith in
-    let w = l .loop .inv .1 ∙ ap (λ (j : ℕ). wordTo f j (slotsOf e)) i ∙ word-all f (slotsOf e) 32 (l .loop .inv .0) in
-    c .with-word .ensures ∙ ap (withWord e) w
-    ∙ rebuilt e (map f (slotsOf e)) (same-voices f (cut-voice p) (slotsOf e) ∙ voices-back (e .sounding) (e .voices))
+    c .with-word .ensures ∙ cut-all (ofChannel (l .before .args .channel)) (l .before .args .e) (l .loop .word) (l .loop .i) (l .loop .inv .0) i (l .loop .inv .1)
 
 pub silenced-spec : {M : Type 1} → statement M
 silenced-spec =
@@ -97,7 +98,8 @@ silenced-spec =
     μ-loop
     loop-holds
     slot-of-requires
-    cut-one-requires
+    of-channel-requires
+    freed-if-requires
     cast-flag
     flag-requires
     add-word

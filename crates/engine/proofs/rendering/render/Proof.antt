@@ -1,0 +1,98 @@
+-- Refused by its tests, else played, and the clock moved by wrapping addition.
+use mathlib.Core.Path.{_≡_, refl, sym, ap, _∙_}
+use native.Mathlib.Omega.{arith}
+use Prim.Native.Nat.{ℕ, _+_, _*_, _%_, _≤_, _<_}
+use mathlib.Core.Path.{ap₂}
+use mathlib.Core.List.{List, _++_}
+use borrow.Author.Tests.{eq-eqb, ne-eqb}
+use lib.Dec.{eqb}
+use lib.Ieee.{Float}
+use lib.ListN.{length, drop}
+use Rattle.engine.specs.declared.Engine.{Engine}
+use Rattle.engine.specs.State.{withClock}
+use Rattle.engine.specs.Answers.{done, refused}
+use Rattle.engine.specs.Render.{distance, renderNumber, output, played, render, rendered}
+use Rattle.engine.specs.RenderLaws.{zero-low, clock-there}
+use borrow.Author.Needs.{needs}
+use Rattle.engine.proofs.rendering.render.Statement.{statement}
+use Rattle.engine.proofs.rendering.render.Tie as tie
+use Rattle.engine.proofs.rendering.render.Reads as reads
+use Rattle.engine.proofs.rendering.render.Lts as lts
+use Rattle.engine.proofs.answers.made.Reads as made-reads
+use Rattle.engine.proofs.answers.refuse.Reads as refuse-reads
+use Rattle.engine.proofs.rendering.distance_to.Reads as distance-to-reads
+use Rattle.engine.proofs.rendering.play.Reads as play-reads
+use Rattle.engine.proofs.rendering.render_number.Reads as render-number-reads
+use Rattle.std.proofs.num.wrapping_add_u32.Reads as wrapping-add-u32-reads
+
+low : (s : tie.Start) → (s .args .e .clock < 4294967296) × (s .args .to < 4294967296)
+low s = (omega arith, omega arith)
+
+render-number-requires : tie.Need-render-number-requires
+render-number-requires c κs = search needs
+
+refuse-requires : tie.Need-refuse-requires
+refuse-requires c κs = search needs
+
+returns : tie.Need-returns
+unfolding render rendered
+returns c =
+    let n = c .before .before in
+    let a = n .before .before .args in
+    let q = n .render-number .ensures in
+    let z = sym (ap (λ (k : ℕ). eqb k 0) q) ∙ ne-eqb (n .render-number .result) 0 (c .before .if1 .taken) in
+    (c .refuse .ensures ∙ ap (λ (k : ℕ). refused k (a .e)) q ∙ simp z, simp z)
+
+distance-to-requires : tie.Need-distance-to-requires
+distance-to-requires c κs = search needs
+
+cast-play : tie.Need-cast-play
+cast-play c = search needs
+
+play-requires : tie.Need-play-requires
+play-requires c κs =
+    let d = c .before in
+    let n = d .before .before in
+    let a = n .before .before .args in
+    let z = zero-low (a .to) (a .ram .now) (a .rom .now) (length (a .out .now)) (a .e) (sym (n .render-number .ensures) ∙ d .before .if1 .left) in
+    let q = d .distance-to .ensures in
+    (omega (arith, z .0, q), omega (arith, z .1, q))
+
+wrapping-add-u32-requires : tie.Need-wrapping-add-u32-requires
+wrapping-add-u32-requires c κs = search needs
+
+made-requires : tie.Need-made-requires
+made-requires c κs = search needs
+
+same-length : tie.Need-same-length
+same-length c = search needs
+
+returns-2 : tie.Need-returns-2
+unfolding render rendered
+returns-2 c =
+    let p = c .before .before .before .before in
+    let d = p .before .before in
+    let n = d .before .before in
+    let a = n .before .before .args in
+    let z = sym (ap (λ (k : ℕ). eqb k 0) (n .render-number .ensures)) ∙ eq-eqb (n .render-number .result) 0 (d .before .if1 .left) in
+    let q = d .distance-to .ensures in
+    let t = clock-there (a .e) (a .to) (d .distance-to .result) (c .before .wrapping-add-u32 .result) (low (n .before .before) .0) (low (n .before .before) .1) q (c .before .wrapping-add-u32 .ensures) in
+    let x = p .play .ensures .0 ∙ ap (λ (k : ℕ). played (a .ram .now) (a .rom .now) k (a .e)) q in (
+      c .made .ensures ∙ ap₂ (λ (y : Engine) (k : ℕ). done 0 (withClock y k)) x t ∙ simp z,
+      p .play .ensures .1 ∙ ap (λ (k : ℕ). output (a .ram .now) (a .rom .now) (a .e) k ++ drop (2 * k) (a .out .now)) q ∙ simp z,
+    )
+
+pub render-spec : {M : Type 1} → statement M
+render-spec =
+    tie.close
+    (tie.spec
+    render-number-requires
+    refuse-requires
+    returns
+    distance-to-requires
+    cast-play
+    play-requires
+    wrapping-add-u32-requires
+    made-requires
+    same-length
+    returns-2)

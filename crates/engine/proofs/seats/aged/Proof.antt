@@ -1,0 +1,24 @@
+-- An entry of the order, read as a slot.
+use mathlib.Core.Path.{_≡_, refl, sym, ap, _∙_}
+use native.Mathlib.Omega.{arith}
+use Rattle.engine.specs.StateLaws.{map-at}
+use Rattle.engine.specs.SeatLaws.{asSlot}
+use borrow.Author.Needs.{needs}
+use Rattle.engine.proofs.seats.aged.Statement.{statement}
+use Rattle.engine.proofs.seats.aged.Tie as tie
+use Rattle.engine.proofs.seats.aged.Reads as reads
+use Rattle.engine.proofs.seats.aged.Lts as lts
+
+element-copy-out-result : tie.Need-element-copy-out-result
+element-copy-out-result c = search needs
+
+cast-result : tie.Need-cast-result
+cast-result c = search needs
+
+returns : tie.Need-returns
+returns c =
+    let a = c .before .args in
+    (sym (map-at asSlot (a .t1 .order) (a .k) 0 refl), omega arith)
+
+pub aged-spec : {M : Type 1} → statement M
+aged-spec = tie.close (tie.spec element-copy-out-result cast-result returns)

@@ -1,0 +1,58 @@
+-- The record stored, its bit set, and the slot the newest.
+use mathlib.Core.Path.{_≡_, refl, sym, ap, _∙_}
+use native.Mathlib.Omega.{arith}
+use Prim.Native.Nat.{ℕ, _<_, _^_}
+use mathlib.Core.List.{List}
+use lib.ListN.{length, length-map, set}
+use Rattle.voice.specs.State.{sounds}
+use Rattle.engine.specs.State.{slotsOf, withSlots, withOrder}
+use Rattle.engine.specs.Slots.{renewed, orderOf, startIn}
+use Rattle.engine.specs.SeatLaws.{seated}
+use borrow.Author.Needs.{needs}
+use Rattle.engine.proofs.seats.start_in.Statement.{statement}
+use Rattle.engine.proofs.seats.start_in.Tie as tie
+use Rattle.engine.proofs.seats.start_in.Reads as reads
+use Rattle.engine.proofs.seats.start_in.Lts as lts
+use Rattle.engine.proofs.seats.joined.Reads as joined-reads
+use Rattle.engine.proofs.seats.renewed_order.Reads as renewed-order-reads
+
+cast-renewed-order : tie.Need-cast-renewed-order
+cast-renewed-order c = search needs
+
+renewed-order-requires : tie.Need-renewed-order-requires
+renewed-order-requires c κs = search needs
+
+mul-v : tie.Need-mul-v
+mul-v c = search needs
+
+element-set-from-v : tie.Need-element-set-from-v
+element-set-from-v c = search needs
+
+cast-joined : tie.Need-cast-joined
+cast-joined c = search needs
+
+joined-requires : tie.Need-joined-requires
+joined-requires c κs = search needs
+
+returns : tie.Need-returns
+unfolding startIn
+returns c =
+    let s = c .before .before .before in
+    let e = s .args .e in
+    let i = s .args .i in
+    let n : length (e .voices) ≡ 32 = simp length-map at (s .good .0 .1 .1 .0 .1 .0 .1) in
+    let p : 2 ^ length (e .voices) ≡ 4294967296 = ap (λ (k : ℕ). 2 ^ k) n in
+    seated e i (c .joined .result) (s .args .v) (c .before .renewed-order .result) (omega arith) (omega arith) (c .joined .ensures)
+    ∙ ap (λ (o : List ℕ). withOrder (withSlots e (set (slotsOf e) i (sounds (s .args .v)))) o) (c .before .renewed-order .ensures)
+
+pub start-in-spec : {M : Type 1} → statement M
+start-in-spec =
+    tie.close
+    (tie.spec
+    cast-renewed-order
+    renewed-order-requires
+    mul-v
+    element-set-from-v
+    cast-joined
+    joined-requires
+    returns)

@@ -1,0 +1,44 @@
+-- A seat, a voice in it, and its bit.
+use mathlib.Core.Path.{_≡_, refl, sym, ap, _∙_}
+use mathlib.Core.Path.{ap₂}
+use Prim.Native.Nat.{ℕ, _^_}
+use lib.Bits.{bitOr}
+use Rattle.engine.specs.declared.Engine.{Engine}
+use Rattle.engine.specs.Slots.{seat, startIn}
+use Rattle.engine.specs.NoteOn.{Started, start}
+use borrow.Author.Needs.{needs}
+use Rattle.engine.proofs.strikes.start_one.Statement.{statement}
+use Rattle.engine.proofs.strikes.start_one.Tie as tie
+use Rattle.engine.proofs.strikes.start_one.Reads as reads
+use Rattle.engine.proofs.strikes.start_one.Lts as lts
+use Rattle.engine.proofs.seats.joined.Reads as joined-reads
+use Rattle.engine.proofs.seats.seat_of.Reads as seat-of-reads
+use Rattle.engine.proofs.seats.start_in.Reads as start-in-reads
+
+seat-of-requires : tie.Need-seat-of-requires
+seat-of-requires c κs = search needs
+
+start-in-requires : tie.Need-start-in-requires
+start-in-requires c κs = search needs
+
+cast-joined : tie.Need-cast-joined
+cast-joined c = search needs
+
+joined-requires : tie.Need-joined-requires
+joined-requires c κs = search needs
+
+returns : tie.Need-returns
+unfolding start
+returns c =
+    let s = c .before .before in
+    let b = s .before .before .args .b in
+    let v = s .before .before .args .v in
+    ap₂ made (c .before .start-in .ensures) (c .joined .ensures)
+    ∙ ap (λ (i : ℕ). made (startIn i v (b .engine)) (bitOr (b .mine) (2 ^ i))) (s .seat-of .ensures .0)
+  where
+    made : Engine → ℕ → Started
+    made x w = record { engine = x; mine = w }
+
+pub start-one-spec : {M : Type 1} → statement M
+start-one-spec =
+    tie.close (tie.spec seat-of-requires start-in-requires cast-joined joined-requires returns)

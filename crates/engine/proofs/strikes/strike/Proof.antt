@@ -1,0 +1,30 @@
+-- Rivals first, then the layers.
+use mathlib.Core.Path.{_≡_, refl, sym, ap, _∙_}
+use lib.ListN.{take}
+use Rattle.engine.specs.declared.Engine.{Engine}
+use Rattle.engine.specs.NoteOn.{Started, startAll, struck}
+use Rattle.engine.specs.StrikeLaws.{begin}
+use borrow.Author.Needs.{needs}
+use Rattle.engine.proofs.strikes.strike.Statement.{statement}
+use Rattle.engine.proofs.strikes.strike.Tie as tie
+use Rattle.engine.proofs.strikes.strike.Reads as reads
+use Rattle.engine.proofs.strikes.strike.Lts as lts
+use Rattle.engine.proofs.strikes.clear_rivals.Reads as clear-rivals-reads
+use Rattle.engine.proofs.strikes.start_all.Reads as start-all-reads
+
+clear-rivals-requires : tie.Need-clear-rivals-requires
+clear-rivals-requires c κs = search needs
+
+start-all-requires : tie.Need-start-all-requires
+start-all-requires c κs = search needs
+
+returns : tie.Need-returns
+unfolding struck
+returns c =
+    let s = c .before in
+    let a = s .before .before .args in
+    ap (λ (x : Started). x .engine) (s .start-all .ensures)
+    ∙ ap (λ (x : Engine). startAll (take (a .n) (a .voices)) (begin x) .engine) (s .before .clear-rivals .ensures)
+
+pub strike-spec : {M : Type 1} → statement M
+strike-spec = tie.close (tie.spec clear-rivals-requires start-all-requires returns)

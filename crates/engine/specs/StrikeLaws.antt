@@ -1,0 +1,83 @@
+-- Laws of a note-on's loops: each goes along the first layers of a list, and a turn is one layer more.
+use Prim.Native.Nat.{ℕ, zero, suc, _+_, _<_}
+use mathlib.Core.Path.{_≡_, refl, sym, ap, _∙_}
+use mathlib.Core.Bool.{Bool, true, false, cond, not, _&&_, _||_}
+use mathlib.Core.List.{List, [], _∷_, _++_, map}
+use native.Mathlib.Numerals.{add-one}
+use lib.Dec.{eqb}
+use lib.IntN.{ℤ}
+use lib.ListN.{length, getD, take}
+use lib.Seq.{take-suc}
+use Rattle.voice.specs.declared.Voice.{Voice}
+use Rattle.voice.specs.declared.Slot.{Slot}
+use Rattle.voice.specs.State.{blank, free}
+use Rattle.engine.specs.declared.Engine.{Engine}
+use Rattle.engine.specs.declared.Begun.{Begun}
+use Rattle.engine.specs.NoteOff.{ofChannel}
+use Rattle.engine.specs.Controls.{cut}
+use Rattle.engine.specs.NoteOn.{Started, endsPast, anyPast, classIn, rival, start, startAll}
+
+-- what a note-on has started, as the definitions have it
+abbrev pub startedOf : Begun → Started
+startedOf b = record { engine = b .engine; mine = b .mine }
+
+-- before its first layer
+abbrev pub begin : Engine → Started
+begin e = record { engine = e; mine = 0 }
+
+or-none : (a : Bool) → (a || false) ≡ a
+or-none true = refl
+or-none false = refl
+
+or-assoc : (a b c : Bool) → (a || (b || c)) ≡ ((a || b) || c)
+or-assoc true b c = refl
+or-assoc false b c = refl
+
+past-snoc : (ram rom : List ℤ) (vs : List Voice) (v : Voice) → anyPast ram rom (vs ++ (v ∷ [])) ≡ (anyPast ram rom vs || endsPast ram rom v)
+unfolding anyPast
+past-snoc ram rom [] v = or-none (endsPast ram rom v)
+past-snoc ram rom (x ∷ vs) v =
+    ap (λ (b : Bool). endsPast ram rom x || b) (past-snoc ram rom vs v) ∙ or-assoc (endsPast ram rom x) (anyPast ram rom vs) (endsPast ram rom v)
+
+pub past-none : (ram rom : List ℤ) (vs : List Voice) → anyPast ram rom (take 0 vs) ≡ false
+unfolding anyPast
+past-none ram rom vs = refl
+
+pub past-turn : (ram rom : List ℤ) (vs : List Voice) (i : ℕ) → i < length vs
+    → anyPast ram rom (take (i + 1) vs) ≡ (anyPast ram rom (take i vs) || endsPast ram rom (getD vs i blank))
+past-turn ram rom vs i h = rw (add-one, take-suc vs i blank h) (past-snoc ram rom (take i vs) (getD vs i blank))
+
+-- v has the class, which is not 0
+abbrev pub sameClass : ℕ → Voice → Bool
+sameClass class v = not (eqb class 0) && eqb (v .class) class
+
+class-snoc : (class : ℕ) (vs : List Voice) (v : Voice) → classIn class (vs ++ (v ∷ [])) ≡ (classIn class vs || sameClass class v)
+unfolding classIn
+class-snoc class [] v = or-none (sameClass class v)
+class-snoc class (x ∷ vs) v =
+    ap (λ (b : Bool). sameClass class x || b) (class-snoc class vs v) ∙ or-assoc (sameClass class x) (classIn class vs) (sameClass class v)
+
+pub class-none : (class : ℕ) (vs : List Voice) → classIn class (take 0 vs) ≡ false
+unfolding classIn
+class-none class vs = refl
+
+pub class-turn : (class : ℕ) (vs : List Voice) (i : ℕ) → i < length vs
+    → classIn class (take (i + 1) vs) ≡ (classIn class (take i vs) || sameClass class (getD vs i blank))
+class-turn class vs i h = rw (add-one, take-suc vs i blank h) (class-snoc class (take i vs) (getD vs i blank))
+
+-- a free slot is no rival
+pub rival-free : (channel : ℕ) (vs : List Voice) (v : Voice) → cut (rival channel vs) (free v) ≡ free v
+unfolding cut rival ofChannel
+rival-free channel vs v = refl
+
+start-snoc : (vs : List Voice) (v : Voice) (x : Started) → startAll (vs ++ (v ∷ [])) x ≡ start v (startAll vs x)
+unfolding startAll
+start-snoc [] v x = refl
+start-snoc (y ∷ vs) v x = start-snoc vs v (start y x)
+
+pub start-none : (vs : List Voice) (x : Started) → startAll (take 0 vs) x ≡ x
+unfolding startAll
+start-none vs x = refl
+
+pub start-turn : (vs : List Voice) (i : ℕ) (x : Started) → i < length vs → startAll (take (i + 1) vs) x ≡ start (getD vs i blank) (startAll (take i vs) x)
+start-turn vs i x h = rw (add-one, take-suc vs i blank h) (start-snoc (take i vs) (getD vs i blank) x)

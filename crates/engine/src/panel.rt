@@ -1,0 +1,19 @@
+// The panel asks for a slot.
+ghost use mathlib.Core.Path.{_≡_};
+ghost use Rattle.engine.specs.PanelAsk.{ask};
+use crate::Engine;
+use crate::slots::slot_of;
+use curves::gains;
+use voice::Shown;
+use voice::show;
+
+// What the panel is told of a slot; past 31 it is refused.
+pub fn ask_panel(e: Engine, slot: u8) -> Shown
+    ensures { λ r. ⌜ r ≡ ask slot e ⌝ }
+{
+    if 31 < slot {
+        return Shown::Refused;
+    }
+    let g = gains();
+    show(slot_of(e, slot as usize), &g)
+}
