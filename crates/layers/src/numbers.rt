@@ -60,13 +60,7 @@ fn wide_key(x: u8) -> i64
 }
 
 // The pitch total without the bend.
-pub fn pitch_of(
-    own: &[i16; 61],
-    added: &[i16; 61],
-    key: u8,
-    header: u8,
-    correction: i8,
-) -> i32
+pub fn pitch_of(own: &[i16; 61], added: &[i16; 61], key: u8, header: u8, correction: i8) -> i32
     ensures { λ r. ⌜ r ≡ pitchOf (totalIn (now (own .entry)) (now (added .entry))) key header correction ⌝ }
 {
     let k = wide_key(key_of(own, added, key));

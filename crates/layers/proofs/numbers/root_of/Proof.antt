@@ -27,7 +27,7 @@ returns c =
     let s = c .before .before .before in
     let header = s .args .header in
     let other : c .before .before .if1 .other ≡ cond (leb header 127) header 60 =
-        ⊎-elim (λ w. w .1 ∙ rw (le-leb header 127 (w .0 .taken)) refl) (λ w. w .1 ∙ rw (lt-leb header 127 (omega (arith, w .0 .left))) refl) (c .before .before .if1 .came) in
+    ⊎-elim (λ w. w .1 ∙ rw (le-leb header 127 (w .0 .taken)) refl) (λ w. w .1 ∙ rw (lt-leb header 127 (omega (arith, w .0 .left))) refl) (c .before .before .if1 .came) in
     rw (toZ-ofZ (sfits-of (c .before .if-midi-arg .given))) at (c .if-midi .ensures)
     ∙ ap (λ (n : ℕ). ifMidi 0 (at (s .args .own .now) 58) n) other
 
