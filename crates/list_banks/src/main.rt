@@ -79,7 +79,7 @@ fn write_row(program: u16, bank: u16, next: usize) {
 
 // One step of the listing: what the reader's next gives at the place.
 fn list(b: &[u8], place: u32) {
-    match reader::nth(b, place as usize) {
+    match reader::nth(b, place) {
         Listed::Refused => {
             io::write_all(OUT, b"l 1");
             write_state();

@@ -26,7 +26,7 @@ fn play<'a>(first: Engine, ram: &'a [i16], rom: &'a [i16], out: &mut [f32], rend
     let mut i: u32 = 0;
     while i < renders {
         let to = std::num::wrapping_add_u32(e.clock, 4096);
-        let a = engine::render(e, to, ram, rom, out);
+        let a = engine::render(e, ram, rom, out, to);
         let x = a.engine;
         e = x;
         i = i + 1;
@@ -34,13 +34,19 @@ fn play<'a>(first: Engine, ram: &'a [i16], rom: &'a [i16], out: &mut [f32], rend
     e.sounding
 }
 
-// The first n of a lent memory, all of it where it has fewer.
-fn front(m: &[i16], n: usize) -> &[i16] {
-    if n < m.len() { &m[..n] } else { m }
+// The first n of what there is, at most all of it.
+fn first_samples(whole: &[i16], n: usize) -> &[i16] {
+    if n < whole.len() {
+        return &whole[..n];
+    }
+    whole
 }
 
-fn bytes_front(m: &[u8], n: usize) -> &[u8] {
-    if n < m.len() { &m[..n] } else { m }
+fn first_bytes(whole: &[u8], n: usize) -> &[u8] {
+    if n < whole.len() {
+        return &whole[..n];
+    }
+    whole
 }
 
 fn report(sounding: u32, hash: u64) {
@@ -58,23 +64,33 @@ fn main() {
     let mut ram = [0i16; 65536];
     let mut out = [0f32; 8192];
     let strikes = cases::next_u32(&mut room, cases::start());
-    let renders = cases::next_u32(&mut room, strikes.place);
-    let length = cases::next_u32(&mut room, renders.place);
+    let a = strikes.place;
+    let renders = cases::next_u32(&mut room, a);
+    let b = renders.place;
+    let length = cases::next_u32(&mut room, b);
     let n = length.value as usize;
-    let p = read_bank(&mut room, length.place, &mut bank, n);
+    let c = length.place;
+    let p = read_bank(&mut room, c, &mut bank, n);
     let count = cases::next_u32(&mut room, p);
     let k = count.value as usize;
-    read_ram(&mut room, count.place, &mut ram, k);
-    let lent = front(&ram, k);
-    let e = strike(bytes_front(&bank, n), lent, lent, strikes.value);
+    let d = count.place;
+    read_ram(&mut room, d, &mut ram, k);
+    let lent = first_samples(&ram, k);
+    let e = strike(first_bytes(&bank, n), lent, lent, strikes.value);
     let sounding = play(e, lent, lent, &mut out, renders.value);
     report(sounding, cases::fnv(&out));
 }
 
-fn read_bank(room: &mut [u8; 65536], from: Place, bank: &mut [u8; 66000], n: usize) -> Place {
-    if n <= 66000 { cases::next_bytes(room, from, &mut bank[..n]) } else { from }
+fn read_bank(room: &mut [u8; 65536], from: Place, bank: &mut [u8], n: usize) -> Place {
+    if bank.len() < n {
+        return from;
+    }
+    cases::next_bytes(room, from, &mut bank[..n])
 }
 
-fn read_ram(room: &mut [u8; 65536], from: Place, ram: &mut [i16; 65536], n: usize) -> Place {
-    if n <= 65536 { cases::next_samples(room, from, &mut ram[..n]) } else { from }
+fn read_ram(room: &mut [u8; 65536], from: Place, ram: &mut [i16], n: usize) -> Place {
+    if ram.len() < n {
+        return from;
+    }
+    cases::next_samples(room, from, &mut ram[..n])
 }
