@@ -4,81 +4,32 @@ ghost use Prim.Native.Nat.{_<_};
 ghost use lib.IntN.{_+ℤ_};
 ghost use Rattle.arith.specs.Over.{heldTo};
 ghost use Rattle.arith.specs.Within.{Within};
-ghost use Rattle.layers.specs.TotalsLaws.{at, ownValues, addedValues};
+ghost use Rattle.layers.specs.TotalsLaws.{at, defaults, ownValues, addedValues};
 use crate::Layer;
 use records::Parts;
 
-// What a generator has where no zone says anything: 33 to 36 and 38 -12,000, 46 and 58 -1, 56 100.
-const DEFAULTS: [i16; 61] = [
-    0,
-    0,
-    0,
-    0,
-    0,
-    0,
-    0,
-    0,
-    0,
-    0,
-    0,
-    0,
-    0,
-    0,
-    0,
-    0,
-    0,
-    0,
-    0,
-    0,
-    0,
-    0,
-    0,
-    0,
-    0,
-    0,
-    0,
-    0,
-    0,
-    0,
-    0,
-    0,
-    0,
-    -12000,
-    -12000,
-    -12000,
-    -12000,
-    0,
-    -12000,
-    0,
-    0,
-    0,
-    0,
-    0,
-    0,
-    0,
-    -1,
-    0,
-    0,
-    0,
-    0,
-    0,
-    0,
-    0,
-    0,
-    0,
-    100,
-    0,
-    -1,
-    0,
-    0,
-];
+// What a generator has where no zone says anything.
+fn defaults() -> [i16; 61]
+    ensures { λ r. ⌜ r ≡ defaults ⌝ }
+{
+    let mut d = [0i16; 61];
+    d[33] = -12000;
+    d[34] = -12000;
+    d[35] = -12000;
+    d[36] = -12000;
+    d[38] = -12000;
+    d[46] = -1;
+    d[56] = 100;
+    d[58] = -1;
+    d
+}
 
 // The instrument's values: local, else global, else default.
 pub fn own_values(b: &[u8], m: Parts, l: Layer) -> [i16; 61]
     ensures { λ r. ⌜ r ≡ ownValues (now (b .entry)) m l ⌝ }
 {
     let i = m.instruments;
-    let global = records::poured(b, i, l.beside, DEFAULTS);
+    let global = records::poured(b, i, l.beside, defaults());
     records::poured(b, i, l.instrument, global)
 }
 

@@ -1,18 +1,15 @@
+-- `inside` meets its contract.
 use Rattle.records.specs.Whole.{between}
 use Rattle.layers.specs.Ranges.{inside}
 use mathlib.Core.Path.{_≡_, refl, sym, ap, _∙_}
 use borrow.Author.Tests.{lt-ltb, le-ltb, le-leb, lt-leb}
 use Rattle.layers.proofs.ranges.inside.Statement.{statement}
 use Rattle.layers.proofs.ranges.inside.Tie as tie
-use Rattle.layers.proofs.ranges.inside.Reads as reads
-use Rattle.layers.proofs.ranges.inside.Lts as lts
 
--- src/lib.rt:80:9
 returns : tie.Need-returns
 unfolding inside between
 returns c = simp (le-leb _ _ (c .before .if1 .taken))
 
--- src/lib.rt:76:1
 returns-2 : tie.Need-returns-2
 unfolding inside between
 returns-2 c = simp (lt-leb _ _ (c .if1 .left))

@@ -1,25 +1,19 @@
+-- `range_at` meets its contract.
 use Rattle.layers.specs.Ranges.{rangeAt}
 use mathlib.Core.Path.{_≡_, refl, sym, ap, _∙_}
 use borrow.Author.Needs.{needs}
 use Rattle.layers.proofs.ranges.range_at.Statement.{statement}
 use Rattle.layers.proofs.ranges.range_at.Tie as tie
-use Rattle.layers.proofs.ranges.range_at.Reads as reads
-use Rattle.layers.proofs.ranges.range_at.Lts as lts
-use Rattle.records.proofs.amount.Reads as amount-reads
 
--- src/lib.rt:72:9
 amount-requires : tie.Need-amount-requires
 amount-requires c κs = search needs
 
--- src/lib.rt:73:18
 cast-t6 : tie.Need-cast-t6
 cast-t6 c = search needs
 
--- src/lib.rt:73:41
 cast-t8 : tie.Need-cast-t8
 cast-t8 c = search needs
 
--- src/lib.rt:68:1
 returns : tie.Need-returns
 unfolding rangeAt
 returns c = cc

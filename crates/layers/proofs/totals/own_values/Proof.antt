@@ -1,11 +1,12 @@
 -- `own_values` meets its contract.
 use borrow.Author.Needs.{needs}
 use mathlib.Core.Path.{_∙_}
-use Rattle.records.specs.Whole.{between}
-use Rattle.layers.specs.Totals.{defaultOf}
 use Rattle.layers.specs.TotalsLaws.{ownValues}
 use Rattle.layers.proofs.totals.own_values.Statement.{statement}
 use Rattle.layers.proofs.totals.own_values.Tie as tie
+
+defaults-requires : tie.Need-defaults-requires
+defaults-requires c κs = search needs
 
 poured-requires : tie.Need-poured-requires
 poured-requires c κs = search needs
@@ -14,8 +15,8 @@ poured-requires-2 : tie.Need-poured-requires-2
 poured-requires-2 c κs = search needs
 
 returns : tie.Need-returns
-unfolding ownValues defaultOf between
-returns c = c .poured2 .ensures ∙ simp (c .before .poured .ensures)
+unfolding ownValues
+returns c = c .poured2 .ensures ∙ simp (c .before .poured .ensures, c .before .before .defaults .ensures)
 
 pub own-values-spec : {M : Type 1} → statement M
-own-values-spec = tie.close (tie.spec poured-requires poured-requires-2 returns)
+own-values-spec = tie.close (tie.spec defaults-requires poured-requires poured-requires-2 returns)
