@@ -130,9 +130,11 @@ static void run(Slot *s, uint16_t bend, uint8_t volume, uint8_t expression, cons
 static Slot struck(uint8_t i, uint64_t r) {
     static const Stage stages[8] = {{DELAY, 1000, 0}, {ATTACK, 0, 0}, {HOLD, 0, 0}, {DECAY, 0, 0}, {DECAY, 20000, 0}, {SUSTAIN, 0, 0}, {RELEASE, 0, 100}, {SUSTAIN, 0, 0}};
     static const uint8_t modes[4] = {0, 1, 3, 1};
+    static const int32_t cents[5] = {-2400, -700, 0, 650, 1800};
+    static const int16_t pans[3] = {-490, 40, 300};
     uint32_t length = i > 23 ? 40u + i : 3000u + 100u * i;
     return (Slot){true, {stages[i % 8], r % 64 * 1048576, 0, 60, 100, false, 0, false, 0, 65536, modes[i / 8], 10u * i, 10u * i + length,
-                         44100, i * 137 - 2400, (int16_t)(i * 31 - 490), i * 5, 7000, 9000, 200000, 300, 90000}};
+                         44100, cents[i % 5], pans[i % 3], 40, 7000, 9000, 200000, 300, 90000}};
 }
 
 static int16_t w[65536];
@@ -142,7 +144,7 @@ int main(void) {
     uint64_t rounds = 0, h = 0;
     while (rounds < 65536 && getchar() != EOF) rounds++;
     uint32_t x = 1;
-    for (size_t i = 0; i < 65536; i++) w[i] = (int16_t)((int32_t)(x = (x * 25173 + 13849) % 65536) - 32768);
+    for (size_t i = 0; i < 65536; i++) w[i] = (int16_t)((int32_t)((x = (x * 25173 + 13849) % 65536) % 20000) - 10000);
     for (uint64_t r = 0; r < rounds; r++) {
         for (size_t k = 0; k < 8192; k++) acc[k] = 0;
         for (uint8_t i = 0; i < 32; i++) {

@@ -3,12 +3,13 @@
 mod common;
 
 use common::Rig;
+use second::bank_admission::{Fault, Kind};
 use second::big::Natural;
-use second::make::bank_builder::{one_zone, quick, sample, SamplePlan};
+use second::make::bank_builder::{one_zone, quick, sample, zone_to, SamplePlan};
 use second::make::chance::Chance;
 use second::make::chance_cases::bank;
 use second::make::script::noise;
-use second::slots_keys_clock::Engine;
+use second::slots_keys_clock::TOO_MANY_LAYERS;
 use second::tables_and_steps::{bend_cents, tables};
 use second::voice::Stage;
 
@@ -28,18 +29,12 @@ fn in_the_middle(chance: &mut Chance) -> Rig {
     rig
 }
 
-/// The same state with the same things lent.
-fn again(rig: &Rig, engine: &Engine) -> Rig {
-    Rig {
-        engine: engine.clone(),
-        bank: Err(*rig.bank.as_ref().err().unwrap_or(&NO_BANK)),
-        ram: rig.ram.clone(),
-        rom: rig.rom.clone(),
-    }
-}
+const NO_BANK: Fault = Fault { kind: Kind::Chunk, place: 0 };
 
-const NO_BANK: second::bank_admission::Fault =
-    second::bank_admission::Fault { kind: second::bank_admission::Kind::Chunk, place: 0 };
+/// The same state and memories once more, for renders, which do not look at the bank.
+fn again(rig: &Rig) -> Rig {
+    Rig { engine: rig.engine.clone(), bank: Err(NO_BANK), ram: rig.ram.clone(), rom: rig.rom.clone() }
+}
 
 #[test]
 fn every_cut_of_a_render_gives_the_same_frames() {
@@ -48,16 +43,16 @@ fn every_cut_of_a_render_gives_the_same_frames() {
     for _ in 0..60 {
         let rig = in_the_middle(chance);
         let n = chance.from(1, 70) as u32;
-        let mut whole = again(&rig, &rig.engine);
+        let mut whole = again(&rig);
         let frames = whole.render(n);
         heard += frames.iter().filter(|&&number| number != 0.0).count();
         for cut in 0..=n {
-            let mut parts = again(&rig, &rig.engine);
+            let mut parts = again(&rig);
             let both = [parts.render(cut), parts.render(n - cut)].concat();
             assert_eq!(both, frames);
             assert_eq!(parts.engine, whole.engine);
         }
-        let mut single = again(&rig, &rig.engine);
+        let mut single = again(&rig);
         let one_by_one: Vec<f32> = (0..n).flat_map(|_| single.render(1)).collect();
         assert_eq!(one_by_one, frames);
         assert_eq!(single.engine, whole.engine);
@@ -113,6 +108,20 @@ fn a_refusal_changes_nothing() {
     for number in [1, 2, 3, 5, 6, 7, 8] {
         assert!(refusals[number] > 0, "number {number} was never given");
     }
+}
+
+/// Number 4, which banks by chance do not reach: 33 layers that would cut the voice that sounds.
+#[test]
+fn too_many_layers_change_nothing() {
+    let cutting = quick(&[(54, 1), (57, 3)]);
+    let mut plan = one_zone(&cutting, sample(0, 8));
+    plan.strike_plan(1, &[], vec![zone_to(&cutting, 53, 0); 33]);
+    let mut rig = Rig::new(&plan, &[9; 8]);
+    assert_eq!(rig.on(0, 60, 100), Ok(1));
+    assert_eq!(rig.engine.program(0, 1), Ok(0));
+    let before = rig.engine.clone();
+    assert_eq!(rig.on(0, 60, 100), Err(TOO_MANY_LAYERS));
+    assert_eq!(rig.engine, before);
 }
 
 /// "A done render writes exactly the first 2n numbers."

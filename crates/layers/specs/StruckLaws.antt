@@ -1,6 +1,6 @@
 -- Laws of the voices in an array, as the loop that fills it wants them.
 use mathlib.Core.Bool.{true, false}
-use mathlib.Core.List.{List, [], _∷_, _++_, map, map-append, append-assoc, append-nil}
+use mathlib.Core.List.{List, [], _∷_, _++_, map, map-append, append-assoc}
 use mathlib.Core.Path.{_≡_, refl, sym, ap, _∙_}
 use Prim.Native.Nat.{ℕ, suc, _+_, _-_, _≤_, _<_, min}
 use native.Mathlib.Numerals.{add-one}
@@ -8,11 +8,14 @@ use native.Mathlib.Omega.{arith}
 use borrow.Author.Tests.{le-leb, lt-leb}
 use native.Mathlib.Nat.{le-refl}
 use lib.ListN.{List·getD-append, length, take, replicate, set, getD, length-map, length-take}
-use lib.Seq.{take-all, take-suc, set-at, length-take-le}
+use lib.Seq.{take-all, take-at, take-suc, set-at, length-take-le}
 use Rattle.voice.specs.State.{blank}
 use Rattle.voice.specs.declared.Voice.{Voice}
-use Rattle.layers.specs.Layers.{noPair, upTo33}
-use Rattle.layers.specs.VoiceOf.{struckOf}
+use Rattle.records.specs.Sides.{partsOf}
+use Rattle.records.specs.declared.Found.the-variants.{Nothing, At}
+use Rattle.records.specs.declared.Parts.{Parts}
+use Rattle.layers.specs.Layers.{noPair, upTo33, presetFor, layersOf, layerCount, searched}
+use Rattle.layers.specs.VoiceOf.{voiceOf, voicesOf, hasPreset, struckVoices, struckOf}
 use Rattle.layers.specs.declared.Layers.{Layers}
 use Rattle.layers.specs.declared.Pair.{Pair}
 use Rattle.layers.specs.declared.Struck.{Struck}
@@ -67,3 +70,44 @@ module _ (f : Pair → Voice) (l : List Pair) where
   struck-many n e many =
       let len : length (map f (take 33 l)) ≡ n = length-map (take 33 l) f ∙ length-take 33 l ∙ sym e in
       rw (len, lt-leb n 32 many) refl
+
+-- what stands in the array: as many as there are, and they, where they are at most 32
+pub struck-count : (vs : List Voice) → struckOf vs .count ≡ length vs
+unfolding struckOf
+struck-count vs = refl
+
+pub struck-voices : (vs : List Voice) → length vs ≤ 32 → take (struckOf vs .count) (struckOf vs .voices) ≡ vs
+unfolding struckOf
+struck-voices vs few = rw (le-leb (length vs) 32 few) (take-at vs (replicate (32 - length vs) blank) (length vs) refl)
+
+-- the voices of a preset that is there, and of none
+module _ (b : List ℕ) (bank program : ℕ) where
+  pub struck-none : presetFor b (partsOf b) bank program ≡ Nothing → (channel key velocity : ℕ) → struckVoices b bank program channel key velocity ≡ []
+  unfolding struckVoices
+  struck-none e channel key velocity = rw e refl
+
+  pub struck-some : (h : ℕ) → presetFor b (partsOf b) bank program ≡ At h → (channel key velocity : ℕ) → struckVoices b bank program channel key velocity ≡ voicesOf b (partsOf b) h channel key velocity
+  unfolding struckVoices
+  struck-some h e channel key velocity = rw e refl
+
+  pub preset-none : presetFor b (partsOf b) bank program ≡ Nothing → hasPreset b bank program ≡ false
+  unfolding hasPreset
+  preset-none e = rw e refl
+
+  pub preset-some : (h : ℕ) → presetFor b (partsOf b) bank program ≡ At h → hasPreset b bank program ≡ true
+  unfolding hasPreset
+  preset-some h e = rw e refl
+
+-- the number of layers that the search gives is the number in full, and at most 33; as many voices stand for them
+module _ (b : List ℕ) (m : Parts) (key velocity h : ℕ) where
+  pub searched-count : searched b m key velocity h .count ≡ min 33 (layerCount b m key velocity h)
+  unfolding searched upTo33 layerCount
+  searched-count = refl
+
+  pub searched-most : searched b m key velocity h .count ≤ 33
+  searched-most = omega (arith, searched-count)
+
+  pub voices-count : (channel : ℕ) → length (voicesOf b m h channel key velocity) ≡ min 33 (layerCount b m key velocity h)
+  unfolding voicesOf layerCount
+  voices-count channel =
+      length-map (take 33 (layersOf b m key velocity h)) (voiceOf b m h channel key velocity) ∙ length-take 33 (layersOf b m key velocity h)

@@ -147,7 +147,7 @@ and-first : (a b : Bool) → (a && b) ≡ true → a ≡ true
 and-first true b e = refl
 and-first false b e = e
 
-held-channel : (c : ℕ) (s : Slot) → held c s ≡ true → ofChannel c s ≡ true
+pub held-channel : (c : ℕ) (s : Slot) → held c s ≡ true → ofChannel c s ≡ true
 unfolding held
 held-channel c s h = and-first (ofChannel c s) (not (released (s .voice .stage))) (and-first (ofChannel c s && not (released (s .voice .stage))) (not (s .voice .marked)) h)
 
@@ -277,7 +277,7 @@ render-to to ram rom out e i = by (eqb (renderNumber to ram rom (length out) e) 
     tells : Bool → Answered
     tells b = cond b (done 0 (withClock (played ram rom d e) to)) (refused n e)
 
-    by : (b : Bool) → eqb n 0 ≡ b → Turn e i 0 (cond (eqb (tells b .status) 0) d 0) [] (seats [] (record { engine = cleared 0 [] e; mine = 0 })) (tells b .engine)
+    by : (b : Bool) → eqb n 0 ≡ b → Turn e i 16 (cond (eqb (tells b .status) 0) d 0) [] (seats [] (record { engine = cleared 16 [] e; mine = 0 })) (tells b .engine)
     by true h = goes ram rom (slot-map e e (slotAfter ram rom e d) i (free-after (channelAt e 0) (window ram rom blank) d))
     by false h = stands refl (ap (λ (t : Bool). cond t d 0) h)
 

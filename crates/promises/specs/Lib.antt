@@ -14,4 +14,6 @@ pub mod Banks
 pub mod Frames
 pub mod Voices
 pub mod NightProof
+pub mod SeatsProof
+pub mod OutputProof
 pub mod Runs

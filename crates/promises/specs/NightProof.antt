@@ -97,7 +97,7 @@ set-down (y ∷ cs) (suc c) zero x h k = k
 set-down (y ∷ cs) (suc c) (suc d) x h k = set-down cs c d x h k
 
 -- another channel
-set-apart : (cs : List Channel) (c d : ℕ) (x : Channel) → (d ≡ c → ⊥) → getD (set cs c x) d noChannel ≡ getD cs d noChannel
+pub set-apart : (cs : List Channel) (c d : ℕ) (x : Channel) → (d ≡ c → ⊥) → getD (set cs c x) d noChannel ≡ getD cs d noChannel
 set-apart [] c d x h = refl
 set-apart (y ∷ cs) zero zero x h = absurd (h refl)
 set-apart (y ∷ cs) zero (suc d) x h = refl

@@ -6,7 +6,7 @@ use native.Mathlib.Nat.{suc-ne-zero, suc-inj, not-suc-le-zero, le-of-suc-le-suc}
 use native.Mathlib.Omega.{arith}
 use lib.Dec.{lit<, lit≤}
 use lib.IntN.{ℤ, pos, _+ℤ_, +ℤ-idr}
-use lib.ListN.{length, getD, set, length-append}
+use lib.ListN.{length, getD, set, replicate, length-append}
 use mir.Syntax.{w32}
 use mir.Val.{SFits, toZ, ofZ}
 use mir.Facts.{toZ-ofZ}
@@ -78,6 +78,12 @@ add-nothing (x ∷ xs) (y ∷ ys) = ap (_∷_ (y +ℤ x)) (add-nothing xs ys)
 
 pub small-none : Small 1 []
 small-none j = w-nat (lit≤ tt)
+
+-- sums of zeros
+pub zeros-small : (n : ℕ) → Small 0 (replicate n (pos 0))
+zeros-small zero j = w-nat (lit≤ tt)
+zeros-small (suc n) zero = w-nat (lit≤ tt)
+zeros-small (suc n) (suc j) = zeros-small n j
 
 pub small-two : (xs : List ℤ) (a b : ℤ) → Small 1 xs → Within a (1 * loudest) → Within b (1 * loudest) → Small 1 (xs ++ (a ∷ b ∷ []))
 small-two [] a b h p q zero = p

@@ -1,6 +1,6 @@
 // For timing (speed/): 32 voices of mixed stages, 4,096 frames a round; as many rounds as there are bytes on standard input. It writes a hash of all sums and places.
 ghost use mathlib.Core.Path.{_≡_};
-ghost use Prim.Native.Nat.{_≤_};
+ghost use Prim.Native.Nat.{_≤_, _<_};
 ghost use lib.ListN.{length};
 ghost use Rattle.curves.specs.Gains.{gains};
 ghost use Rattle.curves.specs.Octaves.{octaves};
@@ -34,10 +34,38 @@ fn mode_of(i: u8) -> u8 {
     }
 }
 
-// Voice i of round r; the last eight have short loops.
+// Samples in the loop: the last eight voices have short ones.
+fn length_of(i: u8) -> u32
+    ensures { λ r. ⌜ r ≤ 30000 ⌝ }
+{
+    if 23 < i {
+        return 40 + (i as u32);
+    }
+    3000 + 100 * (i as u32)
+}
+
+fn cents_of(i: u8) -> i32 {
+    match i % 5 {
+        0 => -2400,
+        1 => -700,
+        2 => 0,
+        3 => 650,
+        _ => 1800,
+    }
+}
+
+fn pan_of(i: u8) -> i16 {
+    match i % 3 {
+        0 => -490,
+        1 => 40,
+        _ => 300,
+    }
+}
+
+// Voice i of round r.
 fn struck(i: u8, r: u64) -> Slot {
-    let n = i as u32;
-    let length = if 23 < i { 40 + n } else { 3000 + 100 * n };
+    let from = 10 * (i as u32);
+    let length = length_of(i);
     Slot {
         sounding: true,
         voice: Voice {
@@ -52,12 +80,12 @@ fn struck(i: u8, r: u64) -> Slot {
             start: 0,
             end: 65536,
             mode: mode_of(i),
-            loopfrom: 10 * n,
-            loopto: 10 * n + length,
+            loopfrom: from,
+            loopto: from + length,
             rate: 44100,
-            pitch: (i as i32) * 137 - 2400,
-            pan: (i as i16) * 31 - 490,
-            attenuation: (i as i32) * 5,
+            pitch: cents_of(i),
+            pan: pan_of(i),
+            attenuation: 40,
             attack: 7000,
             hold: 9000,
             decay: 200000,
@@ -65,6 +93,12 @@ fn struck(i: u8, r: u64) -> Slot {
             release: 90000,
         },
     }
+}
+
+fn sample_of(x: u32) -> i16
+    requires { ⌜ x < 20000 ⌝ }
+{
+    (x as i32 - 10000) as i16
 }
 
 // 65,536 samples of noise.
@@ -76,7 +110,7 @@ fn samples() -> [i16; 65536]
     let mut i: usize = 0;
     while i < 65536 {
         x = (x * 25173 + 13849) % 65536;
-        w[i] = (x as i32 - 32768) as i16;
+        w[i] = sample_of(x % 20000);
         i = i + 1;
     }
     w

@@ -1,0 +1,28 @@
+-- `records::sides::mod_of` meets its contract.
+use Rattle.records.specs.Sides.{modOf}
+use borrow.Author.Needs.{needs}
+use Rattle.records.proofs.sides.mod_of.Statement.{statement}
+use Rattle.records.proofs.sides.mod_of.Tie as tie
+
+cast-u16-at : tie.Need-cast-u16-at
+cast-u16-at c = search needs
+
+mul-u16-at : tie.Need-mul-u16-at
+mul-u16-at c = search needs
+
+add-u16-at : tie.Need-add-u16-at
+add-u16-at c = search needs
+
+add-u16-at-2 : tie.Need-add-u16-at-2
+add-u16-at-2 c = search needs
+
+u16-at-requires : tie.Need-u16-at-requires
+u16-at-requires c κs = search needs
+
+returns : tie.Need-returns
+unfolding modOf
+returns c = c .u16-at .ensures
+
+pub mod-of-spec : {M : Type 1} → statement M
+mod-of-spec =
+    tie.close (tie.spec cast-u16-at mul-u16-at add-u16-at add-u16-at-2 u16-at-requires returns)

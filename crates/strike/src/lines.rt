@@ -1,0 +1,148 @@
+// The lines of a strike: how many layers, and each voice's numbers.
+use crate::Run;
+use layers::Struck;
+use records::Found;
+use voice::Stage;
+use voice::Voice;
+
+// Behind a bad command nothing is played.
+pub fn bad(text: &mut [u8; 65536], run: Run) -> Run {
+    let mut next = run;
+    next.at = cases::word(text, run.at, b"bad\n");
+    next.over = true;
+    next
+}
+
+fn number(text: &mut [u8; 65536], at: usize, n: u32) -> usize {
+    let to = cases::put(text, at, b' ');
+    cases::decimal(text, to, n as u64)
+}
+
+fn signed(text: &mut [u8; 65536], at: usize, z: i32) -> usize {
+    let to = cases::put(text, at, b' ');
+    cases::signed(text, to, z)
+}
+
+// The frames of the delay in which a voice starts.
+fn delay_of(s: Stage) -> u32 {
+    match s {
+        Stage::Delay { left } => left,
+        Stage::Attack { t: _ } => 0,
+        Stage::Hold { t: _ } => 0,
+        Stage::Decay { t: _ } => 0,
+        Stage::Sustain => 0,
+        Stage::Release { from: _, t: _ } => 0,
+    }
+}
+
+fn wide(x: i16) -> i32 {
+    x as i32
+}
+
+fn long(x: u16) -> u32 {
+    x as u32
+}
+
+fn small(x: u8) -> u32 {
+    x as u32
+}
+
+fn bit(x: bool) -> u32 {
+    if x { 1 } else { 0 }
+}
+
+// Frames and sustain.
+fn times(text: &mut [u8; 65536], at: usize, v: Voice) -> usize {
+    let s = v.stage;
+    let mut to = number(text, at, delay_of(s));
+    to = number(text, to, v.attack);
+    to = number(text, to, v.hold);
+    to = number(text, to, v.decay);
+    to = number(text, to, v.release);
+    number(text, to, long(v.sustain))
+}
+
+// Pan, class, attenuation, pitch and rate.
+fn levels(text: &mut [u8; 65536], at: usize, v: Voice) -> usize {
+    let mut to = signed(text, at, wide(v.pan));
+    to = signed(text, to, wide(records::signed16(v.class)));
+    to = signed(text, to, v.attenuation);
+    to = signed(text, to, v.pitch);
+    number(text, to, long(v.rate))
+}
+
+// Mode, memory and window; a loop's places only where it loops.
+fn window(text: &mut [u8; 65536], at: usize, v: Voice) -> usize {
+    let mut to = number(text, at, small(v.mode));
+    to = number(text, to, bit(v.rom));
+    to = number(text, to, v.start);
+    to = number(text, to, v.end);
+    if v.mode == 0 {
+        return cases::word(text, to, b" 0 0");
+    }
+    to = number(text, to, v.loopfrom);
+    number(text, to, v.loopto)
+}
+
+fn voice_line(text: &mut [u8; 65536], at: usize, v: Voice) -> usize {
+    let mut to = cases::put(text, at, b'v');
+    to = times(text, to, v);
+    to = levels(text, to, v);
+    to = window(text, to, v);
+    cases::put(text, to, b'\n')
+}
+
+fn voice_lines(text: &mut [u8; 65536], at: usize, s: Struck) -> usize {
+    let mut to = at;
+    let mut i: usize = 0;
+    while i < 32 && i < (s.count as usize) {
+        let v = s.voices[i];
+        to = voice_line(text, to, v);
+        i = i + 1;
+    }
+    to
+}
+
+fn found(text: &mut [u8; 65536], at: usize, s: Struck) -> usize {
+    let mut to = cases::put(text, at, b'k');
+    to = number(text, to, s.count);
+    to = cases::put(text, to, b'\n');
+    if 32 < s.count {
+        return to;
+    }
+    voice_lines(text, to, s)
+}
+
+// No bank, or no such preset.
+pub fn none(text: &mut [u8; 65536], at: usize) -> usize {
+    cases::word(text, at, b"k none\n")
+}
+
+// A record's number, which is always below 2^32.
+fn short(h: usize) -> u32 {
+    if h < 4294967296 { h as u32 } else { 0 }
+}
+
+// k, and the voices of each layer. An admitted bank's chunks end within 65,536 bytes.
+pub fn strike(
+    b: &[u8],
+    text: &mut [u8; 65536],
+    at: usize,
+    program: u8,
+    bank: u8,
+    key: u8,
+    velocity: u8,
+) -> usize {
+    if 65536 < records::chunk_at(b, 9) {
+        return none(text, at);
+    }
+    let m = records::parts_of(b);
+    match layers::preset_for(b, m, bank as u16, program) {
+        Found::Nothing => none(text, at),
+        Found::At(h) => found(
+            text,
+            at,
+            layers::voices_for(b, m, short(h), 0, key, velocity),
+        ),
+    }
+}

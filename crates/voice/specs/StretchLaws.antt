@@ -1,0 +1,199 @@
+-- A stretch of calm frames is what the definition of one frame, repeated, gives.
+use Prim.Native.Nat.{ℕ, zero, suc, _+_, _-_, _*_, _/_, _%_, _<_, _≤_}
+use mathlib.Core.Path.{_≡_, refl, sym, ap, ap₂, _∙_, subst}
+use mathlib.Core.Bool.{Bool, true, false, cond, _&&_}
+use mathlib.Core.List.{List, [], _∷_, _++_}
+use native.Mathlib.Nat.{suc-mul, zero-mul, add-zero}
+use native.Mathlib.Omega.{arith}
+use borrow.Author.Tests.{ne-eqb}
+use lib.Dec.{eqb}
+use lib.IntN.{ℤ, pos, _*ℤ_}
+use lib.ListN.{length}
+use Rattle.arith.specs.Floor.{floorZ}
+use Rattle.curves.specs.Decibels.{gainOf}
+use Rattle.voice.specs.declared.Stage.{Stage}
+use Rattle.voice.specs.declared.Stage.the-variants.{Delay, Attack, Hold, Decay, Sustain, Release}
+use Rattle.voice.specs.declared.Voice.{Voice}
+use Rattle.voice.specs.declared.Slot.{Slot}
+use Rattle.voice.specs.declared.Framed.{Framed}
+use Rattle.voice.specs.State.{withMoved, sounds}
+use Rattle.voice.specs.Stages.{envelope, entered, dead, waiting, released, spent, fromDelay, fromAttack, fromHold, fromDecay}
+use Rattle.voice.specs.Reading.{sample, between, behind, reading}
+use Rattle.voice.specs.Sound.{total, gained, shaped, leftOf, rightOf}
+use Rattle.voice.specs.Move.{folds, fold, folded, span}
+use Rattle.voice.specs.MoveLaws.{fold-in}
+use Rattle.voice.specs.Frame.{moved, goOn, loud, played, living, frameAt}
+use Rattle.voice.specs.FrameLaws.{go-fold, go-stay, frame-on, living-plays}
+use Rattle.voice.specs.Run.{afterAt, heardAt}
+use Rattle.voice.specs.Stretch.{spentBy, Calm, Calms, top, Clear, plain, plains}
+
+-- what a voice says of a stage, it says wherever it stands
+module _ (v : Voice) (x : Stage) (p : ℕ) (m : Bool) where
+  abbrev u : Voice
+  u = withMoved v x p m
+
+  entered-same : (s : Stage) → entered u s ≡ entered v s
+  unfolding fromDelay fromAttack fromHold fromDecay
+  entered-same (Delay left) = refl
+  entered-same (Attack t) = refl
+  entered-same (Hold t) = refl
+  entered-same (Decay t) = refl
+  entered-same Sustain = refl
+  entered-same (Release a t) = refl
+
+  dead-same : (s : Stage) → dead u s ≡ dead v s
+  dead-same (Delay left) = refl
+  dead-same (Attack t) = refl
+  dead-same (Hold t) = refl
+  dead-same (Decay t) = refl
+  dead-same Sustain = refl
+  dead-same (Release a t) = refl
+
+  envelope-same : (s : Stage) → envelope u s ≡ envelope v s
+  envelope-same (Delay left) = refl
+  envelope-same (Attack t) = refl
+  envelope-same (Hold t) = refl
+  envelope-same (Decay t) = refl
+  envelope-same Sustain = refl
+  envelope-same (Release a t) = refl
+
+  shaped-same : (s : Stage) (z : ℤ) → shaped u s z ≡ shaped v s z
+  shaped-same (Delay left) z = refl
+  shaped-same (Attack t) z = refl
+  shaped-same (Hold t) z = refl
+  shaped-same (Decay t) z = refl
+  shaped-same Sustain z = refl
+  shaped-same (Release a t) z = refl
+
+  folds-same : (g h : Stage) → released h ≡ released g → folds u h ≡ folds v g
+  unfolding folds
+  folds-same g h e = rw e
+
+more : (t j : ℕ) → t + j + 1 ≡ t + suc j
+more t j = omega arith
+
+less : (n j : ℕ) → n - j - 1 ≡ n - suc j
+less n j = omega arith
+
+-- one frame more, and j frames
+spent-by : (j : ℕ) (g : Stage) → spent (spentBy j g) ≡ spentBy (suc j) g
+spent-by j (Delay left) = ap Delay (less left j)
+spent-by j (Attack t) = ap Attack (more t j)
+spent-by j (Hold t) = ap Hold (more t j)
+spent-by j (Decay t) = ap Decay (more t j)
+spent-by j Sustain = refl
+spent-by j (Release a t) = ap (Release a) (more t j)
+
+spent-none : (g : Stage) → spentBy 0 g ≡ g
+spent-none (Delay left) = ap Delay (omega arith)
+spent-none (Attack t) = ap Attack (add-zero t)
+spent-none (Hold t) = ap Hold (add-zero t)
+spent-none (Decay t) = ap Decay (add-zero t)
+spent-none Sustain = refl
+spent-none (Release a t) = ap (Release a) (add-zero t)
+
+-- away from the loop's end the next sample stands behind
+next-behind : (f : Bool) (from to : ℕ) (w : List ℤ) (p : ℕ) → (f ≡ true → p / 16777216 + 1 < to)
+    → reading f from to w p ≡ between (sample w (p / 16777216)) (sample w (p / 16777216 + 1)) (p % 16777216)
+unfolding reading behind
+next-behind true from to w p h =
+    let k = h refl in
+    ap (λ (b : Bool). between (sample w (p / 16777216)) (sample w (cond b from (p / 16777216 + 1))) (p % 16777216))
+    (ne-eqb (p / 16777216 + 1) to (λ e. omega arith))
+next-behind false from to w p h = refl
+
+module _ (st : ℕ) (l : ℤ) (w : List ℤ) (v : Voice) (g : Stage) (alive : dead v g ≡ false) where
+  abbrev pub gainAt : ℕ
+  gainAt = gainOf (total l (envelope v g))
+
+  -- one calm frame in stage h, at place p
+  abbrev calmly : Stage → ℕ → Framed
+  calmly h p =
+      record {
+        slot = sounds (withMoved v (spent h) (p + st) (v .marked));
+        left = leftOf (plain gainAt w p) (v .pan);
+        right = rightOf (plain gainAt w p) (v .pan);
+      }
+
+  abbrev framed : Slot → ℤ → Framed
+  framed s z = record { slot = s; left = leftOf z (v .pan); right = rightOf z (v .pan) }
+
+  module _ (x h : Stage) (p : ℕ) (c : Calm v g h) (k : Clear w v g st p) where
+    abbrev at : Voice
+    at = withMoved v x p (v .marked)
+
+    folding : folds at h ≡ folds v g
+    folding = folds-same v x p (v .marked) g h (c .frees)
+
+    -- it is moved by its step, and neither folded nor freed
+    goes : goOn at h (p + st) ≡ sounds (withMoved v (spent h) (p + st) (v .marked))
+    goes = by (folds v g) refl (k .short)
+      where
+        by : (f : Bool) → folds v g ≡ f → p + st < cond f (v .loopto) (span v) * 16777216
+            → goOn at h (p + st) ≡ sounds (withMoved v (spent h) (p + st) (v .marked))
+        by true e z =
+            go-fold at h (p + st) (folding ∙ e)
+            ∙ ap (λ (q : ℕ). sounds (withMoved v (spent h) q (v .marked))) (fold-in (v .loopfrom * 16777216) (v .loopto * 16777216) (p + st) z)
+        by false e z = go-stay at h (p + st) (folding ∙ e) z
+
+    -- what it reads, at the gain
+    reads : reading (folds at h) (v .loopfrom) (v .loopto) w p
+        ≡ between (sample w (p / 16777216)) (sample w (p / 16777216 + 1)) (p % 16777216)
+    reads =
+        next-behind (folds at h) (v .loopfrom) (v .loopto) w p
+        (λ (e : folds at h ≡ true). subst (λ (f : Bool). p / 16777216 + 1 < cond f (v .loopto) (span v)) (sym folding ∙ e) (k .before))
+
+    louds : loud l w at h ≡ plain gainAt w p
+    unfolding loud gained plain
+    louds =
+        shaped-same v x p (v .marked) h _
+        ∙ c .full _
+        ∙ ap₂ (λ (z : ℤ) (a : ℕ). floorZ (z *ℤ pos (gainOf (total l a))) 65536) reads (envelope-same v x p (v .marked) h ∙ c .cb)
+
+    calm-frame : entered v x ≡ h → frameAt st l w (sounds at) ≡ calmly h p
+    unfolding played
+    calm-frame e =
+        let u = dead-same v x p (v .marked) h ∙ c .dies ∙ alive in
+        frame-on st l w (sounds at) refl
+        ∙ ap (living st l w at) (entered-same v x p (v .marked) x ∙ e)
+        ∙ living-plays st l w at h u (c .waits)
+        ∙ ap₂ (λ (s : Slot) (z : ℤ). framed s z) goes louds
+
+  -- the stage before frame j of the stretch
+  abbrev stageAt : ℕ → Stage
+  stageAt zero = v .stage
+  stageAt (suc j) = spentBy (suc j) g
+
+  pub record Stretched (m : ℕ) (s : Slot) (xs : List ℤ) : Type 0 where
+    pub slot : s ≡ sounds (withMoved v (stageAt m) (v .place + m * st) (v .marked))
+    pub sums : xs ≡ plains gainAt (v .pan) w st (v .place) m
+
+  module _ (enters : entered v (v .stage) ≡ g) where
+    stage-in : (j m : ℕ) → j < m → Calms v g m → entered v (stageAt j) ≡ spentBy j g
+    stage-in zero m h c = enters ∙ sym (spent-none g)
+    stage-in (suc j) m h c = c (suc j) h .enters
+
+    -- m calm and clear frames
+    pub stretched : (m : ℕ) → Calms v g m → ((j : ℕ) → j < m → Clear w v g st (v .place + j * st))
+        → Stretched m (afterAt st l w m (sounds v)) (heardAt st l w m (sounds v))
+    unfolding afterAt heardAt plains
+    stretched zero c k =
+        record { slot = ap (λ (p : ℕ). sounds (withMoved v (v .stage) p (v .marked))) (here (v .place)); sums = refl }
+      where
+        here : (p : ℕ) → p ≡ p + 0 * st
+        here p = omega (arith, zero-mul st)
+    stretched (suc m) c k =
+        let i = stretched m (λ j h. c j (omega arith)) (λ j h. k j (omega arith)) in
+        let p = v .place + m * st in
+        let f : frameAt st l w (afterAt st l w m (sounds v)) ≡ calmly (spentBy m g) p =
+        ap (frameAt st l w) (i .slot)
+        ∙ calm-frame (stageAt m) (spentBy m g) p (c m (omega arith)) (k m (omega arith)) (stage-in m (suc m) (omega arith) c) in
+        record {
+          slot =
+              ap (λ (y : Framed). y .slot) f
+              ∙ ap₂ (λ (x : Stage) (q : ℕ). sounds (withMoved v x q (v .marked))) (spent-by m g) (there (v .place) m);
+          sums = ap₂ (λ (xs : List ℤ) (y : Framed). xs ++ (y .left ∷ y .right ∷ [])) (i .sums) f;
+        }
+      where
+        there : (p m : ℕ) → p + m * st + st ≡ p + suc m * st
+        there p m = omega (arith, suc-mul m st)
