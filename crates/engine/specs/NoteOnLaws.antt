@@ -1,11 +1,11 @@
 -- Laws of note-on: its answer behind the test of ranges, by admission, preset and layers.
-use Prim.Native.Nat.{ℕ, _+_, _-_, _≤_, _<_}
-use mathlib.Core.Path.{_≡_, refl, sym, ap, ap₂, _∙_}
+use Prim.Native.Nat.{ℕ, _-_, _≤_, _<_}
+use mathlib.Core.Path.{_≡_, refl, ap, ap₂, _∙_}
 use mathlib.Core.Bool.{Bool, true, false, cond, not}
-use mathlib.Core.List.{List, _++_}
+use mathlib.Core.List.{List}
 use native.Mathlib.Omega.{arith}
 use borrow.Author.Tests.{le-leb}
-use lib.Dec.{eqb, ltb, leb}
+use lib.Dec.{ltb}
 use lib.IntN.{ℤ}
 use lib.ListN.{length, take, replicate}
 use lib.Seq.{take-at}
@@ -25,7 +25,7 @@ use Rattle.engine.specs.declared.Engine.{Engine}
 use Rattle.engine.specs.declared.Answered.{Answered}
 use Rattle.engine.specs.State.{channelAt}
 use Rattle.engine.specs.Answers.{done, refused, answer}
-use Rattle.engine.specs.NoteOn.{Bank, bankOf, anyPast, layersOf, struck, noteOnNumber, noteOn}
+use Rattle.engine.specs.NoteOn.{Bank, bankOf, anyPast, layersOf, struck, noteOnNumber}
 use Rattle.engine.specs.LentBank.{bankFrom}
 
 -- the answer of layers that were found: 4, 8, then done

@@ -1,16 +1,11 @@
 -- Past 31 refused, else as the slot is shown.
-use mathlib.Core.Path.{_≡_, refl, sym, ap, _∙_}
+use mathlib.Core.Path.{ap, _∙_}
 use borrow.Author.Tests.{lt-ltb, le-ltb}
 use Rattle.voice.specs.Panel.{shown}
 use Rattle.engine.specs.PanelAsk.{ask}
 use borrow.Author.Needs.{needs}
 use Rattle.engine.proofs.board.panel.Statement.{statement}
 use Rattle.engine.proofs.board.panel.Tie as tie
-use Rattle.engine.proofs.board.panel.Reads as reads
-use Rattle.engine.proofs.board.panel.Lts as lts
-use Rattle.curves.proofs.gains.Reads as gains-reads
-use Rattle.engine.proofs.slots.slot_of.Reads as slot-of-reads
-use Rattle.voice.proofs.show.Reads as show-reads
 
 returns : tie.Need-returns
 unfolding ask

@@ -1,14 +1,11 @@
 -- 128 on channel 9, else the bank that was taken.
-use mathlib.Core.Path.{_≡_, refl, sym, ap, _∙_}
+use mathlib.Core.Path.{ap, _∙_}
 use borrow.Author.Tests.{eq-eqb, ne-eqb}
 use Rattle.voice.specs.declared.Channel.{Channel}
 use Rattle.engine.specs.NoteOn.{bankOf}
 use borrow.Author.Needs.{needs}
 use Rattle.engine.proofs.striking.bank_number.Statement.{statement}
 use Rattle.engine.proofs.striking.bank_number.Tie as tie
-use Rattle.engine.proofs.striking.bank_number.Reads as reads
-use Rattle.engine.proofs.striking.bank_number.Lts as lts
-use Rattle.engine.proofs.channels.channel_of.Reads as channel-of-reads
 
 returns : tie.Need-returns
 unfolding bankOf

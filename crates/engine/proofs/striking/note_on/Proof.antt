@@ -1,6 +1,5 @@
 -- 2; velocity 0 as a note-off; then the bank.
-use mathlib.Core.Path.{_≡_, refl, sym, ap, _∙_}
-use mathlib.Core.Bool.{cond}
+use mathlib.Core.Path.{sym, _∙_}
 use borrow.Author.Tests.{eq-eqb, ne-eqb}
 use Rattle.engine.specs.Answers.{pastTwo}
 use Rattle.engine.specs.AnswerLaws.{refuses, passes}
@@ -9,12 +8,6 @@ use Rattle.engine.specs.NoteOnLaws.{bankAnswer}
 use borrow.Author.Needs.{needs}
 use Rattle.engine.proofs.striking.note_on.Statement.{statement}
 use Rattle.engine.proofs.striking.note_on.Tie as tie
-use Rattle.engine.proofs.striking.note_on.Reads as reads
-use Rattle.engine.proofs.striking.note_on.Lts as lts
-use Rattle.engine.proofs.answers.past_two.Reads as past-two-reads
-use Rattle.engine.proofs.answers.refuse.Reads as refuse-reads
-use Rattle.engine.proofs.keys.off_key.Reads as off-key-reads
-use Rattle.engine.proofs.striking.strike_bank.Reads as strike-bank-reads
 
 past-two-requires : tie.Need-past-two-requires
 past-two-requires c κs = search needs

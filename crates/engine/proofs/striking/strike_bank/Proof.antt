@@ -1,15 +1,14 @@
 -- Not admitted, no such preset, or its layers.
-use mathlib.Core.Path.{_≡_, refl, sym, ap, _∙_}
+use mathlib.Core.Path.{_≡_, sym, ap, _∙_}
 use native.Mathlib.Omega.{arith}
 use Prim.Native.Nat.{ℕ, _<_}
-use mathlib.Core.Bool.{true, false}
+use mathlib.Core.Bool.{true}
 use borrow.Author.Tests.{not-true, not-false}
 use Rattle.bank.specs.Admission.{admitted}
 use Rattle.bank.specs.AdmittedLaws.{admitted-room}
 use Rattle.layers.specs.Layers.{presetFor}
 use Rattle.layers.specs.VoiceOf.{voicesOf}
 use Rattle.records.specs.Sides.{partsOf}
-use Rattle.records.specs.declared.Found.{Found}
 use Rattle.records.specs.declared.Parts.{Parts}
 use Rattle.voice.specs.declared.Channel.{Channel}
 use Rattle.engine.specs.State.{channelAt}
@@ -18,15 +17,6 @@ use Rattle.engine.specs.NoteOnLaws.{layersAnswer, answer-bad, answer-non
 use borrow.Author.Needs.{needs}
 use Rattle.engine.proofs.striking.strike_bank.Statement.{statement}
 use Rattle.engine.proofs.striking.strike_bank.Tie as tie
-use Rattle.engine.proofs.striking.strike_bank.Reads as reads
-use Rattle.engine.proofs.striking.strike_bank.Lts as lts
-use Rattle.bank.proofs.admitted.Reads as admitted-reads
-use Rattle.engine.proofs.answers.refuse.Reads as refuse-reads
-use Rattle.engine.proofs.channels.channel_of.Reads as channel-of-reads
-use Rattle.engine.proofs.striking.bank_number.Reads as bank-number-reads
-use Rattle.engine.proofs.striking.strike_layers.Reads as strike-layers-reads
-use Rattle.layers.proofs.preset_for.Reads as preset-for-reads
-use Rattle.records.proofs.parts_of.Reads as parts-of-reads
 
 abbrev start : tie.After-preset-for → tie.Start
 start p = p .before .before .before .before .before .before .before

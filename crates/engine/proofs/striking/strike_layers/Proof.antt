@@ -1,26 +1,17 @@
 -- The voices of the layers, in an array: too many, one past its memory, or struck.
-use mathlib.Core.Path.{_≡_, refl, sym, ap, _∙_}
+use mathlib.Core.Path.{_≡_, sym, ap, _∙_, ap₂}
 use native.Mathlib.Omega.{arith}
-use Prim.Native.Nat.{ℕ, _≤_, _<_}
-use mathlib.Core.Path.{ap₂}
 use mathlib.Core.List.{List}
 use borrow.Author.Tests.{lt-ltb, le-ltb}
-use lib.ListN.{length, take}
+use lib.ListN.{length}
 use Rattle.layers.specs.VoiceOf.{voicesOf}
 use Rattle.voice.specs.declared.Voice.{Voice}
-use Rattle.engine.specs.declared.Engine.{Engine}
 use Rattle.engine.specs.Answers.{done}
 use Rattle.engine.specs.NoteOn.{anyPast, struck}
 use Rattle.engine.specs.NoteOnLaws.{layersAnswer, few-count, few-by}
 use borrow.Author.Needs.{needs}
 use Rattle.engine.proofs.striking.strike_layers.Statement.{statement}
 use Rattle.engine.proofs.striking.strike_layers.Tie as tie
-use Rattle.engine.proofs.striking.strike_layers.Reads as reads
-use Rattle.engine.proofs.striking.strike_layers.Lts as lts
-use Rattle.engine.proofs.answers.refuse.Reads as refuse-reads
-use Rattle.engine.proofs.strikes.any_past.Reads as any-past-reads
-use Rattle.engine.proofs.strikes.strike.Reads as strike-reads
-use Rattle.layers.proofs.voices_for.Reads as voices-for-reads
 
 abbrev layers : tie.After-voices-for → List Voice
 layers v =
