@@ -1,1 +1,4 @@
 pub mod Reading
+pub mod ReadingLaws
+pub mod Shelf
+pub mod ShelfLaws

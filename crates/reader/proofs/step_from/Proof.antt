@@ -1,41 +1,44 @@
+-- `reader::step_from` meets its contract.
+use mathlib.Core.Path.{_≡_, sym, ap, _∙_}
 use borrow.Author.Needs.{needs}
+use Rattle.bank.specs.declared.Listed.{Listed}
+use Rattle.reader.specs.Reading.{behind}
+use Rattle.reader.specs.ReadingLaws.{row-fits}
 use Rattle.reader.proofs.step_from.Statement.{statement}
 use Rattle.reader.proofs.step_from.Tie as tie
-use Rattle.reader.proofs.step_from.Reads as reads
-use Rattle.reader.proofs.step_from.Lts as lts
-use Rattle.bank.proofs.listed_at.Reads as listed-at-reads
 
--- src/lib.rt:36:9
 listed-at-requires : tie.Need-listed-at-requires
 listed-at-requires c κs = search needs
 
--- src/lib.rt:41:13
 enum-known-listed : tie.Need-enum-known-listed
 enum-known-listed c = search needs
 
--- src/lib.rt:44:20
 cast-t6 : tie.Need-cast-t6
-cast-t6 c = ?
+cast-t6 c =
+    let t = c .before .before .before in
+    record { fits = row-fits (t .before .before .args .bank .now) (t .before .before .args .place) _ _ _ (sym (t .listed-at .ensures) ∙ c .before .listed .given .1) }
 
--- src/lib.rt:46:24
 enum-told : tie.Need-enum-told
 enum-told c = search needs
 
--- src/lib.rt:47:28
 enum-told-2 : tie.Need-enum-told-2
 enum-told-2 c = search needs
 
--- src/lib.rt:33:1
 returns : tie.Need-returns
-returns c = ?
+returns c =
+    let t = c .before .before .before in
+    let e = sym (c .before .listed .given .1) ∙ t .listed-at .ensures in
+    (e, ap (λ (l : Listed). behind l (t .before .before .args .place)) e)
 
--- src/lib.rt:33:1
 returns-2 : tie.Need-returns-2
-returns-2 c = ?
+returns-2 c =
+    let t = c .before .before in
+    (t .listed-at .ensures, ap (λ (l : Listed). behind l (t .before .before .args .place)) (sym (c .enum-told .given .1) ∙ t .listed-at .ensures))
 
--- src/lib.rt:33:1
 returns-3 : tie.Need-returns-3
-returns-3 c = ?
+returns-3 c =
+    let t = c .before .before in
+    (t .listed-at .ensures, ap (λ (l : Listed). behind l (t .before .before .args .place)) (sym (c .enum-told2 .given .1) ∙ t .listed-at .ensures))
 
 pub step-from-spec : {M : Type 1} → statement M
 step-from-spec =
