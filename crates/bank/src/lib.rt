@@ -63,28 +63,26 @@ pub fn admission(b: &[u8]) -> Fault
     if 65536 < b.len() {
         return Fault::Long(65536);
     }
-    match chunks::chunk_fault(b) {
-        Found::At(p) => Fault::Chunk(p),
-        Found::Nothing => match chunks::records_fault(b) {
-            Found::At(p) => Fault::Records(p),
-            Found::Nothing => {
-                let m = records::parts_of(b);
-                match indexes::index_fault(b, m) {
-                    Found::At(p) => Fault::Index(p),
-                    Found::Nothing => match numbers::number_fault(b, m) {
-                        Found::At(p) => Fault::Number(p),
-                        Found::Nothing => match rates::rate_fault(b, m) {
-                            Found::At(p) => Fault::Rate(p),
-                            Found::Nothing => match windows::window_fault(b, m) {
-                                Found::At(p) => Fault::Window(p),
-                                Found::Nothing => Fault::Fine,
-                            },
-                        },
-                    },
-                }
-            }
-        },
+    if let Found::At(p) = chunks::chunk_fault(b) {
+        return Fault::Chunk(p);
     }
+    if let Found::At(p) = chunks::records_fault(b) {
+        return Fault::Records(p);
+    }
+    let m = records::parts_of(b);
+    if let Found::At(p) = indexes::index_fault(b, m) {
+        return Fault::Index(p);
+    }
+    if let Found::At(p) = numbers::number_fault(b, m) {
+        return Fault::Number(p);
+    }
+    if let Found::At(p) = rates::rate_fault(b, m) {
+        return Fault::Rate(p);
+    }
+    if let Found::At(p) = windows::window_fault(b, m) {
+        return Fault::Window(p);
+    }
+    Fault::Fine
 }
 
 // 01's number for what was found.
