@@ -45,6 +45,10 @@ pub record Calm (v : Voice) (g h : Stage) : Type 0 where
 abbrev pub Calms : Voice → Stage → ℕ → Type 0
 Calms v g m = (j : ℕ) → j < m → Calm v g (spentBy j g)
 
+-- for m frames floor(1,000 * t / n) stays
+abbrev pub Steady : ℕ → ℕ → ℕ → Type 0
+Steady n t m = (j : ℕ) → j < m → 1000 * (t + j) / n ≡ 1000 * t / n
+
 -- where the loop ends, or the window if it does not fold
 abbrev pub top : Voice → Stage → ℕ
 top v g = cond (folds v g) (v .loopto) (span v)

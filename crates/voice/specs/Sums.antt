@@ -2,7 +2,7 @@
 use Prim.Native.Nat.{ℕ, zero, suc, _+_, _*_, _≤_, _<_}
 use mathlib.Core.Path.{_≡_, refl, ap, ap₂, sym, _∙_}
 use mathlib.Core.List.{List, [], _∷_, _++_, append-assoc}
-use native.Mathlib.Nat.{suc-ne-zero, suc-inj, not-suc-le-zero, le-of-suc-le-suc}
+use native.Mathlib.Nat.{suc-ne-zero, suc-inj, not-suc-le-zero, le-of-suc-le-suc, add-zero, zero-add}
 use native.Mathlib.Omega.{arith}
 use lib.Dec.{lit<, lit≤}
 use lib.IntN.{ℤ, pos, _+ℤ_, +ℤ-idr}
@@ -21,9 +21,19 @@ addTo [] ys = ys
 addTo (x ∷ xs) [] = []
 addTo (x ∷ xs) (y ∷ ys) = (y +ℤ x) ∷ addTo xs ys
 
+-- the same from element k on
+unfoldable pub addAt : ℕ → List ℤ → List ℤ → List ℤ
+addAt zero xs ys = addTo xs ys
+addAt (suc k) xs [] = []
+addAt (suc k) xs (y ∷ ys) = y ∷ addAt k xs ys
+
 -- each element is at most what b voices add
 abbrev pub Small : ℕ → List ℤ → Type 0
 Small b xs = (j : ℕ) → Within (getD xs j (pos 0)) (b * loudest)
+
+-- each element from k on is at most what 31 voices add
+abbrev pub From : ℕ → List ℤ → Type 0
+From k xs = (j : ℕ) → k ≤ j → Within (getD xs j (pos 0)) (31 * loudest)
 
 pub addTo-none : (ys : List ℤ) → addTo [] ys ≡ ys
 unfolding addTo
@@ -106,3 +116,58 @@ add-bits a z p q =
     let one = w-back w32 p (lit< tt) in
     let two = w-back w32 q (lit< tt) in
     (rw (one, two), w-fits w32 (w-add p q) (lit< tt), w-back w32 (w-add p q) (lit< tt))
+
+-- numbers added behind those that are added
+pub add-after : (k n : ℕ) (xs zs ys : List ℤ) → n ≡ k + length xs → addAt n zs (addAt k xs ys) ≡ addAt k (xs ++ zs) ys
+unfolding addAt addTo
+add-after zero zero [] zs ys e = refl
+add-after zero (suc n) [] zs ys e = absurd (suc-ne-zero n (e ∙ add-zero 0))
+add-after zero zero (x ∷ xs) zs ys e = absurd (suc-ne-zero _ (sym (e ∙ zero-add _)))
+add-after zero (suc n) (x ∷ xs) zs [] e = refl
+add-after zero (suc n) (x ∷ xs) zs (y ∷ ys) e = ap (_∷_ (y +ℤ x)) (add-after zero n xs zs ys (omega arith))
+add-after (suc k) zero xs zs ys e = absurd (no (length xs) e)
+  where
+    no : (n : ℕ) → zero ≡ suc k + n → ⊥
+    no n e = omega arith
+add-after (suc k) (suc n) xs zs [] e = refl
+add-after (suc k) (suc n) xs zs (y ∷ ys) e = ap (_∷_ y) (add-after k n xs zs ys (omega arith))
+
+-- what stands behind stays
+pub add-beyond : (k : ℕ) (xs ys : List ℤ) (j : ℕ) → k + length xs ≤ j → getD (addAt k xs ys) j (pos 0) ≡ getD ys j (pos 0)
+unfolding addAt addTo
+add-beyond zero [] ys j h = refl
+add-beyond zero (x ∷ xs) [] j h = refl
+add-beyond zero (x ∷ xs) (y ∷ ys) zero h = absurd (no (length xs) h)
+  where
+    no : (n : ℕ) → zero + suc n ≤ 0 → ⊥
+    no n e = omega arith
+add-beyond zero (x ∷ xs) (y ∷ ys) (suc j) h = add-beyond zero xs ys j (omega arith)
+add-beyond (suc k) xs [] j h = refl
+add-beyond (suc k) xs (y ∷ ys) zero h = absurd (no (length xs) h)
+  where
+    no : (n : ℕ) → suc k + n ≤ 0 → ⊥
+    no n e = omega arith
+add-beyond (suc k) xs (y ∷ ys) (suc j) h = add-beyond k xs ys j (omega arith)
+
+pub addAt-length : (k : ℕ) (xs ys : List ℤ) → length (addAt k xs ys) ≡ length ys
+unfolding addAt
+addAt-length zero xs ys = addTo-length xs ys
+addAt-length (suc k) xs [] = refl
+addAt-length (suc k) xs (y ∷ ys) = ap suc (addAt-length k xs ys)
+
+pub addAt-none : (k : ℕ) (ys : List ℤ) → addAt k [] ys ≡ ys
+unfolding addAt addTo
+addAt-none zero ys = refl
+addAt-none (suc k) [] = refl
+addAt-none (suc k) (y ∷ ys) = ap (_∷_ y) (addAt-none k ys)
+
+-- a frame's two stores
+pub pair-at : (i m : ℕ) (a b : ℤ) (ys : List ℤ) → m ≡ suc i → m < length ys
+    → set (set ys i (getD ys i (pos 0) +ℤ a)) m (getD ys m (pos 0) +ℤ b) ≡ addAt i (a ∷ b ∷ []) ys
+unfolding addAt addTo
+pair-at i zero a b ys e h = absurd (suc-ne-zero i (sym e))
+pair-at i (suc m) a b [] e h = absurd (not-suc-le-zero h)
+pair-at zero (suc zero) a b (y ∷ []) e h = absurd (not-suc-le-zero (le-of-suc-le-suc h))
+pair-at zero (suc zero) a b (y ∷ z ∷ ys) e h = refl
+pair-at zero (suc (suc m)) a b (y ∷ ys) e h = absurd (suc-ne-zero m (suc-inj e))
+pair-at (suc i) (suc m) a b (y ∷ ys) e h = ap (_∷_ y) (pair-at i m a b ys (suc-inj e) (le-of-suc-le-suc h))
