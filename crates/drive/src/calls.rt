@@ -5,11 +5,9 @@ use crate::lending::first_samples;
 use crate::lending::moved;
 use crate::lending::spoilt;
 use crate::trace;
-use bank::Fault;
 use bank::Listed;
 use cases::Place;
 use engine::Answered;
-use engine::Engine;
 use voice::Shown;
 
 // Two or three bytes of a command, and the place behind them.
@@ -63,18 +61,10 @@ fn counted(text: &mut [u8; 65536], letter: u8, a: Answered, run: Run) -> Run {
     next
 }
 
-// The number of an admission.
-fn number_of(f: Fault) -> u8 {
-    match f {
-        Fault::Fine => 0,
-        _ => 1,
-    }
-}
-
 // a: admission.
 pub fn admission(bank: &[u8], text: &mut [u8; 65536], run: Run) -> Run {
     let e = run.engine;
-    let status = number_of(bank::admission(first_bytes(bank, run.bank)));
+    let status = engine::admit(first_bytes(bank, run.bank));
     let a = Answered {
         status,
         count: 0,
@@ -117,7 +107,7 @@ pub fn listing(bank: &[u8], room: &mut [u8; 65536], text: &mut [u8; 65536], run:
     let at = row(
         text,
         run.at,
-        crate::stand_in::listed(first_bytes(bank, run.bank), wanted.value),
+        engine::list(first_bytes(bank, run.bank), wanted.value),
     );
     next.at = trace::state(text, at, e);
     next
@@ -142,7 +132,7 @@ pub fn note_on<'a>(
     let e = run.engine;
     let ram_of = run.ram;
     let rom_of = run.rom;
-    let a = crate::stand_in::note_on(
+    let a = engine::note_on(
         e,
         first_bytes(bank, run.bank),
         first_samples(ram, ram_of.lent),
@@ -238,7 +228,7 @@ fn rendered<'a>(
 ) -> Run {
     let before = run.engine;
     fill(out);
-    let a = crate::stand_in::render(before, ram, rom, out, to);
+    let a = engine::render(before, ram, rom, out, to);
     let e = a.engine;
     let mut at = trace::number(text, run.at, b'r', a.status);
     at = cases::put(text, at, b' ');
@@ -311,7 +301,7 @@ pub fn panel(room: &mut [u8; 65536], text: &mut [u8; 65536], run: Run) -> Run {
         return next;
     }
     let e = run.engine;
-    let at = shown(text, run.at, crate::stand_in::panel(e, slot.value));
+    let at = shown(text, run.at, engine::panel(e, slot.value));
     next.at = trace::state(text, at, e);
     next
 }

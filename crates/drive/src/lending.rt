@@ -135,7 +135,7 @@ pub fn fresh_at(room: &mut [u8; 65536], run: Run) -> Run {
     let from = run.place;
     let clock = cases::next_u32(room, from);
     let mut next = moved(run, clock.place);
-    let mut e = crate::stand_in::fresh();
+    let mut e = engine::fresh();
     e.clock = clock.value;
     next.engine = e;
     next

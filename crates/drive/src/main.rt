@@ -2,7 +2,6 @@
 mod calls; // calls.rt: the commands that are calls
 mod lending; // lending.rt: the commands that say what is lent, a fresh engine
 mod naming; // naming.rt: a case's name
-mod stand_in;
 mod trace; // trace.rt: the lines of a trace
 
 use cases::Place;
@@ -32,7 +31,7 @@ pub struct Run {
 fn begin() -> Run {
     let none = Memory { held: 0, lent: 0 };
     Run {
-        engine: stand_in::fresh(),
+        engine: engine::fresh(),
         place: cases::start(),
         at: 0,
         bank: 0,

@@ -54,7 +54,7 @@ fn slot(text: &mut [u8; 65536], at: usize, e: Engine, i: u32) -> usize
         return at;
     }
     let to = decimal(text, at, i as u64);
-    stage(text, to, crate::stand_in::panel(e, i as u8))
+    stage(text, to, engine::panel(e, i as u8))
 }
 
 // The slots that sound, in order.

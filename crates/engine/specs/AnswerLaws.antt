@@ -1,6 +1,6 @@
 -- Laws of the answers: what a test of the ranges gives, each way.
 use Prim.Native.Nat.{ℕ, _<_}
-use mathlib.Core.Path.{_≡_, refl, sym, ap, _∙_}
+use mathlib.Core.Path.{_≡_, refl}
 use mathlib.Core.Bool.{Bool, true, false, cond, _||_}
 use native.Mathlib.Omega.{arith}
 use borrow.Author.Tests.{ltb-false}

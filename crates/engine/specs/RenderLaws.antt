@@ -25,9 +25,10 @@ use Rattle.voice.specs.Sound.{loss}
 use Rattle.voice.specs.Run.{after, leftIn, rightIn, heard, afterAt, heardAt}
 use Rattle.voice.specs.RunLaws.{once, heard-once, heard-length}
 use Rattle.voice.specs.Silence.{stays, adds-nothing, stays-small}
-use Rattle.voice.specs.Sums.{addTo, addTo-none, addTo-length, addTo-small, Small, small-none}
+use Rattle.voice.specs.Sums.{addTo, addTo-none, addTo-length, Small, small-none}
 use Rattle.engine.specs.declared.Engine.{Engine}
 use Rattle.engine.specs.State.{slotsOf, channelAt}
+use Rattle.engine.specs.StrikeLaws.{or-none, or-assoc}
 use Rattle.engine.specs.NoteOn.{endsPast}
 use Rattle.engine.specs.Render.{distance, window, lacking, renderNumber, slotAfter, slotLeft, slotRight, leftSum, rightSum, mixed, output}
 
@@ -54,14 +55,6 @@ zero-low to ram rom room e h = by (leb 2147483648 (distance e to)) (ltb 4096 (di
 pub clock-there : (e : Engine) (to n t : ℕ) → e .clock < 4294967296 → to < 4294967296 → n ≡ distance e to → t ≡ (e .clock + n) % 4294967296 → t ≡ to
 unfolding distance
 clock-there e to n t h g p q = omega arith
-
-or-none : (a : Bool) → (a || false) ≡ a
-or-none true = refl
-or-none false = refl
-
-or-assoc : (a b c : Bool) → (a || (b || c)) ≡ ((a || b) || c)
-or-assoc true b c = refl
-or-assoc false b c = refl
 
 lack-snoc : (ram rom : List ℤ) (ss : List Slot) (s : Slot)
     → lacking ram rom (ss ++ (s ∷ [])) ≡ (lacking ram rom ss || s .sounding && endsPast ram rom (s .voice))

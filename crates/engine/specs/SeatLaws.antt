@@ -2,7 +2,7 @@
 use Prim.Native.Nat.{ℕ, zero, suc, _+_, _*_, _/_, _%_, _^_, _≤_, _<_, max}
 use mathlib.Core.Path.{_≡_, refl, sym, ap, ap₂, _∙_}
 use mathlib.Core.Bool.{Bool, true, false, cond}
-use mathlib.Core.List.{List, [], _∷_, _++_, map}
+use mathlib.Core.List.{List, [], _∷_, _++_}
 use mathlib.Core.Logic.{_⊎_, ⊎-elim, inl, inr}
 use native.Mathlib.Nat.{pow-zero, pow-suc, not-suc-le-zero, le-of-suc-le-suc}
 use native.Mathlib.Numerals.{add-one}
@@ -10,15 +10,14 @@ use native.Mathlib.Omega.{arith}
 use borrow.Author.Tests.{le-ltb, lt-ltb, eq-eqb, ne-eqb}
 use lib.Bits.{bitOr, or-step, or-zero-r}
 use lib.Dec.{eqb, ltb, leb·suc-suc}
-use lib.ListN.{length, getD, set, take, length-append, length-take, List·getD-append}
+use lib.ListN.{length, getD, set, take, length-append, length-take}
 use lib.Seq.{take-suc, take-suc-set, getD-take}
 use Rattle.arith.specs.Word.{lowestClear}
 use Rattle.voice.specs.declared.Voice.{Voice}
-use Rattle.voice.specs.declared.Slot.{Slot}
 use Rattle.voice.specs.State.{sounds}
 use Rattle.engine.specs.declared.Engine.{Engine}
-use Rattle.engine.specs.State.{paired, wordOf, voicesOf, slotsOf, withSlots, withOrder}
-use Rattle.engine.specs.Slots.{lowestFree, orderOf, leastBy, without, renewed}
+use Rattle.engine.specs.State.{paired, wordOf, slotsOf, withSlots, withOrder}
+use Rattle.engine.specs.Slots.{lowestFree, leastBy, without, renewed}
 use Rattle.engine.specs.SlotLoop.{voices-back, voices-set}
 
 -- an entry of the order, read as a slot

@@ -1,5 +1,5 @@
 -- Loops over the slots: a turn reads slot i by its bit and its record, and adds its flag to the word that is built anew.
-use Prim.Native.Nat.{ℕ, zero, suc, _+_, _*_, _/_, _%_, _^_, _≤_, _<_}
+use Prim.Native.Nat.{ℕ, zero, suc, _+_, _*_, _/_, _^_, _≤_, _<_}
 use mathlib.Core.Path.{_≡_, refl, sym, ap, _∙_, subst}
 use mathlib.Core.Bool.{Bool, true, false, cond}
 use mathlib.Core.List.{List, [], _∷_, _++_, map}
@@ -16,7 +16,7 @@ use Rattle.voice.specs.declared.Voice.{Voice}
 use Rattle.voice.specs.declared.Slot.{Slot}
 use Rattle.voice.specs.State.{blank, free}
 use Rattle.engine.specs.declared.Engine.{Engine}
-use Rattle.engine.specs.State.{paired, wordOf, voicesOf, slotsOf, slotAt, withSlots, withWord}
+use Rattle.engine.specs.State.{paired, wordOf, voicesOf, slotsOf, withSlots, withWord}
 use Rattle.engine.specs.NoteOff.{ofChannel}
 use Rattle.engine.specs.Controls.{cut}
 use Rattle.engine.specs.StateLaws.{map-at}

@@ -1,15 +1,14 @@
 -- Laws of a note-on's loops: each goes along the first layers of a list, and a turn is one layer more.
-use Prim.Native.Nat.{ℕ, zero, suc, _+_, _<_}
-use mathlib.Core.Path.{_≡_, refl, sym, ap, _∙_}
-use mathlib.Core.Bool.{Bool, true, false, cond, not, _&&_, _||_}
-use mathlib.Core.List.{List, [], _∷_, _++_, map}
+use Prim.Native.Nat.{ℕ, _+_, _<_}
+use mathlib.Core.Path.{_≡_, refl, ap, _∙_}
+use mathlib.Core.Bool.{Bool, true, false, not, _&&_, _||_}
+use mathlib.Core.List.{List, [], _∷_, _++_}
 use native.Mathlib.Numerals.{add-one}
 use lib.Dec.{eqb}
 use lib.IntN.{ℤ}
 use lib.ListN.{length, getD, take}
 use lib.Seq.{take-suc}
 use Rattle.voice.specs.declared.Voice.{Voice}
-use Rattle.voice.specs.declared.Slot.{Slot}
 use Rattle.voice.specs.State.{blank, free}
 use Rattle.engine.specs.declared.Engine.{Engine}
 use Rattle.engine.specs.declared.Begun.{Begun}
@@ -25,11 +24,11 @@ startedOf b = record { engine = b .engine; mine = b .mine }
 abbrev pub begin : Engine → Started
 begin e = record { engine = e; mine = 0 }
 
-or-none : (a : Bool) → (a || false) ≡ a
+pub or-none : (a : Bool) → (a || false) ≡ a
 or-none true = refl
 or-none false = refl
 
-or-assoc : (a b c : Bool) → (a || (b || c)) ≡ ((a || b) || c)
+pub or-assoc : (a b c : Bool) → (a || (b || c)) ≡ ((a || b) || c)
 or-assoc true b c = refl
 or-assoc false b c = refl
 

@@ -3,21 +3,26 @@ mod answers; // answers.rt: done or refused, and the test of ranges
 mod slots; // slots.rt: one slot of a state, and the word
 mod channels; // channels.rt: a channel of a state; program change and pitch bend
 mod keys; // keys.rt: note-off, and which voices are let off
-mod panel; // panel.rt: what the panel is told
+mod board; // board.rt: what the panel is told
 mod quiet; // quiet.rt: the fresh state
 mod seats; // seats.rt: which slot a layer takes, and the order of age
 mod strikes; // strikes.rt: classes, and layers started in slots
 mod sums; // sums.rt: the voices of a state, added up
 mod rendering; // rendering.rt: render
+mod striking; // striking.rt: note-on
+mod lending; // lending.rt: admission and listing of a lent bank
 mod controls; // controls.rt: control change
 
+pub use board::panel;
 pub use channels::pitch_bend;
 pub use channels::program_change;
 pub use controls::control_change;
 pub use keys::note_off;
-pub use panel::ask_panel;
+pub use lending::admit;
+pub use lending::list;
 pub use quiet::fresh;
 pub use rendering::render;
+pub use striking::note_on;
 use voice::Channel;
 use voice::Voice;
 

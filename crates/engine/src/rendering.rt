@@ -87,7 +87,7 @@ fn play<'a>(e: Engine, ram: &'a [i16], rom: &'a [i16], out: &mut [f32], n: usize
 }
 
 // Render to a clock value: the voices' frames into the first 2n numbers of the output.
-pub fn render<'a>(e: Engine, to: u32, ram: &'a [i16], rom: &'a [i16], out: &mut [f32]) -> Answered
+pub fn render<'a>(e: Engine, ram: &'a [i16], rom: &'a [i16], out: &mut [f32], to: u32) -> Answered
     ensures { λ r. ⌜ (r ≡ render to (now (ram .entry)) (now (rom .entry)) (length (now (out .entry))) e) × (now (out .exit) ≡ rendered to (now (ram .entry)) (now (rom .entry)) (now (out .entry)) e) ⌝ }
 {
     let number = render_number(e, to, ram, rom, out.len());

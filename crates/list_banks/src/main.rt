@@ -1,4 +1,4 @@
-// Admits and lists the banks of a case file (standard input), and writes a line for each call. Of the letters it has B, a, l and t.
+// Admits the banks of a case file (standard input), lists them by the reader, and writes a line for each call. Of the letters it has B, a, l and t.
 use bank::Listed;
 
 const IN: i32 = 0;
@@ -77,8 +77,9 @@ fn write_row(program: u16, bank: u16, next: usize) {
     write_state();
 }
 
+// One step of the listing: what the reader's next gives at the place.
 fn list(b: &[u8], place: u32) {
-    match bank::listed_at(b, place) {
+    match reader::nth(b, place as usize) {
         Listed::Refused => {
             io::write_all(OUT, b"l 1");
             write_state();

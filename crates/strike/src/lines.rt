@@ -13,9 +13,9 @@ pub fn bad(text: &mut [u8; 65536], run: Run) -> Run {
     next
 }
 
-fn number(text: &mut [u8; 65536], at: usize, n: u64) -> usize {
+fn number(text: &mut [u8; 65536], at: usize, n: u32) -> usize {
     let to = cases::put(text, at, b' ');
-    cases::decimal(text, to, n)
+    cases::decimal(text, to, n as u64)
 }
 
 fn signed(text: &mut [u8; 65536], at: usize, z: i32) -> usize {
@@ -35,23 +35,31 @@ fn delay_of(s: Stage) -> u32 {
     }
 }
 
-// Frames and sustain.
-fn times(text: &mut [u8; 65536], at: usize, v: Voice) -> usize {
-    let s = v.stage;
-    let mut to = number(text, at, delay_of(s) as u64);
-    to = number(text, to, v.attack as u64);
-    to = number(text, to, v.hold as u64);
-    to = number(text, to, v.decay as u64);
-    to = number(text, to, v.release as u64);
-    number(text, to, v.sustain as u64)
-}
-
 fn wide(x: i16) -> i32 {
     x as i32
 }
 
-fn bit(x: bool) -> u64 {
+fn long(x: u16) -> u32 {
+    x as u32
+}
+
+fn small(x: u8) -> u32 {
+    x as u32
+}
+
+fn bit(x: bool) -> u32 {
     if x { 1 } else { 0 }
+}
+
+// Frames and sustain.
+fn times(text: &mut [u8; 65536], at: usize, v: Voice) -> usize {
+    let s = v.stage;
+    let mut to = number(text, at, delay_of(s));
+    to = number(text, to, v.attack);
+    to = number(text, to, v.hold);
+    to = number(text, to, v.decay);
+    to = number(text, to, v.release);
+    number(text, to, long(v.sustain))
 }
 
 // Pan, class, attenuation, pitch and rate.
@@ -60,20 +68,20 @@ fn levels(text: &mut [u8; 65536], at: usize, v: Voice) -> usize {
     to = signed(text, to, wide(records::signed16(v.class)));
     to = signed(text, to, v.attenuation);
     to = signed(text, to, v.pitch);
-    number(text, to, v.rate as u64)
+    number(text, to, long(v.rate))
 }
 
 // Mode, memory and window; a loop's places only where it loops.
 fn window(text: &mut [u8; 65536], at: usize, v: Voice) -> usize {
-    let mut to = number(text, at, v.mode as u64);
+    let mut to = number(text, at, small(v.mode));
     to = number(text, to, bit(v.rom));
-    to = number(text, to, v.start as u64);
-    to = number(text, to, v.end as u64);
+    to = number(text, to, v.start);
+    to = number(text, to, v.end);
     if v.mode == 0 {
         return cases::word(text, to, b" 0 0");
     }
-    to = number(text, to, v.loopfrom as u64);
-    number(text, to, v.loopto as u64)
+    to = number(text, to, v.loopfrom);
+    number(text, to, v.loopto)
 }
 
 fn voice_line(text: &mut [u8; 65536], at: usize, v: Voice) -> usize {
@@ -97,7 +105,7 @@ fn voice_lines(text: &mut [u8; 65536], at: usize, s: Struck) -> usize {
 
 fn found(text: &mut [u8; 65536], at: usize, s: Struck) -> usize {
     let mut to = cases::put(text, at, b'k');
-    to = number(text, to, s.count as u64);
+    to = number(text, to, s.count);
     to = cases::put(text, to, b'\n');
     if 32 < s.count {
         return to;
@@ -105,7 +113,8 @@ fn found(text: &mut [u8; 65536], at: usize, s: Struck) -> usize {
     voice_lines(text, to, s)
 }
 
-fn none(text: &mut [u8; 65536], at: usize) -> usize {
+// No bank, or no such preset.
+pub fn none(text: &mut [u8; 65536], at: usize) -> usize {
     cases::word(text, at, b"k none\n")
 }
 
@@ -114,7 +123,7 @@ fn short(h: usize) -> u32 {
     if h < 4294967296 { h as u32 } else { 0 }
 }
 
-// k, and the voices of each layer; `none` where there is no such preset, or no bank.
+// k, and the voices of each layer. An admitted bank's chunks end within 65,536 bytes.
 pub fn strike(
     b: &[u8],
     text: &mut [u8; 65536],
@@ -124,7 +133,7 @@ pub fn strike(
     key: u8,
     velocity: u8,
 ) -> usize {
-    if !bank::admitted(b) {
+    if 65536 < records::chunk_at(b, 9) {
         return none(text, at);
     }
     let m = records::parts_of(b);

@@ -11,8 +11,9 @@ pub struct Run {
     pub place: Place,
     // how much text is to be written yet
     pub at: usize,
-    // how many bytes of the bank are lent
+    // how many bytes of the bank are lent, and whether they are admitted
     pub bank: usize,
+    pub admitted: bool,
     pub over: bool,
 }
 
@@ -22,6 +23,7 @@ fn begin() -> Run {
         place: cases::start(),
         at: 0,
         bank: 0,
+        admitted: false,
         over: false,
     }
 }
@@ -43,12 +45,7 @@ fn obey(
 }
 
 // The next command. At the end of the input the run is over; behind a bad command too.
-fn step(
-    bank: &mut [u8; 66000],
-    room: &mut [u8; 65536],
-    text: &mut [u8; 65536],
-    run: Run,
-) -> Run {
+fn step(bank: &mut [u8; 66000], room: &mut [u8; 65536], text: &mut [u8; 65536], run: Run) -> Run {
     let from = run.place;
     let letter = cases::next_byte(room, from);
     let place = letter.place;

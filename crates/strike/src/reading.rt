@@ -33,6 +33,7 @@ pub fn lend_bank(bank: &mut [u8], room: &mut [u8; 65536], run: Run) -> Run {
     let behind = cases::next_bytes(room, place, &mut bank[..n]);
     let mut next = moved(run, behind);
     next.bank = n;
+    next.admitted = bank::admitted(first_bytes(bank, n));
     next
 }
 
@@ -86,6 +87,10 @@ pub fn key(bank: &[u8], room: &mut [u8; 65536], text: &mut [u8; 65536], run: Run
     let mut next = moved(run, end);
     if end.cut || !playable(struck.value, velocity.value) {
         return spoilt(next);
+    }
+    if !run.admitted {
+        next.at = lines::none(text, run.at);
+        return next;
     }
     let b = first_bytes(bank, run.bank);
     next.at = lines::strike(

@@ -2,8 +2,6 @@
 use borrow.Author.Tests.{lt-ltb, le-ltb}
 use Rattle.engine.proofs.answers.past_bend.Statement.{statement}
 use Rattle.engine.proofs.answers.past_bend.Tie as tie
-use Rattle.engine.proofs.answers.past_bend.Reads as reads
-use Rattle.engine.proofs.answers.past_bend.Lts as lts
 
 returns : tie.Need-returns
 returns c = simp (lt-ltb _ _ (c .if1 .taken))

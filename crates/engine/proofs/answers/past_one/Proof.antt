@@ -2,8 +2,6 @@
 use borrow.Author.Tests.{lt-ltb, le-ltb}
 use Rattle.engine.proofs.answers.past_one.Statement.{statement}
 use Rattle.engine.proofs.answers.past_one.Tie as tie
-use Rattle.engine.proofs.answers.past_one.Reads as reads
-use Rattle.engine.proofs.answers.past_one.Lts as lts
 
 returns : tie.Need-returns
 returns c = simp (lt-ltb _ _ (c .if1 .taken))

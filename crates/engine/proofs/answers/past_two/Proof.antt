@@ -1,13 +1,10 @@
 -- The ranges: `||` of three tests.
-use mathlib.Core.Path.{_≡_, refl, sym, ap, _∙_}
+use mathlib.Core.Path.{_≡_, sym, ap, _∙_}
 use mathlib.Core.Bool.{Bool, true, _||_}
 use lib.Dec.{ltb}
 use borrow.Author.Needs.{needs}
 use Rattle.engine.proofs.answers.past_two.Statement.{statement}
 use Rattle.engine.proofs.answers.past_two.Tie as tie
-use Rattle.engine.proofs.answers.past_two.Reads as reads
-use Rattle.engine.proofs.answers.past_two.Lts as lts
-use Rattle.engine.proofs.answers.past_one.Reads as past-one-reads
 
 past-one-requires : tie.Need-past-one-requires
 past-one-requires c κs = search needs

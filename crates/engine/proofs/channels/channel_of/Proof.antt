@@ -1,15 +1,11 @@
 -- A channel past the last is one of zeros.
-use mathlib.Core.Path.{_≡_, refl, sym, ap, _∙_}
+use mathlib.Core.Path.{_≡_, sym}
 use lib.ListN.{length, length-map, List·getD-eq-default}
 use native.Mathlib.Omega.{arith}
 use Rattle.engine.specs.State.{noChannel}
-use lib.ListN.{List·getD-eq-default}
-use native.Mathlib.Omega.{arith}
 use borrow.Author.Needs.{needs}
 use Rattle.engine.proofs.channels.channel_of.Statement.{statement}
 use Rattle.engine.proofs.channels.channel_of.Tie as tie
-use Rattle.engine.proofs.channels.channel_of.Reads as reads
-use Rattle.engine.proofs.channels.channel_of.Lts as lts
 
 mul-result : tie.Need-mul-result
 mul-result c = search needs

@@ -1,8 +1,7 @@
 -- Past its test, the channel is the old one with one part replaced.
-use mathlib.Core.Path.{_≡_, refl, sym, ap, _∙_}
+use mathlib.Core.Path.{sym, ap, _∙_}
 use Rattle.voice.specs.declared.Channel.{Channel}
-use Rattle.engine.specs.declared.Engine.{Engine}
-use Rattle.engine.specs.State.{channelAt, withChannel}
+use Rattle.engine.specs.State.{withChannel}
 use Rattle.engine.specs.Channels.{withBend}
 use Rattle.engine.specs.Answers.{done, pastBend}
 use Rattle.engine.specs.AnswerLaws.{refuses, passes, bend-low}
@@ -10,13 +9,6 @@ use Rattle.engine.specs.Bend.{pitchBend}
 use borrow.Author.Needs.{needs}
 use Rattle.engine.proofs.channels.pitch_bend.Statement.{statement}
 use Rattle.engine.proofs.channels.pitch_bend.Tie as tie
-use Rattle.engine.proofs.channels.pitch_bend.Reads as reads
-use Rattle.engine.proofs.channels.pitch_bend.Lts as lts
-use Rattle.engine.proofs.channels.channel_of.Reads as channel-of-reads
-use Rattle.engine.proofs.answers.made.Reads as made-reads
-use Rattle.engine.proofs.answers.past_bend.Reads as past-bend-reads
-use Rattle.engine.proofs.answers.refuse.Reads as refuse-reads
-use Rattle.engine.proofs.channels.with_channel.Reads as with-channel-reads
 
 past-bend-requires : tie.Need-past-bend-requires
 past-bend-requires c κs = search needs

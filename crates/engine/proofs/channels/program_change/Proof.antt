@@ -1,8 +1,7 @@
 -- Past its test, the channel is the old one with one part replaced.
-use mathlib.Core.Path.{_≡_, refl, sym, ap, _∙_}
+use mathlib.Core.Path.{sym, ap, _∙_}
 use Rattle.voice.specs.declared.Channel.{Channel}
-use Rattle.engine.specs.declared.Engine.{Engine}
-use Rattle.engine.specs.State.{channelAt, withChannel}
+use Rattle.engine.specs.State.{withChannel}
 use Rattle.engine.specs.Channels.{withProgram}
 use Rattle.engine.specs.Answers.{done, pastOne}
 use Rattle.engine.specs.AnswerLaws.{refuses, passes, one-low}
@@ -10,13 +9,6 @@ use Rattle.engine.specs.Program.{programChange}
 use borrow.Author.Needs.{needs}
 use Rattle.engine.proofs.channels.program_change.Statement.{statement}
 use Rattle.engine.proofs.channels.program_change.Tie as tie
-use Rattle.engine.proofs.channels.program_change.Reads as reads
-use Rattle.engine.proofs.channels.program_change.Lts as lts
-use Rattle.engine.proofs.channels.channel_of.Reads as channel-of-reads
-use Rattle.engine.proofs.answers.made.Reads as made-reads
-use Rattle.engine.proofs.answers.past_one.Reads as past-one-reads
-use Rattle.engine.proofs.answers.refuse.Reads as refuse-reads
-use Rattle.engine.proofs.channels.with_channel.Reads as with-channel-reads
 
 past-one-requires : tie.Need-past-one-requires
 past-one-requires c κs = search needs

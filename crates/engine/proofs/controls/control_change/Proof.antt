@@ -1,17 +1,11 @@
 -- Refused past its ranges, else by its control.
-use mathlib.Core.Path.{_≡_, refl, sym, ap, _∙_}
+use mathlib.Core.Path.{sym, ap, _∙_}
 use Rattle.engine.specs.Answers.{done, pastTwo}
 use Rattle.engine.specs.AnswerLaws.{refuses, passes, two-low}
 use Rattle.engine.specs.Controls.{controlChange}
 use borrow.Author.Needs.{needs}
 use Rattle.engine.proofs.controls.control_change.Statement.{statement}
 use Rattle.engine.proofs.controls.control_change.Tie as tie
-use Rattle.engine.proofs.controls.control_change.Reads as reads
-use Rattle.engine.proofs.controls.control_change.Lts as lts
-use Rattle.engine.proofs.answers.made.Reads as made-reads
-use Rattle.engine.proofs.answers.past_two.Reads as past-two-reads
-use Rattle.engine.proofs.answers.refuse.Reads as refuse-reads
-use Rattle.engine.proofs.controls.control_one.Reads as control-one-reads
 
 past-two-requires : tie.Need-past-two-requires
 past-two-requires c κs = search needs

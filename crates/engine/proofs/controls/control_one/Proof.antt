@@ -1,5 +1,5 @@
 -- Each control by its own rule.
-use mathlib.Core.Path.{_≡_, refl, sym, ap, _∙_}
+use mathlib.Core.Path.{sym, ap, _∙_}
 use Prim.Native.Nat.{ℕ}
 use borrow.Author.Tests.{ne-eqb}
 use Rattle.voice.specs.declared.Channel.{Channel}
@@ -9,16 +9,6 @@ use Rattle.engine.specs.Controls.{controlled}
 use borrow.Author.Needs.{needs}
 use Rattle.engine.proofs.controls.control_one.Statement.{statement}
 use Rattle.engine.proofs.controls.control_one.Tie as tie
-use Rattle.engine.proofs.controls.control_one.Reads as reads
-use Rattle.engine.proofs.controls.control_one.Lts as lts
-use Rattle.engine.proofs.channels.channel_of.Reads as channel-of-reads
-use Rattle.engine.proofs.channels.with_channel.Reads as with-channel-reads
-use Rattle.engine.proofs.controls.every_off.Reads as every-off-reads
-use Rattle.engine.proofs.controls.pedal_set.Reads as pedal-set-reads
-use Rattle.engine.proofs.controls.silenced.Reads as silenced-reads
-use Rattle.engine.proofs.controls.with_expression.Reads as with-expression-reads
-use Rattle.engine.proofs.controls.with_stored.Reads as with-stored-reads
-use Rattle.engine.proofs.controls.with_volume.Reads as with-volume-reads
 
 channel-of-requires : tie.Need-channel-of-requires
 channel-of-requires c κs = search needs

@@ -1,5 +1,5 @@
 -- Letting off all the held ones, as the pedal stands.
-use mathlib.Core.Path.{_≡_, refl, sym, ap, _∙_}
+use mathlib.Core.Path.{ap, _∙_}
 use mathlib.Core.Bool.{Bool}
 use Rattle.engine.specs.declared.Answered.{Answered}
 use Rattle.engine.specs.declared.Whom.the-variants.{Every}
@@ -8,11 +8,6 @@ use Rattle.engine.specs.Whom.{offAll}
 use borrow.Author.Needs.{needs}
 use Rattle.engine.proofs.controls.every_off.Statement.{statement}
 use Rattle.engine.proofs.controls.every_off.Tie as tie
-use Rattle.engine.proofs.controls.every_off.Reads as reads
-use Rattle.engine.proofs.controls.every_off.Lts as lts
-use Rattle.curves.proofs.gains.Reads as gains-reads
-use Rattle.engine.proofs.keys.is_down.Reads as is-down-reads
-use Rattle.engine.proofs.keys.off_all.Reads as off-all-reads
 
 gains-requires : tie.Need-gains-requires
 gains-requires c κs = search needs

@@ -1,6 +1,6 @@
 -- The value stands; lifting lets off the marked ones.
-use mathlib.Core.Path.{_≡_, refl, sym, ap, _∙_}
-use mathlib.Core.Bool.{Bool, false}
+use mathlib.Core.Path.{ap, _∙_}
+use mathlib.Core.Bool.{false}
 use borrow.Author.Tests.{le-ltb, lt-ltb}
 use Rattle.voice.specs.declared.Channel.{Channel}
 use Rattle.engine.specs.declared.Engine.{Engine}
@@ -13,12 +13,6 @@ use Rattle.engine.specs.Whom.{offAll}
 use borrow.Author.Needs.{needs}
 use Rattle.engine.proofs.controls.pedal_set.Statement.{statement}
 use Rattle.engine.proofs.controls.pedal_set.Tie as tie
-use Rattle.engine.proofs.controls.pedal_set.Reads as reads
-use Rattle.engine.proofs.controls.pedal_set.Lts as lts
-use Rattle.curves.proofs.gains.Reads as gains-reads
-use Rattle.engine.proofs.channels.channel_of.Reads as channel-of-reads
-use Rattle.engine.proofs.channels.with_channel.Reads as with-channel-reads
-use Rattle.engine.proofs.keys.off_all.Reads as off-all-reads
 
 channel-of-requires : tie.Need-channel-of-requires
 channel-of-requires c κs = search needs

@@ -1,26 +1,16 @@
 -- Control 120: a turn frees slot i where it is of the channel; the records stay, and the word is built anew.
 use borrow.Author.Needs.{needs}
-use mathlib.Core.Path.{_≡_, refl, sym, ap, _∙_}
-use Prim.Native.Nat.{ℕ, _+_, _-_, _≤_, _<_}
-use mathlib.Core.Bool.{Bool, cond}
-use mathlib.Core.List.{map}
+use mathlib.Core.Path.{_≡_, sym, _∙_}
+use Prim.Native.Nat.{_+_, _-_, _≤_}
 use native.Mathlib.Omega.{arith}
-use lib.ListN.{length, length-map, getD}
-use Rattle.voice.specs.declared.Slot.{Slot}
-use Rattle.voice.specs.State.{blank, free}
-use Rattle.engine.specs.State.{slotsOf, withWord}
+use lib.ListN.{length, length-map}
+use Rattle.voice.specs.State.{blank}
+use Rattle.engine.specs.State.{slotsOf}
 use Rattle.engine.specs.NoteOff.{ofChannel}
 use Rattle.engine.specs.Controls.{cut, silence}
 use Rattle.engine.specs.SlotLoop.{paired-length, wordTo, word-none, cut-turn, word-fits, cut-all, cut-free}
 use Rattle.engine.proofs.controls.silenced.Statement.{statement}
 use Rattle.engine.proofs.controls.silenced.Tie as tie
-use Rattle.engine.proofs.controls.silenced.Reads as reads
-use Rattle.engine.proofs.controls.silenced.Lts as lts
-use Rattle.engine.proofs.slots.flag.Reads as flag-reads
-use Rattle.engine.proofs.slots.freed_if.Reads as freed-if-reads
-use Rattle.engine.proofs.slots.of_channel.Reads as of-channel-reads
-use Rattle.engine.proofs.slots.slot_of.Reads as slot-of-reads
-use Rattle.engine.proofs.slots.with_word.Reads as with-word-reads
 
 abbrev Inv-loop : tie.InvT-loop
 Inv-loop e channel word₀ i₀ word i =

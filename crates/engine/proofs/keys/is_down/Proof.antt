@@ -1,13 +1,10 @@
 -- The pedal of the channel as it stands.
-use mathlib.Core.Path.{_≡_, refl, sym, ap, _∙_}
+use mathlib.Core.Path.{ap}
 use lib.Dec.{leb}
 use Rattle.voice.specs.declared.Channel.{Channel}
 use borrow.Author.Needs.{needs}
 use Rattle.engine.proofs.keys.is_down.Statement.{statement}
 use Rattle.engine.proofs.keys.is_down.Tie as tie
-use Rattle.engine.proofs.keys.is_down.Reads as reads
-use Rattle.engine.proofs.keys.is_down.Lts as lts
-use Rattle.engine.proofs.channels.channel_of.Reads as channel-of-reads
 
 channel-of-requires : tie.Need-channel-of-requires
 channel-of-requires c κs = search needs

@@ -1,13 +1,10 @@
 -- It is held, and of the key.
-use mathlib.Core.Path.{_≡_, refl, sym, ap, _∙_}
+use mathlib.Core.Path.{sym, _∙_}
 use borrow.Author.Tests.{not-true, not-false}
 use Rattle.engine.specs.NoteOff.{heldKey}
 use borrow.Author.Needs.{needs}
 use Rattle.engine.proofs.keys.is_held_key.Statement.{statement}
 use Rattle.engine.proofs.keys.is_held_key.Tie as tie
-use Rattle.engine.proofs.keys.is_held_key.Reads as reads
-use Rattle.engine.proofs.keys.is_held_key.Lts as lts
-use Rattle.engine.proofs.keys.is_held.Reads as is-held-reads
 
 is-held-requires : tie.Need-is-held-requires
 is-held-requires c κs = search needs

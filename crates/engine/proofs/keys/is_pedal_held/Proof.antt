@@ -1,13 +1,10 @@
 -- It is of the channel, and marked.
-use mathlib.Core.Path.{_≡_, refl, sym, ap, _∙_}
+use mathlib.Core.Path.{sym, _∙_}
 use borrow.Author.Tests.{not-true, not-false}
 use Rattle.engine.specs.Controls.{pedalHeld}
 use borrow.Author.Needs.{needs}
 use Rattle.engine.proofs.keys.is_pedal_held.Statement.{statement}
 use Rattle.engine.proofs.keys.is_pedal_held.Tie as tie
-use Rattle.engine.proofs.keys.is_pedal_held.Reads as reads
-use Rattle.engine.proofs.keys.is_pedal_held.Lts as lts
-use Rattle.engine.proofs.slots.of_channel.Reads as of-channel-reads
 
 of-channel-requires : tie.Need-of-channel-requires
 of-channel-requires c κs = search needs

@@ -1,16 +1,10 @@
 -- Each case has its own test.
-use mathlib.Core.Path.{_≡_, refl, sym, ap, _∙_}
-use mathlib.Core.Bool.{Bool}
+use mathlib.Core.Path.{sym, ap, _∙_}
 use Rattle.engine.specs.declared.Whom.{Whom}
 use Rattle.engine.specs.Whom.{picked}
 use borrow.Author.Needs.{needs}
 use Rattle.engine.proofs.keys.is_picked.Statement.{statement}
 use Rattle.engine.proofs.keys.is_picked.Tie as tie
-use Rattle.engine.proofs.keys.is_picked.Reads as reads
-use Rattle.engine.proofs.keys.is_picked.Lts as lts
-use Rattle.engine.proofs.keys.is_held.Reads as is-held-reads
-use Rattle.engine.proofs.keys.is_held_key.Reads as is-held-key-reads
-use Rattle.engine.proofs.keys.is_pedal_held.Reads as is-pedal-held-reads
 
 enum-known-whom : tie.Need-enum-known-whom
 enum-known-whom c = search needs

@@ -1,16 +1,11 @@
 -- Refused past its ranges, else the key is let off.
-use mathlib.Core.Path.{_≡_, refl, sym, ap, _∙_}
+use mathlib.Core.Path.{sym, _∙_}
 use Rattle.engine.specs.Answers.{pastOne}
 use Rattle.engine.specs.AnswerLaws.{refuses, passes}
 use Rattle.engine.specs.NoteOff.{noteOff}
 use borrow.Author.Needs.{needs}
 use Rattle.engine.proofs.keys.note_off.Statement.{statement}
 use Rattle.engine.proofs.keys.note_off.Tie as tie
-use Rattle.engine.proofs.keys.note_off.Reads as reads
-use Rattle.engine.proofs.keys.note_off.Lts as lts
-use Rattle.engine.proofs.answers.past_one.Reads as past-one-reads
-use Rattle.engine.proofs.answers.refuse.Reads as refuse-reads
-use Rattle.engine.proofs.keys.off_key.Reads as off-key-reads
 
 past-one-requires : tie.Need-past-one-requires
 past-one-requires c κs = search needs

@@ -1,16 +1,13 @@
 -- A turn lets slot i off where it is picked, counts it, stores its record, and adds its flag to the word.
 use borrow.Author.Needs.{needs}
 use mathlib.Core.Path.{_≡_, refl, sym, ap, _∙_}
-use Prim.Native.Nat.{ℕ, _+_, _-_, _≤_, _<_}
+use Prim.Native.Nat.{ℕ, _+_, _-_, _≤_}
 use mathlib.Core.Bool.{Bool, cond}
-use mathlib.Core.List.{List, map}
 use native.Mathlib.Omega.{arith}
 use lib.ListN.{length, length-map, getD}
 use Rattle.arith.specs.Loops.{upto, countIf, countTo, count-step, count-le, count-all}
-use Rattle.voice.specs.declared.Slot.{Slot}
 use Rattle.voice.specs.State.{blank, free}
-use Rattle.engine.specs.declared.Engine.{Engine}
-use Rattle.engine.specs.State.{slotsOf, voicesOf, withSlots}
+use Rattle.engine.specs.State.{slotsOf, voicesOf}
 use Rattle.engine.specs.Answers.{done}
 use Rattle.engine.specs.NoteOff.{letOff}
 use Rattle.engine.specs.Whom.{picked, offAll}
@@ -18,14 +15,6 @@ use Rattle.engine.specs.WhomLaws.{picked-free, off-keeps}
 use Rattle.engine.specs.SlotLoop.{paired-length, wordTo, word-none, flag-turn, word-fits, withVoices, store-none, store-turn, store-all}
 use Rattle.engine.proofs.keys.off_all.Statement.{statement}
 use Rattle.engine.proofs.keys.off_all.Tie as tie
-use Rattle.engine.proofs.keys.off_all.Reads as reads
-use Rattle.engine.proofs.keys.off_all.Lts as lts
-use Rattle.engine.proofs.keys.is_picked.Reads as is-picked-reads
-use Rattle.engine.proofs.keys.off_one.Reads as off-one-reads
-use Rattle.engine.proofs.keys.one_if.Reads as one-if-reads
-use Rattle.engine.proofs.slots.flag.Reads as flag-reads
-use Rattle.engine.proofs.slots.slot_of.Reads as slot-of-reads
-use Rattle.engine.proofs.slots.with_word.Reads as with-word-reads
 
 abbrev Inv-loop : tie.InvT-loop
 Inv-loop e channel whom down g x₀ word₀ count₀ i₀ x word count i =

@@ -1,19 +1,12 @@
 -- What is not picked stays.
-use mathlib.Core.Path.{_≡_, refl, sym, ap, _∙_}
+use mathlib.Core.Path.{sym, ap, _∙_}
 use borrow.Author.Tests.{not-true, not-false}
-use mathlib.Core.Bool.{Bool, true, cond}
-use Rattle.voice.specs.declared.Voice.{Voice}
-use Rattle.voice.specs.declared.Slot.{Slot}
 use Rattle.engine.specs.NoteOff.{withVoice, letOff}
 use Rattle.engine.specs.Whom.{picked}
 use Rattle.engine.specs.WhomLaws.{off-keeps}
 use borrow.Author.Needs.{needs}
 use Rattle.engine.proofs.keys.off_one.Statement.{statement}
 use Rattle.engine.proofs.keys.off_one.Tie as tie
-use Rattle.engine.proofs.keys.off_one.Reads as reads
-use Rattle.engine.proofs.keys.off_one.Lts as lts
-use Rattle.engine.proofs.keys.is_picked.Reads as is-picked-reads
-use Rattle.engine.proofs.keys.off_voice.Reads as off-voice-reads
 
 is-picked-requires : tie.Need-is-picked-requires
 is-picked-requires c κs = search needs

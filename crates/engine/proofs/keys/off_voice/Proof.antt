@@ -1,12 +1,8 @@
 -- Marked, or released.
-use mathlib.Core.Path.{_≡_, refl, sym, ap, _∙_}
+use mathlib.Core.Path.{_∙_}
 use borrow.Author.Needs.{needs}
 use Rattle.engine.proofs.keys.off_voice.Statement.{statement}
 use Rattle.engine.proofs.keys.off_voice.Tie as tie
-use Rattle.engine.proofs.keys.off_voice.Reads as reads
-use Rattle.engine.proofs.keys.off_voice.Lts as lts
-use Rattle.voice.proofs.let_off.Reads as let-off-reads
-use Rattle.voice.proofs.with_moved.Reads as with-moved-reads
 
 with-moved-requires : tie.Need-with-moved-requires
 with-moved-requires c κs = search needs

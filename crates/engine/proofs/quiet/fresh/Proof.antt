@@ -1,13 +1,8 @@
 -- Blank slots, fresh channels, and the slots in order.
-use mathlib.Core.Path.{_≡_, refl, sym, ap, _∙_}
 use Rattle.engine.specs.State.{fresh}
 use borrow.Author.Needs.{needs}
 use Rattle.engine.proofs.quiet.fresh.Statement.{statement}
 use Rattle.engine.proofs.quiet.fresh.Tie as tie
-use Rattle.engine.proofs.quiet.fresh.Reads as reads
-use Rattle.engine.proofs.quiet.fresh.Lts as lts
-use Rattle.engine.proofs.quiet.fresh_channel.Reads as fresh-channel-reads
-use Rattle.engine.proofs.quiet.no_voice.Reads as no-voice-reads
 
 no-voice-requires : tie.Need-no-voice-requires
 no-voice-requires c κs = search needs

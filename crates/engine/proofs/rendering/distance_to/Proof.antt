@@ -1,13 +1,9 @@
 -- By wrapping subtraction.
-use mathlib.Core.Path.{_≡_, refl, sym, ap, _∙_}
 use native.Mathlib.Omega.{arith}
 use Rattle.engine.specs.Render.{distance}
 use borrow.Author.Needs.{needs}
 use Rattle.engine.proofs.rendering.distance_to.Statement.{statement}
 use Rattle.engine.proofs.rendering.distance_to.Tie as tie
-use Rattle.engine.proofs.rendering.distance_to.Reads as reads
-use Rattle.engine.proofs.rendering.distance_to.Lts as lts
-use Rattle.std.proofs.num.wrapping_sub_u32.Reads as wrapping-sub-u32-reads
 
 wrapping-sub-u32-requires : tie.Need-wrapping-sub-u32-requires
 wrapping-sub-u32-requires c κs = search needs

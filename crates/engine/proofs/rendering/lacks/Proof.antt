@@ -1,9 +1,8 @@
 -- A turn looks at slot i.
 use borrow.Author.Needs.{needs}
-use mathlib.Core.Path.{_≡_, refl, sym, ap, _∙_}
+use mathlib.Core.Path.{_≡_, sym, ap, _∙_, ap₂}
 use native.Mathlib.Omega.{arith}
-use Prim.Native.Nat.{ℕ, _+_, _-_, _≤_, _<_}
-use mathlib.Core.Path.{ap₂}
+use Prim.Native.Nat.{_-_, _≤_}
 use mathlib.Core.Bool.{Bool, _&&_, _||_}
 use mathlib.Core.List.{List}
 use lib.ListN.{length, length-map, take}
@@ -16,10 +15,6 @@ use Rattle.engine.specs.SlotLoop.{paired-length}
 use Rattle.engine.specs.RenderLaws.{lack-none, lack-turn}
 use Rattle.engine.proofs.rendering.lacks.Statement.{statement}
 use Rattle.engine.proofs.rendering.lacks.Tie as tie
-use Rattle.engine.proofs.rendering.lacks.Reads as reads
-use Rattle.engine.proofs.rendering.lacks.Lts as lts
-use Rattle.engine.proofs.rendering.or_lacks.Reads as or-lacks-reads
-use Rattle.engine.proofs.slots.slot_of.Reads as slot-of-reads
 
 abbrev Inv-loop : tie.InvT-loop
 Inv-loop e ram rom found₀ i₀ found i =

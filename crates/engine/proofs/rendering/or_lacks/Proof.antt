@@ -1,12 +1,8 @@
 -- `||` of what was found and of this slot.
-use mathlib.Core.Path.{_≡_, refl, sym, ap, _∙_}
 use borrow.Author.Tests.{not-true, not-false}
 use borrow.Author.Needs.{needs}
 use Rattle.engine.proofs.rendering.or_lacks.Statement.{statement}
 use Rattle.engine.proofs.rendering.or_lacks.Tie as tie
-use Rattle.engine.proofs.rendering.or_lacks.Reads as reads
-use Rattle.engine.proofs.rendering.or_lacks.Lts as lts
-use Rattle.engine.proofs.strikes.ends_past.Reads as ends-past-reads
 
 returns : tie.Need-returns
 returns c = simp (c .if1 .taken)

@@ -1,7 +1,7 @@
 -- The sums of all voices, then the output made of them.
-use mathlib.Core.Path.{_≡_, refl, sym, ap, _∙_}
+use mathlib.Core.Path.{ap, _∙_}
 use native.Mathlib.Omega.{arith}
-use Prim.Native.Nat.{ℕ, _*_, _≤_}
+use Prim.Native.Nat.{_*_, _≤_}
 use native.Mathlib.Nat.{le-refl}
 use mathlib.Core.List.{List, _++_}
 use lib.Ieee.{Float}
@@ -11,12 +11,6 @@ use Rattle.engine.specs.RenderLaws.{mixedTo, output-mixed, zeros-at, zer
 use borrow.Author.Needs.{needs}
 use Rattle.engine.proofs.rendering.play.Statement.{statement}
 use Rattle.engine.proofs.rendering.play.Tie as tie
-use Rattle.engine.proofs.rendering.play.Reads as reads
-use Rattle.engine.proofs.rendering.play.Lts as lts
-use Rattle.curves.proofs.gains.Reads as gains-reads
-use Rattle.curves.proofs.octaves.Reads as octaves-reads
-use Rattle.engine.proofs.sums.mix_all.Reads as mix-all-reads
-use Rattle.engine.proofs.sums.run_all.Reads as run-all-reads
 
 gains-requires : tie.Need-gains-requires
 gains-requires c κs = search needs

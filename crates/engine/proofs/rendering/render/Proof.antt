@@ -1,29 +1,19 @@
 -- Refused by its tests, else played, and the clock moved by wrapping addition.
-use mathlib.Core.Path.{_≡_, refl, sym, ap, _∙_}
+use mathlib.Core.Path.{sym, ap, _∙_, ap₂}
 use native.Mathlib.Omega.{arith}
-use Prim.Native.Nat.{ℕ, _+_, _*_, _%_, _≤_, _<_}
-use mathlib.Core.Path.{ap₂}
-use mathlib.Core.List.{List, _++_}
+use Prim.Native.Nat.{ℕ, _+_, _*_, _<_}
+use mathlib.Core.List.{_++_}
 use borrow.Author.Tests.{eq-eqb, ne-eqb}
 use lib.Dec.{eqb}
-use lib.Ieee.{Float}
 use lib.ListN.{length, drop}
 use Rattle.engine.specs.declared.Engine.{Engine}
 use Rattle.engine.specs.State.{withClock}
 use Rattle.engine.specs.Answers.{done, refused}
-use Rattle.engine.specs.Render.{distance, renderNumber, output, played, render, rendered}
+use Rattle.engine.specs.Render.{output, played, render, rendered}
 use Rattle.engine.specs.RenderLaws.{zero-low, clock-there}
 use borrow.Author.Needs.{needs}
 use Rattle.engine.proofs.rendering.render.Statement.{statement}
 use Rattle.engine.proofs.rendering.render.Tie as tie
-use Rattle.engine.proofs.rendering.render.Reads as reads
-use Rattle.engine.proofs.rendering.render.Lts as lts
-use Rattle.engine.proofs.answers.made.Reads as made-reads
-use Rattle.engine.proofs.answers.refuse.Reads as refuse-reads
-use Rattle.engine.proofs.rendering.distance_to.Reads as distance-to-reads
-use Rattle.engine.proofs.rendering.play.Reads as play-reads
-use Rattle.engine.proofs.rendering.render_number.Reads as render-number-reads
-use Rattle.std.proofs.num.wrapping_add_u32.Reads as wrapping-add-u32-reads
 
 low : (s : tie.Start) → (s .args .e .clock < 4294967296) × (s .args .to < 4294967296)
 low s = (omega arith, omega arith)

@@ -1,5 +1,5 @@
 -- The tests in the table's order.
-use mathlib.Core.Path.{_≡_, refl, sym, ap, _∙_}
+use mathlib.Core.Path.{_≡_, sym, ap, _∙_}
 use Prim.Native.Nat.{ℕ, _*_}
 use mathlib.Core.Bool.{cond}
 use borrow.Author.Tests.{le-leb, lt-leb, lt-ltb, le-ltb}
@@ -9,10 +9,6 @@ use Rattle.engine.specs.Render.{distance, lacking, renderNumber}
 use borrow.Author.Needs.{needs}
 use Rattle.engine.proofs.rendering.render_number.Statement.{statement}
 use Rattle.engine.proofs.rendering.render_number.Tie as tie
-use Rattle.engine.proofs.rendering.render_number.Reads as reads
-use Rattle.engine.proofs.rendering.render_number.Lts as lts
-use Rattle.engine.proofs.rendering.distance_to.Reads as distance-to-reads
-use Rattle.engine.proofs.rendering.lacks.Reads as lacks-reads
 
 -- the tests, by the distance that was found
 number : (d : tie.After-distance-to)

@@ -1,13 +1,11 @@
 -- An entry of the order, read as a slot.
-use mathlib.Core.Path.{_≡_, refl, sym, ap, _∙_}
+use mathlib.Core.Path.{refl, sym}
 use native.Mathlib.Omega.{arith}
 use Rattle.engine.specs.StateLaws.{map-at}
 use Rattle.engine.specs.SeatLaws.{asSlot}
 use borrow.Author.Needs.{needs}
 use Rattle.engine.proofs.seats.aged.Statement.{statement}
 use Rattle.engine.proofs.seats.aged.Tie as tie
-use Rattle.engine.proofs.seats.aged.Reads as reads
-use Rattle.engine.proofs.seats.aged.Lts as lts
 
 element-copy-out-result : tie.Need-element-copy-out-result
 element-copy-out-result c = search needs

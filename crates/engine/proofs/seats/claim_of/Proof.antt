@@ -1,18 +1,12 @@
 -- Those of this note-on last; the released first; then by struck velocity.
-use mathlib.Core.Path.{_≡_, refl, sym, ap, _∙_}
-use Prim.Native.Nat.{ℕ, _+_}
-use mathlib.Core.Bool.{Bool, true, false, cond}
+use mathlib.Core.Path.{sym, ap, _∙_}
+use Prim.Native.Nat.{_+_}
 use Rattle.voice.specs.declared.Slot.{Slot}
 use Rattle.voice.specs.Stages.{released}
 use Rattle.engine.specs.Slots.{claim}
 use borrow.Author.Needs.{needs}
 use Rattle.engine.proofs.seats.claim_of.Statement.{statement}
 use Rattle.engine.proofs.seats.claim_of.Tie as tie
-use Rattle.engine.proofs.seats.claim_of.Reads as reads
-use Rattle.engine.proofs.seats.claim_of.Lts as lts
-use Rattle.arith.proofs.has.Reads as has-reads
-use Rattle.engine.proofs.slots.slot_of.Reads as slot-of-reads
-use Rattle.voice.proofs.is_released.Reads as is-released-reads
 
 cast-has : tie.Need-cast-has
 cast-has c = search needs

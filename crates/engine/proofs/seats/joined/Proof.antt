@@ -1,12 +1,10 @@
 -- `1 << i` is the bit of slot i.
-use mathlib.Core.Path.{_≡_, refl, sym, ap, _∙_}
+use mathlib.Core.Path.{ap}
 use lib.Bits.{bitOr}
 use Rattle.arith.specs.Bit.{one-shl}
 use borrow.Author.Needs.{needs}
 use Rattle.engine.proofs.seats.joined.Statement.{statement}
 use Rattle.engine.proofs.seats.joined.Tie as tie
-use Rattle.engine.proofs.seats.joined.Reads as reads
-use Rattle.engine.proofs.seats.joined.Lts as lts
 
 shl-result : tie.Need-shl-result
 shl-result c = search needs

@@ -1,17 +1,14 @@
 -- A turn looks at place k: the slot stands there, or behind.
 use borrow.Author.Needs.{needs}
-use mathlib.Core.Path.{_≡_, refl, sym, ap, _∙_}
+use mathlib.Core.Path.{_≡_, refl, sym, _∙_}
 use native.Mathlib.Omega.{arith}
-use Prim.Native.Nat.{ℕ, _+_, _-_, _≤_, _<_, _%_}
-use mathlib.Core.List.{List, map}
-use native.Mathlib.Numerals.{add-one}
+use Prim.Native.Nat.{_-_, _≤_}
+use mathlib.Core.List.{map}
 use lib.ListN.{length, length-map}
 use Rattle.engine.specs.StateLaws.{map-at}
 use Rattle.engine.specs.SeatLaws.{asSlot, firstAt, first-le, first-here, first-on}
 use Rattle.engine.proofs.seats.place_of.Statement.{statement}
 use Rattle.engine.proofs.seats.place_of.Tie as tie
-use Rattle.engine.proofs.seats.place_of.Reads as reads
-use Rattle.engine.proofs.seats.place_of.Lts as lts
 
 abbrev Inv-loop : tie.InvT-loop
 Inv-loop i order k₀ k =

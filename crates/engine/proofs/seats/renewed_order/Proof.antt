@@ -1,19 +1,15 @@
 -- A turn fills place k of the renewed order.
 use borrow.Author.Needs.{needs}
-use mathlib.Core.Path.{_≡_, refl, sym, ap, _∙_}
+use mathlib.Core.Path.{_≡_, refl, sym, _∙_}
 use native.Mathlib.Omega.{arith}
-use Prim.Native.Nat.{ℕ, _+_, _-_, _≤_, _<_}
-use mathlib.Core.List.{List, map}
+use Prim.Native.Nat.{_-_, _≤_}
+use mathlib.Core.List.{map}
 use lib.ListN.{length, take, length-map, length-set}
 use lib.Seq.{take-all}
 use Rattle.engine.specs.Slots.{renewed}
 use Rattle.engine.specs.SeatLaws.{asSlot, renewed-length, fill-turn}
 use Rattle.engine.proofs.seats.renewed_order.Statement.{statement}
 use Rattle.engine.proofs.seats.renewed_order.Tie as tie
-use Rattle.engine.proofs.seats.renewed_order.Reads as reads
-use Rattle.engine.proofs.seats.renewed_order.Lts as lts
-use Rattle.engine.proofs.seats.place_of.Reads as place-of-reads
-use Rattle.engine.proofs.seats.shifted.Reads as shifted-reads
 
 abbrev Inv-loop : tie.InvT-loop
 Inv-loop order i p out₀ k₀ out k =

@@ -1,5 +1,5 @@
 -- The lowest clear bit is the lowest free slot; where there is none, one is taken.
-use mathlib.Core.Path.{_≡_, refl, sym, ap, _∙_}
+use mathlib.Core.Path.{_≡_, sym, ap, _∙_}
 use native.Mathlib.Omega.{arith}
 use Prim.Native.Nat.{ℕ}
 use borrow.Author.Tests.{lt-ltb, le-ltb}
@@ -11,10 +11,6 @@ use Rattle.engine.specs.SeatLaws.{lowest-free}
 use borrow.Author.Needs.{needs}
 use Rattle.engine.proofs.seats.seat_of.Statement.{statement}
 use Rattle.engine.proofs.seats.seat_of.Tie as tie
-use Rattle.engine.proofs.seats.seat_of.Reads as reads
-use Rattle.engine.proofs.seats.seat_of.Lts as lts
-use Rattle.arith.proofs.lowest_clear.Reads as lowest-clear-reads
-use Rattle.engine.proofs.seats.taken_slot.Reads as taken-slot-reads
 
 lowest : (c : tie.After-lowest-clear) → c .lowest-clear .result ≡ lowestFree (slotsOf (c .before .args .e))
 lowest c =

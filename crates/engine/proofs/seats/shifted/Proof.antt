@@ -1,9 +1,9 @@
 -- The order renewed, place by place.
 use mathlib.Core.Path.{_≡_, refl, sym, ap, _∙_}
 use native.Mathlib.Omega.{arith}
-use Prim.Native.Nat.{ℕ, _+_, _≤_, _<_}
+use Prim.Native.Nat.{ℕ, _+_}
 use mathlib.Core.Bool.{Bool, true, false, cond}
-use mathlib.Core.List.{List, [], _∷_, _++_, map}
+use mathlib.Core.List.{[], _∷_, _++_, map}
 use borrow.Author.Tests.{lt-ltb, le-ltb}
 use lib.Dec.{ltb}
 use lib.ListN.{length, getD, length-map, List·getD-append}
@@ -14,8 +14,6 @@ use Rattle.engine.specs.SeatLaws.{asSlot, firstAt, renewed-at}
 use borrow.Author.Needs.{needs}
 use Rattle.engine.proofs.seats.shifted.Statement.{statement}
 use Rattle.engine.proofs.seats.shifted.Tie as tie
-use Rattle.engine.proofs.seats.shifted.Reads as reads
-use Rattle.engine.proofs.seats.shifted.Lts as lts
 
 long : (s : tie.Start) → length (map asSlot (s .args .t1)) ≡ 32
 long s = simp length-map (s .good .0 .1 .0 .1)

@@ -1,14 +1,10 @@
 -- The lower claim, and of two equal ones the older.
-use mathlib.Core.Path.{_≡_, refl, sym, ap, _∙_}
-use mathlib.Core.Path.{ap₂}
+use mathlib.Core.Path.{sym, _∙_, ap₂}
 use borrow.Author.Tests.{lt-ltb, le-ltb}
 use lib.Dec.{ltb}
 use borrow.Author.Needs.{needs}
 use Rattle.engine.proofs.seats.sooner.Statement.{statement}
 use Rattle.engine.proofs.seats.sooner.Tie as tie
-use Rattle.engine.proofs.seats.sooner.Reads as reads
-use Rattle.engine.proofs.seats.sooner.Lts as lts
-use Rattle.engine.proofs.seats.claim_of.Reads as claim-of-reads
 
 claim-of-requires : tie.Need-claim-of-requires
 claim-of-requires c κs = search needs

@@ -1,20 +1,16 @@
 -- The record stored, its bit set, and the slot the newest.
-use mathlib.Core.Path.{_≡_, refl, sym, ap, _∙_}
+use mathlib.Core.Path.{_≡_, ap, _∙_}
 use native.Mathlib.Omega.{arith}
-use Prim.Native.Nat.{ℕ, _<_, _^_}
+use Prim.Native.Nat.{ℕ, _^_}
 use mathlib.Core.List.{List}
 use lib.ListN.{length, length-map, set}
 use Rattle.voice.specs.State.{sounds}
 use Rattle.engine.specs.State.{slotsOf, withSlots, withOrder}
-use Rattle.engine.specs.Slots.{renewed, orderOf, startIn}
+use Rattle.engine.specs.Slots.{startIn}
 use Rattle.engine.specs.SeatLaws.{seated}
 use borrow.Author.Needs.{needs}
 use Rattle.engine.proofs.seats.start_in.Statement.{statement}
 use Rattle.engine.proofs.seats.start_in.Tie as tie
-use Rattle.engine.proofs.seats.start_in.Reads as reads
-use Rattle.engine.proofs.seats.start_in.Lts as lts
-use Rattle.engine.proofs.seats.joined.Reads as joined-reads
-use Rattle.engine.proofs.seats.renewed_order.Reads as renewed-order-reads
 
 cast-renewed-order : tie.Need-cast-renewed-order
 cast-renewed-order c = search needs

@@ -1,22 +1,17 @@
 -- A turn looks at place k of the order, from the oldest on.
 use borrow.Author.Needs.{needs}
-use mathlib.Core.Path.{_≡_, refl, sym, ap, _∙_}
+use mathlib.Core.Path.{_≡_, sym, ap, _∙_, ap₂}
 use native.Mathlib.Omega.{arith}
-use mathlib.Core.Path.{ap₂}
-use Prim.Native.Nat.{ℕ, _+_, _-_, _≤_, _<_}
+use Prim.Native.Nat.{ℕ, _-_, _≤_, _<_}
 use mathlib.Core.Bool.{cond}
 use mathlib.Core.List.{List}
 use lib.Dec.{ltb}
-use lib.ListN.{length, getD, take, length-map}
+use lib.ListN.{length, take, length-map}
 use lib.Seq.{take-all}
 use Rattle.engine.specs.Slots.{orderOf, claim, leastBy, taken}
 use Rattle.engine.specs.SeatLaws.{least-none, least-turn}
 use Rattle.engine.proofs.seats.taken_slot.Statement.{statement}
 use Rattle.engine.proofs.seats.taken_slot.Tie as tie
-use Rattle.engine.proofs.seats.taken_slot.Reads as reads
-use Rattle.engine.proofs.seats.taken_slot.Lts as lts
-use Rattle.engine.proofs.seats.aged.Reads as aged-reads
-use Rattle.engine.proofs.seats.sooner.Reads as sooner-reads
 
 abbrev Inv-loop : tie.InvT-loop
 Inv-loop e mine b₀ k₀ b k =

@@ -1,19 +1,15 @@
+-- `1 << i` is the bit of slot i.
 use Rattle.arith.specs.Bit.{one-shl}
 use borrow.Author.Needs.{needs}
 use Rattle.engine.proofs.slots.flag.Statement.{statement}
 use Rattle.engine.proofs.slots.flag.Tie as tie
-use Rattle.engine.proofs.slots.flag.Reads as reads
-use Rattle.engine.proofs.slots.flag.Lts as lts
 
--- src/lib.rt:65:13
 shl-result : tie.Need-shl-result
 shl-result c = search needs
 
--- src/lib.rt:61:1
 returns : tie.Need-returns
 returns c = simp (c .if1 .taken) (one-shl 32 (c .before .args .i) (c .before .pre))
 
--- src/lib.rt:61:1
 returns-2 : tie.Need-returns-2
 returns-2 c = search needs
 

@@ -1,5 +1,5 @@
 -- A slot is its bit and its record.
-use mathlib.Core.Path.{_≡_, refl, sym, ap, _∙_}
+use mathlib.Core.Path.{_≡_, sym, ap, _∙_}
 use native.Mathlib.Omega.{arith}
 use mathlib.Core.Bool.{Bool}
 use lib.ListN.{length, getD, length-map}
@@ -10,9 +10,6 @@ use Rattle.engine.specs.SlotLoop.{paired-at}
 use borrow.Author.Needs.{needs}
 use Rattle.engine.proofs.slots.slot_of.Statement.{statement}
 use Rattle.engine.proofs.slots.slot_of.Tie as tie
-use Rattle.engine.proofs.slots.slot_of.Reads as reads
-use Rattle.engine.proofs.slots.slot_of.Lts as lts
-use Rattle.arith.proofs.has.Reads as has-reads
 
 mul-v : tie.Need-mul-v
 mul-v c = search needs

@@ -1,8 +1,8 @@
 -- A turn looks at layer i.
 use borrow.Author.Needs.{needs}
-use mathlib.Core.Path.{_≡_, refl, sym, ap, _∙_}
+use mathlib.Core.Path.{_≡_, sym, ap, _∙_}
 use native.Mathlib.Omega.{arith}
-use Prim.Native.Nat.{ℕ, _+_, _-_, _≤_, _<_}
+use Prim.Native.Nat.{ℕ, _-_, _≤_}
 use mathlib.Core.Bool.{Bool, _||_}
 use lib.ListN.{length, getD, take}
 use Rattle.voice.specs.State.{blank}
@@ -10,9 +10,6 @@ use Rattle.engine.specs.NoteOn.{classIn}
 use Rattle.engine.specs.StrikeLaws.{sameClass, class-none, class-turn}
 use Rattle.engine.proofs.strikes.class_in.Statement.{statement}
 use Rattle.engine.proofs.strikes.class_in.Tie as tie
-use Rattle.engine.proofs.strikes.class_in.Reads as reads
-use Rattle.engine.proofs.strikes.class_in.Lts as lts
-use Rattle.engine.proofs.strikes.or_class.Reads as or-class-reads
 
 abbrev Inv-loop : tie.InvT-loop
 Inv-loop class n voices found₀ i₀ found i =

@@ -1,7 +1,7 @@
 -- A turn frees slot i where it is a rival; the records stay, and the word is built anew.
 use borrow.Author.Needs.{needs}
-use mathlib.Core.Path.{_≡_, refl, sym, ap, _∙_}
-use Prim.Native.Nat.{ℕ, _+_, _-_, _≤_, _<_}
+use mathlib.Core.Path.{_≡_, sym, _∙_}
+use Prim.Native.Nat.{_+_, _-_, _≤_}
 use native.Mathlib.Omega.{arith}
 use lib.ListN.{length, length-map, take}
 use Rattle.voice.specs.State.{blank}
@@ -12,13 +12,6 @@ use Rattle.engine.specs.SlotLoop.{paired-length, wordTo, word-none, cut-
 use Rattle.engine.specs.StrikeLaws.{rival-free}
 use Rattle.engine.proofs.strikes.clear_rivals.Statement.{statement}
 use Rattle.engine.proofs.strikes.clear_rivals.Tie as tie
-use Rattle.engine.proofs.strikes.clear_rivals.Reads as reads
-use Rattle.engine.proofs.strikes.clear_rivals.Lts as lts
-use Rattle.engine.proofs.slots.flag.Reads as flag-reads
-use Rattle.engine.proofs.slots.freed_if.Reads as freed-if-reads
-use Rattle.engine.proofs.slots.slot_of.Reads as slot-of-reads
-use Rattle.engine.proofs.slots.with_word.Reads as with-word-reads
-use Rattle.engine.proofs.strikes.is_rival.Reads as is-rival-reads
 
 abbrev Inv-loop : tie.InvT-loop
 Inv-loop e channel voices n word₀ i₀ word i =

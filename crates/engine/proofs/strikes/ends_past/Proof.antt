@@ -1,10 +1,7 @@
 -- The end against the length of the ROM or of the RAM.
-use mathlib.Core.Path.{_≡_, refl, sym, ap, _∙_}
 use borrow.Author.Needs.{needs}
 use Rattle.engine.proofs.strikes.ends_past.Statement.{statement}
 use Rattle.engine.proofs.strikes.ends_past.Tie as tie
-use Rattle.engine.proofs.strikes.ends_past.Reads as reads
-use Rattle.engine.proofs.strikes.ends_past.Lts as lts
 
 cast-end : tie.Need-cast-end
 cast-end c = search needs

@@ -1,14 +1,10 @@
 -- It is of the channel, and its class is one of the layers'.
-use mathlib.Core.Path.{_≡_, refl, sym, ap, _∙_}
+use mathlib.Core.Path.{sym, _∙_}
 use borrow.Author.Tests.{not-true, not-false}
 use Rattle.engine.specs.NoteOn.{rival}
 use borrow.Author.Needs.{needs}
 use Rattle.engine.proofs.strikes.is_rival.Statement.{statement}
 use Rattle.engine.proofs.strikes.is_rival.Tie as tie
-use Rattle.engine.proofs.strikes.is_rival.Reads as reads
-use Rattle.engine.proofs.strikes.is_rival.Lts as lts
-use Rattle.engine.proofs.slots.of_channel.Reads as of-channel-reads
-use Rattle.engine.proofs.strikes.class_in.Reads as class-in-reads
 
 of-channel-requires : tie.Need-of-channel-requires
 of-channel-requires c κs = search needs

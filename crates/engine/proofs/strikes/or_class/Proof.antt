@@ -1,10 +1,7 @@
 -- `||` of what was found and of this one.
-use mathlib.Core.Path.{_≡_, refl, sym, ap, _∙_}
 use borrow.Author.Tests.{eq-eqb, ne-eqb}
 use Rattle.engine.proofs.strikes.or_class.Statement.{statement}
 use Rattle.engine.proofs.strikes.or_class.Tie as tie
-use Rattle.engine.proofs.strikes.or_class.Reads as reads
-use Rattle.engine.proofs.strikes.or_class.Lts as lts
 
 returns : tie.Need-returns
 returns c = simp (c .if1 .taken)

@@ -1,11 +1,7 @@
 -- `||` of what was found and of this one.
-use mathlib.Core.Path.{_≡_, refl, sym, ap, _∙_}
 use borrow.Author.Needs.{needs}
 use Rattle.engine.proofs.strikes.or_past.Statement.{statement}
 use Rattle.engine.proofs.strikes.or_past.Tie as tie
-use Rattle.engine.proofs.strikes.or_past.Reads as reads
-use Rattle.engine.proofs.strikes.or_past.Lts as lts
-use Rattle.engine.proofs.strikes.ends_past.Reads as ends-past-reads
 
 returns : tie.Need-returns
 returns c = simp (c .if1 .taken)

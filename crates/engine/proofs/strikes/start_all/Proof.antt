@@ -1,17 +1,14 @@
 -- A turn starts layer i.
 use borrow.Author.Needs.{needs}
-use mathlib.Core.Path.{_≡_, refl, sym, ap, _∙_}
+use mathlib.Core.Path.{_≡_, sym, ap, _∙_}
 use native.Mathlib.Omega.{arith}
-use Prim.Native.Nat.{ℕ, _+_, _-_, _≤_, _<_}
+use Prim.Native.Nat.{ℕ, _-_, _≤_}
 use lib.ListN.{length, getD, take}
 use Rattle.voice.specs.State.{blank}
 use Rattle.engine.specs.NoteOn.{start, startAll}
 use Rattle.engine.specs.StrikeLaws.{startedOf, begin, start-none, start-turn}
 use Rattle.engine.proofs.strikes.start_all.Statement.{statement}
 use Rattle.engine.proofs.strikes.start_all.Tie as tie
-use Rattle.engine.proofs.strikes.start_all.Reads as reads
-use Rattle.engine.proofs.strikes.start_all.Lts as lts
-use Rattle.engine.proofs.strikes.start_one.Reads as start-one-reads
 
 abbrev Inv-loop : tie.InvT-loop
 Inv-loop n voices b₀ i₀ b i =

@@ -1,6 +1,5 @@
 -- A seat, a voice in it, and its bit.
-use mathlib.Core.Path.{_≡_, refl, sym, ap, _∙_}
-use mathlib.Core.Path.{ap₂}
+use mathlib.Core.Path.{ap, _∙_, ap₂}
 use Prim.Native.Nat.{ℕ, _^_}
 use lib.Bits.{bitOr}
 use Rattle.engine.specs.declared.Engine.{Engine}
@@ -9,11 +8,6 @@ use Rattle.engine.specs.NoteOn.{Started, start}
 use borrow.Author.Needs.{needs}
 use Rattle.engine.proofs.strikes.start_one.Statement.{statement}
 use Rattle.engine.proofs.strikes.start_one.Tie as tie
-use Rattle.engine.proofs.strikes.start_one.Reads as reads
-use Rattle.engine.proofs.strikes.start_one.Lts as lts
-use Rattle.engine.proofs.seats.joined.Reads as joined-reads
-use Rattle.engine.proofs.seats.seat_of.Reads as seat-of-reads
-use Rattle.engine.proofs.seats.start_in.Reads as start-in-reads
 
 seat-of-requires : tie.Need-seat-of-requires
 seat-of-requires c κs = search needs

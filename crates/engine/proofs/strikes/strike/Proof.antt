@@ -1,5 +1,5 @@
 -- Rivals first, then the layers.
-use mathlib.Core.Path.{_≡_, refl, sym, ap, _∙_}
+use mathlib.Core.Path.{ap, _∙_}
 use lib.ListN.{take}
 use Rattle.engine.specs.declared.Engine.{Engine}
 use Rattle.engine.specs.NoteOn.{Started, startAll, struck}
@@ -7,10 +7,6 @@ use Rattle.engine.specs.StrikeLaws.{begin}
 use borrow.Author.Needs.{needs}
 use Rattle.engine.proofs.strikes.strike.Statement.{statement}
 use Rattle.engine.proofs.strikes.strike.Tie as tie
-use Rattle.engine.proofs.strikes.strike.Reads as reads
-use Rattle.engine.proofs.strikes.strike.Lts as lts
-use Rattle.engine.proofs.strikes.clear_rivals.Reads as clear-rivals-reads
-use Rattle.engine.proofs.strikes.start_all.Reads as start-all-reads
 
 clear-rivals-requires : tie.Need-clear-rivals-requires
 clear-rivals-requires c κs = search needs

@@ -1,12 +1,11 @@
 -- A turn writes frame k: two stores behind what is written.
 use borrow.Author.Needs.{needs}
-use mathlib.Core.Path.{_≡_, refl, sym, ap, _∙_}
+use mathlib.Core.Path.{_≡_, refl, sym, ap, _∙_, ap₂}
 use native.Mathlib.Omega.{arith}
-use Prim.Native.Nat.{ℕ, _+_, _-_, _*_, _≤_, _<_}
-use mathlib.Core.Path.{ap₂}
-use mathlib.Core.List.{List, [], _∷_, _++_}
+use Prim.Native.Nat.{ℕ, _+_, _-_, _*_, _≤_}
+use mathlib.Core.List.{List, _++_}
 use lib.Ieee.{Float}
-use lib.IntN.{ℤ, pos}
+use lib.IntN.{pos}
 use lib.ListN.{length, getD, set, drop, length-set}
 use mir.Syntax.{w32}
 use mir.Val.{toZ, ofZ}
@@ -16,9 +15,6 @@ use Rattle.engine.specs.Render.{mixed}
 use Rattle.engine.specs.RenderLaws.{mixedTo, mixed-none, mixed-turn, mixed-length}
 use Rattle.engine.proofs.sums.mix_all.Statement.{statement}
 use Rattle.engine.proofs.sums.mix_all.Tie as tie
-use Rattle.engine.proofs.sums.mix_all.Reads as reads
-use Rattle.engine.proofs.sums.mix_all.Lts as lts
-use Rattle.arith.proofs.mix.Reads as mix-reads
 
 abbrev Inv-loop : tie.InvT-loop
 Inv-loop acc out₀ n k₀ out k =

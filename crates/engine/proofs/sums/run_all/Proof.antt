@@ -2,9 +2,8 @@
 use borrow.Author.Needs.{needs}
 use mathlib.Core.Path.{_≡_, refl, sym, ap, _∙_}
 use native.Mathlib.Omega.{arith}
-use Prim.Native.Nat.{ℕ, _+_, _-_, _*_, _≤_, _<_}
-use mathlib.Core.List.{List, map}
-use lib.IntN.{ℤ}
+use Prim.Native.Nat.{_+_, _-_, _*_, _≤_}
+use mathlib.Core.List.{List}
 use lib.ListN.{length, length-map, getD, take}
 use lib.Seq.{take-all}
 use Rattle.arith.specs.Loops.{upto}
@@ -12,19 +11,12 @@ use Rattle.arith.specs.Within.{w-le}
 use Rattle.voice.specs.declared.Slot.{Slot}
 use Rattle.voice.specs.State.{blank, free}
 use Rattle.voice.specs.Sums.{addTo, addTo-length, addTo-small, Small}
-use Rattle.engine.specs.declared.Engine.{Engine}
-use Rattle.engine.specs.State.{slotsOf, voicesOf, withSlots}
+use Rattle.engine.specs.State.{slotsOf, voicesOf}
 use Rattle.engine.specs.Render.{slotAfter, played}
 use Rattle.engine.specs.SlotLoop.{paired-length, wordTo, word-none, flag-turn, word-fits, withVoices, store-none, store-turn, store-all}
 use Rattle.engine.specs.RenderLaws.{slotHeard, slot-stays, addAll, add-none, add-turn}
 use Rattle.engine.proofs.sums.run_all.Statement.{statement}
 use Rattle.engine.proofs.sums.run_all.Tie as tie
-use Rattle.engine.proofs.sums.run_all.Reads as reads
-use Rattle.engine.proofs.sums.run_all.Lts as lts
-use Rattle.engine.proofs.slots.flag.Reads as flag-reads
-use Rattle.engine.proofs.slots.slot_of.Reads as slot-of-reads
-use Rattle.engine.proofs.slots.with_word.Reads as with-word-reads
-use Rattle.engine.proofs.sums.run_slot.Reads as run-slot-reads
 
 abbrev Inv-loop : tie.InvT-loop
 Inv-loop e g o ram rom acc₀ n x₀ word₀ i₀ acc x word i =

@@ -1,8 +1,6 @@
 -- A free slot is skipped; any other runs with its channel and its window.
-use mathlib.Core.Path.{_≡_, refl, sym, ap, _∙_}
-use borrow.Author.Tests.{not-true, not-false}
-use mathlib.Core.Path.{ap₂, subst}
-use mathlib.Core.Bool.{cond}
+use mathlib.Core.Path.{sym, ap, _∙_, ap₂, subst}
+use borrow.Author.Tests.{not-true}
 use mathlib.Core.List.{List}
 use lib.IntN.{ℤ}
 use Rattle.voice.specs.declared.Channel.{Channel}
@@ -14,11 +12,6 @@ use Rattle.engine.specs.RenderLaws.{window-part, free-after, free-adds, 
 use borrow.Author.Needs.{needs}
 use Rattle.engine.proofs.sums.run_slot.Statement.{statement}
 use Rattle.engine.proofs.sums.run_slot.Tie as tie
-use Rattle.engine.proofs.sums.run_slot.Reads as reads
-use Rattle.engine.proofs.sums.run_slot.Lts as lts
-use Rattle.engine.proofs.channels.channel_of.Reads as channel-of-reads
-use Rattle.records.proofs.window_of.Reads as window-of-reads
-use Rattle.voice.proofs.run.Reads as run-reads
 
 returns : tie.Need-returns
 returns c =

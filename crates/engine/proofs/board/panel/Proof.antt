@@ -1,16 +1,11 @@
 -- Past 31 refused, else as the slot is shown.
-use mathlib.Core.Path.{_≡_, refl, sym, ap, _∙_}
+use mathlib.Core.Path.{ap, _∙_}
 use borrow.Author.Tests.{lt-ltb, le-ltb}
 use Rattle.voice.specs.Panel.{shown}
 use Rattle.engine.specs.PanelAsk.{ask}
 use borrow.Author.Needs.{needs}
-use Rattle.engine.proofs.panel.ask_panel.Statement.{statement}
-use Rattle.engine.proofs.panel.ask_panel.Tie as tie
-use Rattle.engine.proofs.panel.ask_panel.Reads as reads
-use Rattle.engine.proofs.panel.ask_panel.Lts as lts
-use Rattle.curves.proofs.gains.Reads as gains-reads
-use Rattle.engine.proofs.slots.slot_of.Reads as slot-of-reads
-use Rattle.voice.proofs.show.Reads as show-reads
+use Rattle.engine.proofs.board.panel.Statement.{statement}
+use Rattle.engine.proofs.board.panel.Tie as tie
 
 returns : tie.Need-returns
 unfolding ask
@@ -31,6 +26,6 @@ returns-2 c =
     let d = c .before .before in
     c .show .ensures ∙ ap shown (d .slot-of .ensures) ∙ simp (le-ltb _ _ (d .before .before .if1 .left))
 
-pub ask-panel-spec : {M : Type 1} → statement M
-ask-panel-spec =
+pub panel-spec : {M : Type 1} → statement M
+panel-spec =
     tie.close (tie.spec returns gains-requires slot-of-requires show-requires returns-2)

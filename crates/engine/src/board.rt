@@ -8,7 +8,7 @@ use voice::Shown;
 use voice::show;
 
 // What the panel is told of a slot; past 31 it is refused.
-pub fn ask_panel(e: Engine, slot: u8) -> Shown
+pub fn panel(e: Engine, slot: u8) -> Shown
     ensures { λ r. ⌜ r ≡ ask slot e ⌝ }
 {
     if 31 < slot {

@@ -1,0 +1,80 @@
+// For timing (speed/): a bank and its samples, keys struck, then renders of 4,096 frames; it writes a hash of the last output.
+// Standard input: u32 strikes, u32 renders, u32 and so many bytes of a bank, u32 and so many samples. The last 32 strikes sound.
+use cases::Place;
+use engine::Engine;
+
+// The keys 40 to 71 in turn, as often as asked.
+fn strike<'a>(bank: &[u8], ram: &'a [i16], rom: &'a [i16], strikes: u32) -> Engine {
+    let mut e = engine::fresh();
+    let mut i: u32 = 0;
+    while i < strikes {
+        let a = engine::note_on(e, bank, ram, rom, 0, key_of(i), 100);
+        let x = a.engine;
+        e = x;
+        i = i + 1;
+    }
+    e
+}
+
+fn key_of(i: u32) -> u8 {
+    40 + (i % 32) as u8
+}
+
+// The renders; the clock goes round.
+fn play<'a>(first: Engine, ram: &'a [i16], rom: &'a [i16], out: &mut [f32], renders: u32) -> u32 {
+    let mut e = first;
+    let mut i: u32 = 0;
+    while i < renders {
+        let to = std::num::wrapping_add_u32(e.clock, 4096);
+        let a = engine::render(e, to, ram, rom, out);
+        let x = a.engine;
+        e = x;
+        i = i + 1;
+    }
+    e.sounding
+}
+
+// The first n of a lent memory, all of it where it has fewer.
+fn front(m: &[i16], n: usize) -> &[i16] {
+    if n < m.len() { &m[..n] } else { m }
+}
+
+fn bytes_front(m: &[u8], n: usize) -> &[u8] {
+    if n < m.len() { &m[..n] } else { m }
+}
+
+fn report(sounding: u32, hash: u64) {
+    let mut text = io::large_buffer();
+    let mut at = cases::hex(&mut text, 0, sounding as u64, 8);
+    at = cases::put(&mut text, at, b' ');
+    at = cases::hex(&mut text, at, hash, 16);
+    at = cases::put(&mut text, at, b'\n');
+    cases::flush(&text, at);
+}
+
+fn main() {
+    let mut room = io::large_buffer();
+    let mut bank = [0u8; 66000];
+    let mut ram = [0i16; 65536];
+    let mut out = [0f32; 8192];
+    let strikes = cases::next_u32(&mut room, cases::start());
+    let renders = cases::next_u32(&mut room, strikes.place);
+    let length = cases::next_u32(&mut room, renders.place);
+    let n = length.value as usize;
+    let p = read_bank(&mut room, length.place, &mut bank, n);
+    let count = cases::next_u32(&mut room, p);
+    let k = count.value as usize;
+    read_ram(&mut room, count.place, &mut ram, k);
+    let lent = front(&ram, k);
+    let e = strike(bytes_front(&bank, n), lent, lent, strikes.value);
+    let sounding = play(e, lent, lent, &mut out, renders.value);
+    report(sounding, cases::fnv(&out));
+}
+
+fn read_bank(room: &mut [u8; 65536], from: Place, bank: &mut [u8; 66000], n: usize) -> Place {
+    if n <= 66000 { cases::next_bytes(room, from, &mut bank[..n]) } else { from }
+}
+
+fn read_ram(room: &mut [u8; 65536], from: Place, ram: &mut [i16; 65536], n: usize) -> Place {
+    if n <= 65536 { cases::next_samples(room, from, &mut ram[..n]) } else { from }
+}

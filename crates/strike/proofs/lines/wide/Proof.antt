@@ -1,0 +1,17 @@
+-- A number of 16 bits fits 32. Assumes nothing.
+use borrow.Author.Needs.{needs}
+use lib.Dec.{lit<}
+use mir.Facts.{toZ-ofZ}
+use mir.Syntax.{w16, w32}
+use Rattle.arith.specs.Within.{w-of, w-fits}
+use Rattle.strike.proofs.lines.wide.Statement.{statement}
+use Rattle.strike.proofs.lines.wide.Tie as tie
+
+cast-result : tie.Need-cast-result
+cast-result c = rw (toZ-ofZ (c .fits .x)) (w-fits w32 (w-of w16 (c .fits .x)) (lit< tt))
+
+returns : tie.Need-returns
+returns c = search needs
+
+pub wide-spec : {M : Type 1} → statement M
+wide-spec = tie.close (tie.spec cast-result returns)
