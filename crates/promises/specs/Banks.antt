@@ -1,13 +1,11 @@
 -- Voices that calls start: what every one of them has, as its bank and its call say.
-use Prim.Native.Nat.{ℕ, _≤_, _<_}
-use mathlib.Core.Path.{_≡_, refl, sym, ap, _∙_, subst}
+use Prim.Native.Nat.{ℕ, _≤_}
+use mathlib.Core.Path.{_≡_, refl, sym, subst}
 use mathlib.Core.Bool.{Bool, true, false, cond}
 use mathlib.Core.List.{List, [], _∷_}
 use mathlib.Core.Logic.{⊎-elim, inl, inr}
-use native.Mathlib.Omega.{arith}
-use borrow.Author.Tests.{eqb-true, eqb-false, eq-eqb, ne-eqb}
+use borrow.Author.Tests.{eqb-true, eqb-false, eq-eqb}
 use lib.Dec.{eqb}
-use lib.IntN.{ℤ}
 use Rattle.layers.specs.VoiceOf.{struckVoices}
 use Rattle.layers.specs.AdmittedVoices.{All, GoodVoice, struck-good}
 use Rattle.voice.specs.declared.Voice.{Voice}
