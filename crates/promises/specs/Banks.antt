@@ -1,20 +1,21 @@
 -- Voices that calls start: what every one of them has, as its bank and its call say.
-use Prim.Native.Nat.{ℕ, _≤_, _<_}
-use mathlib.Core.Path.{_≡_, refl, sym, ap, _∙_}
+use Prim.Native.Nat.{ℕ, _≤_}
+use mathlib.Core.Path.{_≡_, refl, sym, subst}
 use mathlib.Core.Bool.{Bool, true, false, cond}
-use mathlib.Core.List.{List, []}
-use mathlib.Core.Logic.{⊎-elim}
-use native.Mathlib.Omega.{arith}
-use borrow.Author.Tests.{eqb-true, eqb-false, eq-eqb, ne-eqb}
+use mathlib.Core.List.{List, [], _∷_}
+use mathlib.Core.Logic.{⊎-elim, inl, inr}
+use borrow.Author.Tests.{eqb-true, eqb-false, eq-eqb}
 use lib.Dec.{eqb}
-use lib.IntN.{ℤ}
+use Rattle.layers.specs.VoiceOf.{struckVoices}
+use Rattle.layers.specs.AdmittedVoices.{All, GoodVoice, struck-good}
 use Rattle.voice.specs.declared.Voice.{Voice}
 use Rattle.engine.specs.declared.Engine.{Engine}
 use Rattle.engine.specs.NoteOn.{Bank, layersOf}
+use Rattle.engine.specs.LentBank.{bankFrom}
 use Rattle.promises.specs.Calls as Calls
 use Rattle.promises.specs.Calls.{Call, does, begun, channelOf}
 use Rattle.promises.specs.EachSlot.{Among}
-use Rattle.promises.specs.Demand1Proof.{note-on-numbers}
+use Rattle.promises.specs.Demand1Proof.{rules-admit, note-on-numbers}
 use Rattle.promises.specs.Demand2.{strikes}
 
 -- a voice that begins, struck with channel, key and velocity
@@ -30,8 +31,14 @@ pub record Begins (c k v : ℕ) (u : Voice) : Type 0 where
 abbrev pub Sound : Bank → Type 0
 Sound b = b .admitted ≡ true → (bank program c k v : ℕ) (u : Voice) → Among u (b .voices bank program c k v) → Begins c k v u
 
-abbrev pub AllSound : Type 0
-AllSound = (b : Bank) → Sound b
+all-sound : (b : List ℕ) → Sound (bankFrom b)
+unfolding bankFrom
+all-sound b ok bank program c k v u a = one (struckVoices b bank program c k v) (struck-good b ok bank program c k v) a
+  where
+    one : (us : List Voice) → All (GoodVoice c k v) us → Among u us → Begins c k v u
+    one [] g a = absurd a
+    one (w ∷ us) g (inl q) = subst (λ (y : Voice). Begins c k v y) q (record { rate-low = g .0 .rate-low; rate-high = g .0 .rate-high; channel = g .0 .channel-is; key = g .0 .key-is; velocity = g .0 .velocity-is; unmarked = g .0 .unmarked })
+    one (w ∷ us) g (inr a) = one us (g .1) a
 
 -- a voice that a call has started
 pub record Came (x : Call) (u : Voice) : Type 0 where
@@ -44,18 +51,18 @@ pub record Came (x : Call) (u : Voice) : Type 0 where
   pub unmarked : u .marked ≡ false
   pub struck : strikes (u .channel) (u .key) x ≡ true
 
-pub came : AllSound → (x : Call) (e : Engine) (u : Voice) → Among u (begun x e) → Came x u
-came sound (Calls.noteOn b ram rom c k v) e u a = by (eqb status 0) refl (eqb v 0) refl a
+pub came : (x : Call) (e : Engine) (u : Voice) → Among u (begun x e) → Came x u
+came (Calls.noteOn b ram rom c k v) e u a = by (eqb status 0) refl (eqb v 0) refl a
   where
     status : ℕ
     status = does (Calls.noteOn b ram rom c k v) e .status
 
-    by : (s : Bool) → eqb status 0 ≡ s → (z : Bool) → eqb v 0 ≡ z → Among u (cond s (cond z [] (layersOf b c k v e)) []) → Came (Calls.noteOn b ram rom c k v) u
+    by : (s : Bool) → eqb status 0 ≡ s → (z : Bool) → eqb v 0 ≡ z → Among u (cond s (cond z [] (layersOf (bankFrom b) c k v e)) []) → Came (Calls.noteOn b ram rom c k v) u
     by false h z q a = absurd a
     by true h true q a = absurd a
     by true h false q a =
         ⊎-elim (λ y. absurd (eqb-false v 0 q (y .2)))
-        (λ y. let g = sound b (y .1) _ _ c k v u a in
+        (λ y. let g = all-sound b (rules-admit b (y .1)) _ _ c k v u a in
         record {
           rate-low = g .rate-low;
           rate-high = g .rate-high;
@@ -67,9 +74,9 @@ came sound (Calls.noteOn b ram rom c k v) e u a = by (eqb status 0) refl (eqb v 
           struck = rw (q, eq-eqb c (u .channel) (sym (g .channel)), eq-eqb k (u .key) (sym (g .key))) refl;
         })
         (note-on-numbers b ram rom c k v e .done .0 (eqb-true status 0 h))
-came sound (Calls.noteOff c k) e u a = absurd a
-came sound (Calls.control c n v) e u a = absurd a
-came sound (Calls.program c p) e u a = absurd a
-came sound (Calls.bend c b) e u a = absurd a
-came sound (Calls.render to ram rom out) e u a = absurd a
-came sound (Calls.ask i) e u a = absurd a
+came (Calls.noteOff c k) e u a = absurd a
+came (Calls.control c n v) e u a = absurd a
+came (Calls.program c p) e u a = absurd a
+came (Calls.bend c b) e u a = absurd a
+came (Calls.render to ram rom out) e u a = absurd a
+came (Calls.ask i) e u a = absurd a

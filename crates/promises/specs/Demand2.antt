@@ -22,7 +22,7 @@ use Rattle.engine.specs.State.{slotAt, slotsOf, channelAt, fresh}
 use Rattle.engine.specs.NoteOff.{ofChannel, held, heldKey, pedalDown, mark}
 use Rattle.engine.specs.Controls.{pedalHeld}
 use Rattle.engine.specs.Slots.{seat}
-use Rattle.engine.specs.NoteOn.{Bank, Started, start, cleared, rival}
+use Rattle.engine.specs.NoteOn.{Started, start, cleared, rival}
 use Rattle.engine.specs.Render.{distance, leftSum, rightSum, mixed}
 use Rattle.promises.specs.Age.{Ordered, older, startedLast}
 use Rattle.promises.specs.Calls.{Call, noteOn, noteOff, control, program, bend, render, ask, does, written, next, run, voiceIn, frames, framesOf, begun, channelOf, startsIn, among, history}
@@ -44,7 +44,7 @@ NoteOffReachesAll = (channel key : ℕ) (e : Engine) → channel ≤ 15 → key 
 -- a note-on of velocity 0 is that note-off, whatever bank it is lent
 abbrev pub VelocityZeroIsNoteOff : Type 0
 VelocityZeroIsNoteOff =
-    (b : Bank) (ram rom : List ℤ) (channel key : ℕ) (e : Engine) → channel ≤ 15 → key ≤ 127
+    (b : List ℕ) (ram rom : List ℤ) (channel key : ℕ) (e : Engine) → channel ≤ 15 → key ≤ 127
     → does (noteOn b ram rom channel key 0) e ≡ does (noteOff channel key) e
 
 -- ---- 2. Under the pedal none is lost
@@ -164,7 +164,7 @@ pub record Struck (x : Call) (e : Engine) : Type 0 where
 -- after any run, a note-on that is done
 abbrev pub LayersByTheRule : Type 0
 LayersByTheRule =
-    (xs : List Call) (b : Bank) (ram rom : List ℤ) (c k v : ℕ) → 0 < v
+    (xs : List Call) (b : List ℕ) (ram rom : List ℤ) (c k v : ℕ) → 0 < v
     → does (noteOn b ram rom c k v) (run xs fresh) .status ≡ 0
     → (does (noteOn b ram rom c k v) (run xs fresh) .count ≡ length (begun (noteOn b ram rom c k v) (run xs fresh)))
     × Struck (noteOn b ram rom c k v) (run xs fresh)

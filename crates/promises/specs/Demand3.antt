@@ -1,15 +1,15 @@
 -- Demand 3: the place of a voice after n frames, over any run of calls.
-use Prim.Native.Nat.{ℕ, _+_, _*_, _≤_, _<_}
+use Prim.Native.Nat.{ℕ, _+_, _*_, _^_, _≤_, _<_}
 use mathlib.Core.Bool.{true, false, cond}
 use mathlib.Core.List.{List, [], _∷_}
 use mathlib.Core.Path.{_≡_}
-use lib.IntN.{ℤ}
-use Rattle.curves.specs.Step.{stepOf, StepsAt}
+use lib.IntN.{ℤ, pos, _+ℤ_}
+use Rattle.curves.specs.Step.{stepOf}
 use Rattle.voice.specs.declared.Voice.{Voice}
 use Rattle.voice.specs.Stages.{past, released}
 use Rattle.voice.specs.Move.{pitchTotal, lifted, folds, folded}
 use Rattle.engine.specs.declared.Engine.{Engine}
-use Rattle.engine.specs.State.{slotAt, channelAt}
+use Rattle.engine.specs.State.{slotAt, channelAt, fresh}
 use Rattle.promises.specs.Calls.{Call, next, run, voiceIn, framesOf, frames, startsIn, among}
 
 -- its pitch total as it stands
@@ -31,15 +31,25 @@ KeepsAll i c (x ∷ xs) e = Keeps i c x e × KeepsAll i c xs (next x e)
 abbrev pub advance : ℕ → ℤ → Voice → ℕ
 advance n c v = n * stepOf (lifted c) (v .rate)
 
--- what is said of the place: moved by A, folded while it loops; and A <= n * X < A + 2n, in 1,200th powers: `StepsAt` says it with
--- X^1200 = 2^(24 * 1,200 + c) * rate^1200 / 44,100^1200, and 24 * 1,200 + c = lifted c + 19,200
+-- what is said of the place: moved by A, folded while it loops; and A <= n * X < A + 2n, with X = 2^24 * 2^(c/1,200) * rate/44,100.
+-- Both sides stand times 44,100 and in 1,200th powers, over whole numbers:
+-- (n * X * 44,100)^1200 = n^1200 * 2^(28,800 + c) * rate^1200, and lifted c + 19,200 = 28,800 + c (`Exponent`)
 pub record Moved (i : ℕ) (c : ℤ) (n : ℕ) (before after : Engine) : Type 0 where
   pub place :
       voiceIn i after .place
       ≡ cond (folds (voiceIn i after) (voiceIn i after .stage))
       (folded (voiceIn i before) (voiceIn i before .place + advance n c (voiceIn i before)))
       (voiceIn i before .place + advance n c (voiceIn i before))
-  pub near : StepsAt (lifted c) (voiceIn i before .rate) (stepOf (lifted c) (voiceIn i before .rate)) n
+  pub above :
+      (advance n c (voiceIn i before) * 44100) ^ 1200
+      ≤ n ^ 1200 * (2 ^ (lifted c + 19200) * voiceIn i before .rate ^ 1200)
+  pub below :
+      n ^ 1200 * (2 ^ (lifted c + 19200) * voiceIn i before .rate ^ 1200)
+      < ((advance n c (voiceIn i before) + n * 2) * 44100) ^ 1200
+
+-- the exponent is 24 * 1,200 + c, for every pitch total c that a voice can have
+abbrev pub Exponent : Type 0
+Exponent = (i : ℕ) (e : Engine) → pos (lifted (centsIn i e) + 19200) ≡ pos 28800 +ℤ centsIn i e
 
 -- a voice past its delay, through a run that renders n frames, one or more; if its loop stops at release, not released there
 abbrev pub PlaceHolds : Type 0
@@ -52,3 +62,21 @@ PlaceHolds =
     KeepsAll i c xs e →
     (voiceIn i e .mode ≡ 3 → released (voiceIn i (run xs e) .stage) ≡ released (voiceIn i e .stage)) →
     Moved i c (frames xs e) e (run xs e)
+
+-- every voice that sounds after any run has such a rate
+abbrev pub RatesHold : Type 0
+RatesHold =
+    (before : List Call) (i : ℕ) → slotAt (run before fresh) i .sounding ≡ true →
+    (400 ≤ voiceIn i (run before fresh) .rate) × (voiceIn i (run before fresh) .rate ≤ 50000)
+
+-- so, after any run, nothing is to be supposed but what the customer says
+abbrev pub PlaceHoldsAlways : Type 0
+PlaceHoldsAlways =
+    (before : List Call) (i : ℕ) (c : ℤ) (xs : List Call) →
+    slotAt (run before fresh) i .sounding ≡ true →
+    past (voiceIn i (run before fresh) .stage) ≡ true →
+    0 < frames xs (run before fresh) →
+    KeepsAll i c xs (run before fresh) →
+    (voiceIn i (run before fresh) .mode ≡ 3
+    → released (voiceIn i (run xs (run before fresh)) .stage) ≡ released (voiceIn i (run before fresh) .stage)) →
+    Moved i c (frames xs (run before fresh)) (run before fresh) (run xs (run before fresh))

@@ -26,12 +26,14 @@ use Rattle.voice.specs.Run.{after, afterAt}
 use Rattle.voice.specs.RunLaws.{once}
 use Rattle.voice.specs.Advance.{going, placeAfter, place-add}
 use Rattle.engine.specs.declared.Engine.{Engine}
-use Rattle.engine.specs.State.{slotAt, channelAt}
+use Rattle.engine.specs.State.{slotAt, channelAt, fresh}
 use Rattle.engine.specs.NoteOff.{mark, withVoice, held}
 use Rattle.engine.specs.Render.{window, slotAfter}
 use Rattle.promises.specs.Calls.{Call, next, run, voiceIn, framesOf, frames}
 use Rattle.promises.specs.EachSlot.{What, stands, pedalled, loosed, freed, started, goes, never, what}
-use Rattle.promises.specs.Demand3.{centsIn, Keeps, KeepsAll, PlaceHolds}
+use Rattle.promises.specs.Banks.{came}
+use Rattle.promises.specs.Voices.{from-fresh}
+use Rattle.promises.specs.Demand3.{centsIn, Keeps, KeepsAll, Exponent, PlaceHolds, RatesHold, PlaceHoldsAlways}
 
 -- ---- a voice that has gone on
 
@@ -249,7 +251,37 @@ pub place-holds : PlaceHolds
 place-holds i c xs e on h rate n m k =
     let st = stepOf (lifted c) (voiceIn i e .rate) in
     let o = all xs i c e st on h refl m in
+    let near = steps (lifted c) (voiceIn i e .rate) st (frames xs e) n (step-right (lifted c) (voiceIn i e .rate) (cents-bound xs i c e n m) (omega arith) (omega arith)) in
     record {
       place = place-of (voiceIn i e) (voiceIn i (run xs e)) st (frames xs e) o n k;
-      near = steps (lifted c) (voiceIn i e .rate) st (frames xs e) n (step-right (lifted c) (voiceIn i e .rate) (cents-bound xs i c e n m) (omega arith) (omega arith));
+      above = near .above;
+      below = near .below;
     }
+
+pub rates-hold : RatesHold
+rates-hold before =
+    from-fresh (λ (v : Voice). (400 ≤ v .rate) × (v .rate ≤ 50000)) (λ v g p m h. h)
+    (λ x e u f. let g = came x e u f in (g .rate-low, g .rate-high)) before
+
+pub place-always : PlaceHoldsAlways
+place-always before i c xs on h n m k = place-holds i c xs (run before fresh) on h (rates-hold before i on) n m k
+
+-- a total that is held, above -28,800
+exponent-of : (k : ℤ) → pos (lifted (heldTo (negsuc 9599) (pos 4800) k) + 19200) ≡ pos 28800 +ℤ heldTo (negsuc 9599) (pos 4800) k
+exponent-of k = by (ltZ k (negsuc 9599)) refl (ltZ (pos 4800) k) refl
+  where
+    inside : (k : ℤ) → ltZ k (negsuc 9599) ≡ false → pos (lifted k + 19200) ≡ pos 28800 +ℤ k
+    inside (pos a) l = ap pos (omega arith)
+    inside (negsuc a) l =
+        let g : a ≤ 9599 = ltb-false 9599 a l in
+        ap (λ (z : ℤ). pos (natAbs z + 19200)) (sub-pos 9600 (suc a) (omega arith)) ∙ ap pos (omega arith) ∙ sym (sub-pos 28800 (suc a) (omega arith))
+
+    by : (p : Bool) → ltZ k (negsuc 9599) ≡ p → (q : Bool) → ltZ (pos 4800) k ≡ q
+        → pos (lifted (cond p (negsuc 9599) (cond q (pos 4800) k)) + 19200) ≡ pos 28800 +ℤ cond p (negsuc 9599) (cond q (pos 4800) k)
+    by true p q r = refl
+    by false p true r = refl
+    by false p false r = inside k p
+
+pub exponent : Exponent
+unfolding pitchTotal
+exponent i e = exponent-of (voiceIn i e .pitch +ℤ bendCents (channelAt e (voiceIn i e .channel) .bend))

@@ -31,8 +31,9 @@ use Rattle.engine.specs.Channels.{withPedal, withProgram, withBend}
 use Rattle.engine.specs.Program.{programChange}
 use Rattle.engine.specs.Bend.{pitchBend}
 use Rattle.engine.specs.Slots.{seat, startIn}
-use Rattle.engine.specs.NoteOn.{Bank, classIn, Started, start, startAll, cleared, rival, struck, layersOf, noteOnNumber, noteOn}
+use Rattle.engine.specs.NoteOn.{classIn, Started, start, startAll, cleared, rival, struck, layersOf, noteOnNumber, noteOn}
 use Rattle.engine.specs.Render.{distance, window, slotAfter, played, renderNumber, render}
+use Rattle.engine.specs.LentBank.{bankFrom}
 use Rattle.promises.specs.Calls as Calls
 use Rattle.promises.specs.Calls.{Call, does, next, framesOf, begun, seats, startsIn, among, voiceIn, channelOf}
 
@@ -239,15 +240,15 @@ module _ (e : Engine) (i c : ℕ) (vs : List Voice) (ss : List ℕ) where
       out (goes ram rom a) h = goes ram rom (h ∙ a)
 
 -- a note-on
-note-on-to : (b : Bank) (ram rom : List ℤ) (c k v : ℕ) (e : Engine) (i : ℕ) → What (Calls.noteOn b ram rom c k v) e i
+note-on-to : (b : List ℕ) (ram rom : List ℤ) (c k v : ℕ) (e : Engine) (i : ℕ) → What (Calls.noteOn b ram rom c k v) e i
 unfolding noteOn
 note-on-to b ram rom c k v e i = by (pastTwo c k v) (eqb v 0) (eqb number 0) number
   where
     vs : List Voice
-    vs = layersOf b c k v e
+    vs = layersOf (bankFrom b) c k v e
 
     number : ℕ
-    number = noteOnNumber b ram rom c k v e
+    number = noteOnNumber (bankFrom b) ram rom c k v e
 
     tells : (t z q : Bool) (n : ℕ) → Answered
     tells t z q n =

@@ -23,6 +23,7 @@ use Rattle.engine.specs.Bend.{pitchBend}
 use Rattle.engine.specs.Slots.{seat, startIn}
 use Rattle.engine.specs.NoteOn.{Started, start, startAll, cleared, rival, struck, layersOf, noteOnNumber, noteOn}
 use Rattle.engine.specs.Render.{distance, slotAfter, played, renderNumber, render}
+use Rattle.engine.specs.LentBank.{bankFrom}
 use Rattle.promises.specs.Calls as Calls
 use Rattle.promises.specs.Calls.{Call, next, run}
 use Rattle.promises.specs.EachSlot.{either}
@@ -62,10 +63,10 @@ module _ (P : Engine → Type 0) (l : Lasting P) where
   pub call-keeps : (x : Call) (e : Engine) → P e → P (next x e)
   unfolding noteOn noteOff controlChange programChange pitchBend render struck cleared played
   call-keeps (Calls.noteOn b ram rom c k v) e h =
-      let vs = layersOf b c k v e in
+      let vs = layersOf (bankFrom b) c k v e in
       told (cond (pastTwo c k v) 2 0) e _ h
       (either (λ (x : Answered). P (x .engine)) (eqb v 0) _ _ (lets c k e h)
-      (told (noteOnNumber b ram rom c k v e) e (done (length vs) (struck c vs e .engine)) h
+      (told (noteOnNumber (bankFrom b) ram rom c k v e) e (done (length vs) (struck c vs e .engine)) h
       (layers vs (record { engine = cleared c vs e; mine = 0 }) (l .slots e (cut (rival c vs)) h))))
   call-keeps (Calls.noteOff c k) e h = told (cond (pastOne c k) 2 0) e (offKey c k e) h (lets c k e h)
   call-keeps (Calls.control c n v) e h = told (cond (pastTwo c n v) 2 0) e (done 0 (controlled c n v e)) h (controls c n v e h)

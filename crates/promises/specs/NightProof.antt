@@ -29,12 +29,13 @@ use Rattle.engine.specs.Program.{programChange}
 use Rattle.engine.specs.Bend.{pitchBend}
 use Rattle.engine.specs.NoteOn.{Started, start, startAll, cleared, struck, layersOf, noteOnNumber, noteOn}
 use Rattle.engine.specs.Render.{distance, window, slotAfter, played, renderNumber, render}
+use Rattle.engine.specs.LentBank.{bankFrom}
 use Rattle.promises.specs.Calls as Calls
 use Rattle.promises.specs.Calls.{Call, next, run, voiceIn, framesOf, begun, channelOf}
 use Rattle.promises.specs.EachSlot.{Among, What, stands, pedalled, loosed, freed, started, goes, never, either, what, letOff-picked, letOff-left}
 use Rattle.promises.specs.Demand2.{LiftingReleases, VelocityZeroIsNoteOff, NoMarkWithoutPedal, strikes, leaves, struckAfter, Piece, Into, ends, left, right, Overlap, quiet, more, OctoberNight}
 use Rattle.promises.specs.Demand2Proof.{reaches, gone, free-held}
-use Rattle.promises.specs.Banks.{AllSound, came}
+use Rattle.promises.specs.Banks.{came}
 use Rattle.promises.specs.Frames.{after-keeps, after-sounded, late-none, late-after}
 use Rattle.promises.specs.Voices.{fresh-free, from-fresh}
 
@@ -168,10 +169,10 @@ module _ (d : ℕ) (e : Engine) (down : pedalDown e d ≡ true) where
   stays-down : (x : Call) → (Lift x d → ⊥) → Down (next x e)
   unfolding noteOn noteOff controlChange programChange pitchBend render struck cleared played
   stays-down (Calls.noteOn b ram rom c k v) h =
-      let vs = layersOf b c k v e in
+      let vs = layersOf (bankFrom b) c k v e in
       told (cond (pastTwo c k v) 2 0) _
       (either (λ (x : Answered). Down (x .engine)) (eqb v 0) _ _ (off-down c k)
-      (told (noteOnNumber b ram rom c k v e) (done (length vs) (struck c vs e .engine)) (layers vs (record { engine = cleared c vs e; mine = 0 }) down)))
+      (told (noteOnNumber (bankFrom b) ram rom c k v e) (done (length vs) (struck c vs e .engine)) (layers vs (record { engine = cleared c vs e; mine = 0 }) down)))
   stays-down (Calls.noteOff c k) h = told (cond (pastOne c k) 2 0) (offKey c k e) (off-down c k)
   stays-down (Calls.control c n v) h = by (pastTwo c n v) refl
     where
@@ -258,10 +259,10 @@ abbrev Honest : Engine → Type 0
 Honest e = (i : ℕ) → slotAt e i .sounding ≡ true → voiceIn i e .marked ≡ true → pedalDown e (voiceIn i e .channel) ≡ true
 
 -- the pedal was down for a voice that is marked after a call
-was-down : AllSound → (x : Call) (e : Engine) → Honest e → (i : ℕ) → slotAt (next x e) i .sounding ≡ true → voiceIn i (next x e) .marked ≡ true
+was-down : (x : Call) (e : Engine) → Honest e → (i : ℕ) → slotAt (next x e) i .sounding ≡ true → voiceIn i (next x e) .marked ≡ true
     → pedalDown e (voiceIn i (next x e) .channel) ≡ true
 unfolding release
-was-down sound x e h i on m = by (what x e i)
+was-down x e h i on m = by (what x e i)
   where
     s : Slot
     s = slotAt e i
@@ -279,7 +280,7 @@ was-down sound x e h i on m = by (what x e i)
         (λ o p. subst (λ (c : ℕ). pedalDown e c ≡ true) (sym (of-channel (channelOf x) s (held-of (channelOf x) s l))) d)
     by (loosed a n c) = at (withVoice s (release (s .voice))) a (λ o p. absurd (never p))
     by (freed a n c) = at (free (s .voice)) a (λ o p. absurd (never o))
-    by (started u a n f t) = at (sounds u) a (λ o p. absurd (never (sym (came sound x e u f .unmarked) ∙ p)))
+    by (started u a n f t) = at (sounds u) a (λ o p. absurd (never (sym (came x e u f .unmarked) ∙ p)))
     by (goes ram rom a) =
         let ch = channelAt e (s .voice .channel) in
         let w = window ram rom (s .voice) in
@@ -292,24 +293,24 @@ marked-is : (c : ℕ) (s : Slot) → s .sounding ≡ true → s .voice .channel 
 unfolding pedalHeld ofChannel
 marked-is c s a b d = rw (a, eq-eqb (s .voice .channel) c b, d) refl
 
-honest-call : AllSound → (x : Call) (e : Engine) → Honest e → Honest (next x e)
-honest-call sound x e h i on m =
+honest-call : (x : Call) (e : Engine) → Honest e → Honest (next x e)
+honest-call x e h i on m =
     let c = voiceIn i (next x e) .channel in
-    stays-down c e (was-down sound x e h i on m) x
+    stays-down c e (was-down x e h i on m) x
     (λ l. never (sym (ap (λ (y : Call). pedalHeld c (slotAt (next y e) i)) (l .is) ∙ lifts c (l .value) e (l .range) (l .low) .none i)
     ∙ marked-is c (slotAt (next x e) i) on refl m))
 
-honest-run : AllSound → (xs : List Call) (e : Engine) → Honest e → Honest (run xs e)
+honest-run : (xs : List Call) (e : Engine) → Honest e → Honest (run xs e)
 unfolding run
-honest-run sound [] e h = h
-honest-run sound (x ∷ xs) e h = honest-run sound xs (next x e) (honest-call sound x e h)
+honest-run [] e h = h
+honest-run (x ∷ xs) e h = honest-run xs (next x e) (honest-call x e h)
 
-pub no-mark : AllSound → NoMarkWithoutPedal
-no-mark sound xs = honest-run sound xs fresh (λ i on m. absurd (never (sym (fresh-free i) ∙ on)))
+pub no-mark : NoMarkWithoutPedal
+no-mark xs = honest-run xs fresh (λ i on m. absurd (never (sym (fresh-free i) ∙ on)))
 
 -- ---- the October night
 
-module _ (sound : AllSound) (c k : ℕ) where
+module _ (c k : ℕ) where
   abbrev Gone : Engine → Type 0
   Gone e = (i : ℕ) → heldKey c k (slotAt e i) ≡ false
 
@@ -327,7 +328,7 @@ module _ (sound : AllSound) (c k : ℕ) where
       new u f false q = refl
       new u f true q =
           let p = holds c k (sounds u) q in
-          absurd (never (sym n ∙ subst (λ (y : ℕ). strikes c y x ≡ true) (p .key) (subst (λ (y : ℕ). strikes y (u .key) x ≡ true) (p .channel) (came sound x e u f .struck))))
+          absurd (never (sym n ∙ subst (λ (y : ℕ). strikes c y x ≡ true) (p .key) (subst (λ (y : ℕ). strikes y (u .key) x ≡ true) (p .channel) (came x e u f .struck))))
 
       on : (ram rom : List ℤ) (m : ℕ) (b : Bool) → heldKey c k (slotAfter ram rom e m s) ≡ b → b ≡ false
       on ram rom m false q = refl
@@ -407,13 +408,13 @@ unfolding struckAfter
 overlap-piece quiet c k = refl
 overlap-piece (more p o m) c k = mixed c k m false false false (λ e. absurd (never e)) (p c k) (overlap-piece o c k)
 
-pub october : AllSound → OctoberNight
-october sound night o up i on =
+pub october : OctoberNight
+october night o up i on =
     let e = run night fresh in
     let v = voiceIn i e in
-    let r = from-fresh (λ (u : Voice). (u .channel ≤ 15) × (u .key ≤ 127)) (λ u g p m h. h) (λ x y u f. let g = came sound x y u f in (g .small, g .key)) night i on in
-    let h = gone-run sound (v .channel) (v .key) (r .0) (r .1) night fresh false (λ z j. none (v .channel) (v .key) j) (overlap-piece o (v .channel) (v .key)) i in
-    by (slotAt e i) on h (released (v .stage)) refl (v .marked) refl (λ m. never (sym (up (v .channel)) ∙ no-mark sound night i on m))
+    let r = from-fresh (λ (u : Voice). (u .channel ≤ 15) × (u .key ≤ 127)) (λ u g p m h. h) (λ x y u f. let g = came x y u f in (g .small, g .key)) night i on in
+    let h = gone-run (v .channel) (v .key) (r .0) (r .1) night fresh false (λ z j. none (v .channel) (v .key) j) (overlap-piece o (v .channel) (v .key)) i in
+    by (slotAt e i) on h (released (v .stage)) refl (v .marked) refl (λ m. never (sym (up (v .channel)) ∙ no-mark night i on m))
   where
     none : (c k : ℕ) (j : ℕ) → heldKey c k (slotAt fresh j) ≡ false
     none c k j = by (heldKey c k (slotAt fresh j)) refl

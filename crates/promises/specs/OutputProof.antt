@@ -34,6 +34,7 @@ use Rattle.engine.specs.Bend.{pitchBend}
 use Rattle.engine.specs.Slots.{startIn}
 use Rattle.engine.specs.NoteOn.{Started, start, startAll, cleared, struck, layersOf, noteOnNumber, noteOn}
 use Rattle.engine.specs.Render.{distance, slotAfter, leftSum, rightSum, mixed, output, played, renderNumber, render, rendered}
+use Rattle.engine.specs.LentBank.{bankFrom}
 use Rattle.promises.specs.Cuts.{played-cut, output-cut}
 use Rattle.promises.specs.Calls as Calls
 use Rattle.promises.specs.Calls.{does, written, next, run, channelOf}
@@ -109,10 +110,10 @@ module _ (d : ℕ) (e : Engine) where
 pub channels-stand : OtherChannelsStand
 unfolding noteOn noteOff offKey off controlChange programChange pitchBend render struck cleared played
 channels-stand (Calls.noteOn b ram rom c k v) e d h =
-    let vs = layersOf b c k v e in
+    let vs = layersOf (bankFrom b) c k v e in
     told d e (cond (pastTwo c k v) 2 0) _
     (either (λ (x : Answered). Same d e (x .engine)) (eqb v 0) _ _ refl
-    (told d e (noteOnNumber b ram rom c k v e) (done (length vs) (struck c vs e .engine)) (layers d e vs (record { engine = cleared c vs e; mine = 0 }) refl)))
+    (told d e (noteOnNumber (bankFrom b) ram rom c k v e) (done (length vs) (struck c vs e .engine)) (layers d e vs (record { engine = cleared c vs e; mine = 0 }) refl)))
 channels-stand (Calls.noteOff c k) e d h = told d e (cond (pastOne c k) 2 0) (offKey c k e) refl
 channels-stand (Calls.control c n v) e d h = told d e (cond (pastTwo c n v) 2 0) (done 0 (controlled c n v e)) (controls d e c n v h)
 channels-stand (Calls.program c p) e d h =

@@ -30,14 +30,15 @@ use Rattle.engine.specs.Program.{programChange}
 use Rattle.engine.specs.Bend.{pitchBend}
 use Rattle.engine.specs.Render.{distance, played, renderNumber, render}
 use Rattle.engine.specs.Controls.{cut, pedal, silence, controlled, controlChange}
-use Rattle.engine.specs.NoteOn.{Bank, Started, start, startAll, cleared, rival, struck, layersOf, noteOnNumber, noteOn}
+use Rattle.engine.specs.NoteOn.{Started, start, startAll, cleared, rival, struck, layersOf, noteOnNumber, noteOn}
+use Rattle.engine.specs.LentBank.{bankFrom}
 use Rattle.promises.specs.Age.{Slots, Ordered, older, startedLast}
 use Rattle.promises.specs.AgeLaws.{renewed-ordered, renewed-older, order-slots}
 use Rattle.promises.specs.Calls as Calls
 use Rattle.promises.specs.Calls.{Call, does, next, run, voiceIn, begun, seats, startsIn, among, history}
 use Rattle.promises.specs.EachSlot.{Among, never, either, start-there, layered, cut-picked, cut-left}
 use Rattle.promises.specs.Voices.{Everyone, from-fresh}
-use Rattle.promises.specs.Banks.{AllSound, came}
+use Rattle.promises.specs.Banks.{came}
 use Rattle.promises.specs.Demand1Proof.{note-on-numbers}
 use Rattle.promises.specs.Kept.{Lasting, call-keeps, run-keeps, Sized, sized-lasts, slots-32, fresh-sized}
 use Rattle.promises.specs.Demand2.{Sooner, let-go, softer, aged, RightSeat, RightSeats, distinct, LayersByTheRule, OrderIsAge}
@@ -573,16 +574,16 @@ begin e c vs z o soft =
             subst (λ (t : Slot). t .voice .velocity ≤ 127) (sym s) (soft j (sym (ap (λ (t : Slot). t .sounding) s) ∙ o))
 
 -- the state after a done note-on of velocity above 0
-struck-is : (b : Bank) (ram rom : List ℤ) (c k v : ℕ) (e : Engine) → (v ≡ 0 → ⊥) → does (Calls.noteOn b ram rom c k v) e .status ≡ 0
-    → does (Calls.noteOn b ram rom c k v) e ≡ done (length (layersOf b c k v e)) (struck c (layersOf b c k v e) e .engine)
+struck-is : (b : List ℕ) (ram rom : List ℤ) (c k v : ℕ) (e : Engine) → (v ≡ 0 → ⊥) → does (Calls.noteOn b ram rom c k v) e .status ≡ 0
+    → does (Calls.noteOn b ram rom c k v) e ≡ done (length (layersOf (bankFrom b) c k v e)) (struck c (layersOf (bankFrom b) c k v e) e .engine)
 unfolding noteOn
 struck-is b ram rom c k v e n = by (pastTwo c k v) (eqb v 0) refl (eqb number 0) number refl
   where
     number : ℕ
-    number = noteOnNumber b ram rom c k v e
+    number = noteOnNumber (bankFrom b) ram rom c k v e
 
     well : Answered
-    well = done (length (layersOf b c k v e)) (struck c (layersOf b c k v e) e .engine)
+    well = done (length (layersOf (bankFrom b) c k v e)) (struck c (layersOf (bankFrom b) c k v e) e .engine)
 
     by : (t z : Bool) → eqb v 0 ≡ z → (q : Bool) (m : ℕ) → eqb m 0 ≡ q
         → answer (cond t 2 0) e (cond z (offKey c k e) (cond q well (refused m e))) .status ≡ 0
@@ -593,8 +594,8 @@ struck-is b ram rom c k v e n = by (pastTwo c k v) (eqb v 0) refl (eqb number 0)
     by false false p false m r h = absurd (eqb-false m 0 r h)
 
 -- the voices that it starts
-begun-is : (b : Bank) (ram rom : List ℤ) (c k v : ℕ) (e : Engine) → (v ≡ 0 → ⊥) → does (Calls.noteOn b ram rom c k v) e .status ≡ 0
-    → begun (Calls.noteOn b ram rom c k v) e ≡ layersOf b c k v e
+begun-is : (b : List ℕ) (ram rom : List ℤ) (c k v : ℕ) (e : Engine) → (v ≡ 0 → ⊥) → does (Calls.noteOn b ram rom c k v) e .status ≡ 0
+    → begun (Calls.noteOn b ram rom c k v) e ≡ layersOf (bankFrom b) c k v e
 begun-is b ram rom c k v e n h = rw (eq-eqb (does (Calls.noteOn b ram rom c k v) e .status) 0 h, ne-eqb v 0 n) refl
 
 -- its velocities
@@ -628,9 +629,9 @@ ordered-run xs = run-keeps (λ (e : Engine). Ordered (e .order)) ordered-lasts x
 pub sized-run : (xs : List Call) → Sized (run xs fresh)
 sized-run xs = run-keeps Sized sized-lasts xs fresh fresh-sized
 
-pub by-the-rule : AllSound → LayersByTheRule
+pub by-the-rule : LayersByTheRule
 unfolding struck cleared cut
-by-the-rule sound xs b ram rom c k v p h =
+by-the-rule xs b ram rom c k v p h =
     let e = run xs fresh in
     let x = Calls.noteOn b ram rom c k v in
     let n : v ≡ 0 → ⊥ = λ q. some q in
@@ -638,8 +639,8 @@ by-the-rule sound xs b ram rom c k v p h =
     let is = begun-is b ram rom c k v e n h in
     let first : Started = record { engine = cleared c vs e; mine = 0 } in
     let few : length vs ≤ 32 = ⊎-elim (λ y. absurd (n (y .2))) (λ y. rw is (y .3)) (note-on-numbers b ram rom c k v e .done .0 h) in
-    let mid = begin e c vs (sized-run xs) (ordered-run xs) (from-fresh (λ (u : Voice). u .velocity ≤ 127) (λ u g q m w. w) (λ y z u f. came sound y z u f .velocity) xs) in
-    let soft = soft-all vs (λ u a. came sound x e u a .velocity) in
+    let mid = begin e c vs (sized-run xs) (ordered-run xs) (from-fresh (λ (u : Voice). u .velocity ≤ 127) (λ u g q m w. w) (λ y z u f. came y z u f .velocity) xs) in
+    let soft = soft-all vs (λ u a. came x e u a .velocity) in
     let right = all-right vs first 0 mid (omega arith) soft in
     let after : next x e ≡ startAll vs first .engine =
     ap (λ (a : Answered). a .engine) (struck-is b ram rom c k v e n h) ∙ ap (λ (us : List Voice). startAll us (record { engine = cleared c us e; mine = 0 }) .engine) (sym is) in (
@@ -693,16 +694,16 @@ module _ (i j : ℕ) (li : i < 32) (lj : j < 32) (apart : i ≡ j → ⊥) where
       layers-older vs (start v x) (rw o (renewed-ordered s (x .engine .order) l h))
       ∙ ap (startedLast (seats vs (start v x)) i j) (ap (λ (q : List ℕ). older q i j) o ∙ renewed-older i j apart s (x .engine .order) l li lj h)
 
-  note-on-older : (b : Bank) (ram rom : List ℤ) (c k v : ℕ) (e : Engine) → Ordered (e .order)
+  note-on-older : (b : List ℕ) (ram rom : List ℤ) (c k v : ℕ) (e : Engine) → Ordered (e .order)
       → older (next (Calls.noteOn b ram rom c k v) e .order) i j ≡ startedLast (startsIn (Calls.noteOn b ram rom c k v) e) i j (older (e .order) i j)
   unfolding noteOn offKey off struck cleared seats startedLast
   note-on-older b ram rom c k v e h = by (pastTwo c k v) (eqb v 0) (eqb number 0) number refl
     where
       vs : List Voice
-      vs = layersOf b c k v e
+      vs = layersOf (bankFrom b) c k v e
 
       number : ℕ
-      number = noteOnNumber b ram rom c k v e
+      number = noteOnNumber (bankFrom b) ram rom c k v e
 
       tells : (t z q : Bool) (n : ℕ) → Answered
       tells t z q n =
