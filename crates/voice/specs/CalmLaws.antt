@@ -2,7 +2,7 @@
 use Prim.Native.Nat.{ℕ, zero, suc, _+_, _-_, _*_, _/_, _%_, _<_, _≤_, min}
 use mathlib.Core.Path.{_≡_, refl, sym, ap, _∙_, subst}
 use mathlib.Core.Bool.{Bool, true, false, cond}
-use native.Mathlib.Nat.{div-add-mod', add-mul-div-right, div-eq-of-lt}
+use native.Mathlib.Nat.{mod-lt, not-suc-le-zero, div-add-mod', add-mul-div-right, div-eq-of-lt}
 use native.Mathlib.Omega.{arith}
 use borrow.Author.Tests.{lt-leb}
 use lib.Dec.{eqb, leb}
@@ -23,6 +23,9 @@ same-quotient n t j h k =
     zero-plus : (q : ℕ) → 0 + q ≡ q
     zero-plus q = omega arith
 
+pub until-steady : (n t : ℕ) → 0 < n → Steady n t ((n - 1000 * t % n + 999) / 1000)
+until-steady n t h j k = same-quotient n t j h (omega (arith, mod-lt (1000 * t) h))
+
 pub decay-same : (n z t j : ℕ) → 1000 * (t + j) / n ≡ 1000 * t / n → decayAt n z (t + j) ≡ decayAt n z t
 unfolding decayAt
 decay-same n z t j e = ap (λ (q : ℕ). cond (eqb n 0) z (min q z)) e
@@ -32,6 +35,9 @@ unfolding releaseAt
 release-same n a t j e = ap (λ (q : ℕ). cond (eqb n 0) 1000 (a + q)) e
 
 module _ (v : Voice) where
+  pub none-calm : (g : Stage) (m : ℕ) → m ≡ 0 → Calms v g m
+  none-calm g m e j k = absurd (not-suc-le-zero (subst (λ (x : ℕ). j < x) e k))
+
   pub hold-calm : (t m : ℕ) → (0 < m → t + m ≤ v .hold) → Calms v (Hold t) m
   unfolding fromHold
   hold-calm t m h j k =

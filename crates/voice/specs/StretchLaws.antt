@@ -3,12 +3,13 @@ use Prim.Native.Nat.{ℕ, zero, suc, _+_, _-_, _*_, _/_, _%_, _<_, _≤_}
 use mathlib.Core.Path.{_≡_, refl, sym, ap, ap₂, _∙_, subst}
 use mathlib.Core.Bool.{Bool, true, false, cond, _&&_}
 use mathlib.Core.List.{List, [], _∷_, _++_}
-use native.Mathlib.Nat.{suc-mul, zero-mul, add-zero}
+use native.Mathlib.Nat.{not-suc-le-zero, suc-mul, zero-mul, add-zero}
+use native.Mathlib.Numerals.{add-one}
 use native.Mathlib.Omega.{arith}
 use borrow.Author.Tests.{ne-eqb}
 use lib.Dec.{eqb}
 use lib.IntN.{ℤ, pos, _*ℤ_}
-use lib.ListN.{length}
+use lib.ListN.{length, length-append}
 use Rattle.arith.specs.Floor.{floorZ}
 use Rattle.curves.specs.Decibels.{gainOf}
 use Rattle.voice.specs.declared.Stage.{Stage}
@@ -26,6 +27,18 @@ use Rattle.voice.specs.Frame.{moved, goOn, loud, played, living, frameAt
 use Rattle.voice.specs.FrameLaws.{go-fold, go-stay, frame-on, living-plays}
 use Rattle.voice.specs.Run.{afterAt, heardAt}
 use Rattle.voice.specs.Stretch.{spentBy, Calm, Calms, top, Clear, plain, plains}
+
+-- a turn of the stretch's loop
+module _ (gain : ℕ) (pan : ℤ) (w : List ℤ) (st p : ℕ) where
+  pub plains-turn : (m : ℕ) → plains gain pan w st p (m + 1)
+      ≡ plains gain pan w st p m ++ (leftOf (plain gain w (p + m * st)) pan ∷ rightOf (plain gain w (p + m * st)) pan ∷ [])
+  unfolding plains
+  plains-turn m = rw add-one
+
+  pub plains-length : (m : ℕ) → length (plains gain pan w st p m) ≡ 2 * m
+  unfolding plains
+  plains-length zero = refl
+  plains-length (suc m) = simp length-append (omega (arith, plains-length m))
 
 -- what a voice says of a stage, it says wherever it stands
 module _ (v : Voice) (x : Stage) (p : ℕ) (m : Bool) where
@@ -197,3 +210,12 @@ module _ (st : ℕ) (l : ℤ) (w : List ℤ) (v : Voice) (g : Stage) (alive : de
       where
         there : (p m : ℕ) → p + m * st + st ≡ p + suc m * st
         there p m = omega (arith, suc-mul m st)
+
+    pub stretch-slot : (m : ℕ) → 0 < m → Calms v g m → ((j : ℕ) → j < m → Clear w v g st (v .place + j * st))
+        → afterAt st l w m (sounds v) ≡ sounds (withMoved v (spentBy m g) (v .place + m * st) (v .marked))
+    stretch-slot zero h c k = absurd (not-suc-le-zero h)
+    stretch-slot (suc m) h c k = stretched (suc m) c k .slot
+
+    pub stretch-sums : (m : ℕ) → Calms v g m → ((j : ℕ) → j < m → Clear w v g st (v .place + j * st))
+        → heardAt st l w m (sounds v) ≡ plains (gainOf (total l (envelope v g))) (v .pan) w st (v .place) m
+    stretch-sums m c k = stretched m c k .sums

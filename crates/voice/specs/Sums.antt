@@ -102,6 +102,11 @@ small-two [] a b h p q (suc (suc j)) = w-nat (lit≤ tt)
 small-two (x ∷ xs) a b h p q zero = h zero
 small-two (x ∷ xs) a b h p q (suc j) = small-two xs a b (λ i. h (suc i)) p q j
 
+pub small-append : (xs zs : List ℤ) → Small 1 xs → Small 1 zs → Small 1 (xs ++ zs)
+small-append [] zs h k j = k j
+small-append (x ∷ xs) zs h k zero = h zero
+small-append (x ∷ xs) zs h k (suc j) = small-append xs zs (λ i. h (suc i)) k j
+
 pub addTo-small : (xs ys : List ℤ) (b : ℕ) → Small 1 xs → Small b ys → Small (b + 1) (addTo xs ys)
 unfolding addTo
 addTo-small [] ys b h k j = w-le (k j) (omega arith)
@@ -132,6 +137,10 @@ add-after (suc k) zero xs zs ys e = absurd (no (length xs) e)
 add-after (suc k) (suc n) xs zs [] e = refl
 add-after (suc k) (suc n) xs zs (y ∷ ys) e = ap (_∷_ y) (add-after k n xs zs ys (omega arith))
 
+pub add-next : (xs zs ys : List ℤ) (n : ℕ) → length xs ≡ n → addAt n zs (addTo xs ys) ≡ addTo (xs ++ zs) ys
+unfolding addAt
+add-next xs zs ys n e = add-after 0 n xs zs ys (omega arith)
+
 -- what stands behind stays
 pub add-beyond : (k : ℕ) (xs ys : List ℤ) (j : ℕ) → k + length xs ≤ j → getD (addAt k xs ys) j (pos 0) ≡ getD ys j (pos 0)
 unfolding addAt addTo
@@ -148,6 +157,10 @@ add-beyond (suc k) xs (y ∷ ys) zero h = absurd (no (length xs) h)
     no : (n : ℕ) → suc k + n ≤ 0 → ⊥
     no n e = omega arith
 add-beyond (suc k) xs (y ∷ ys) (suc j) h = add-beyond k xs ys j (omega arith)
+
+pub to-beyond : (xs ys : List ℤ) (j : ℕ) → length xs ≤ j → getD (addTo xs ys) j (pos 0) ≡ getD ys j (pos 0)
+unfolding addAt
+to-beyond xs ys j h = add-beyond 0 xs ys j (omega arith)
 
 pub addAt-length : (k : ℕ) (xs ys : List ℤ) → length (addAt k xs ys) ≡ length ys
 unfolding addAt

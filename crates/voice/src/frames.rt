@@ -1,27 +1,40 @@
 // One frame of a slot, and n frames of it.
 ghost use mathlib.Core.Path.{_≡_};
-ghost use Prim.Native.Nat.{_*_, _≤_};
+ghost use Prim.Native.Nat.{_+_, _*_, _<_, _≤_};
 ghost use lib.ListN.{length};
 ghost use Rattle.arith.specs.Within.{Within};
 ghost use Rattle.curves.specs.Gains.{gains};
 ghost use Rattle.curves.specs.Octaves.{octaves};
 ghost use Rattle.voice.specs.Run.{after, heard, afterAt, heardAt};
-ghost use Rattle.voice.specs.Sums.{addTo, Small};
+ghost use mathlib.Core.Bool.{true, false};
+ghost use Rattle.voice.specs.Stages.{dead};
+ghost use Rattle.voice.specs.Stretch.{RoomBy, Calms};
+ghost use Rattle.voice.specs.Sums.{addTo, addAt, Small, From};
 ghost use Rattle.voice.specs.Frame.{frameAt};
 use crate::Channel;
 use crate::Framed;
 use crate::Slot;
+use crate::Stage;
+use crate::Voice;
+use crate::calm::age_by;
+use crate::calm::calm;
 use crate::motion::go_on;
 use crate::motion::step_of;
 use crate::sound::loss_of;
 use crate::sound::loud_of;
 use crate::sound::to_left;
 use crate::sound::to_right;
+use crate::sound::total_of;
 use crate::stages::age;
 use crate::stages::enter;
+use crate::stages::envelope_of;
 use crate::stages::is_dead;
 use crate::stages::is_waiting;
+use crate::stretch::add_pair;
+use crate::stretch::glide;
+use crate::stretch::limit_of;
 use crate::with_moved;
+use curves::gain;
 
 // One frame of a slot whose step is st and whose loss is l.
 pub fn frame_at(st: u32, l: i64, g: &[u32; 1441], w: &[i16], s: Slot) -> Framed
@@ -70,6 +83,71 @@ pub fn frame_at(st: u32, l: i64, g: &[u32; 1441], w: &[i16], s: Slot) -> Framed
     }
 }
 
+// The next frames of a slot, and how many they were.
+pub struct Went {
+    pub slot: Slot,
+    pub frames: usize,
+}
+
+// How many frames may go in a stretch: none where the next one is not calm or not clear.
+fn ahead(v: Voice, s: Stage, limit: u64, most: usize) -> usize
+    ensures { λ r. ⌜ (r ≤ most) × (r < 4294967296) × Calms v s r × (0 < r → (dead v s ≡ false) × (v .place < limit) × RoomBy r s) ⌝ }
+{
+    if is_dead(v, s) {
+        return 0;
+    }
+    if limit <= v.place {
+        return 0;
+    }
+    let m = calm(v, s) as usize;
+    if m < most { m } else { most }
+}
+
+// One frame of a slot, into frame k of the sums.
+fn one(st: u32, l: i64, g: &[u32; 1441], w: &[i16], s: Slot, acc: &mut [i32], k: usize) -> Went
+    requires { ⌜ (now g ≡ gains) × Within l 1099511627776 × (2 * k + 1 < length (now acc)) × From (2 * k) (now acc) ⌝ }
+    ensures { λ r. ⌜ (r .frames ≡ 1) × (r .slot ≡ afterAt st l (now (w .entry)) 1 s) × (now (acc .exit) ≡ addAt (2 * k) (heardAt st l (now (w .entry)) 1 s) (now (acc .entry))) × Small 1 (heardAt st l (now (w .entry)) 1 s) ⌝ }
+{
+    let f = frame_at(st, l, g, w, s);
+    let t = f.slot;
+    add_pair(acc, k, f.left, f.right);
+    Went { slot: t, frames: 1 }
+}
+
+// The next frames of a slot that sounds, one or more, into frame k of the sums and those behind it.
+fn go(
+    st: u32,
+    l: i64,
+    g: &[u32; 1441],
+    w: &[i16],
+    s: Slot,
+    acc: &mut [i32],
+    k: usize,
+    most: usize,
+) -> Went
+    requires { ⌜ (now g ≡ gains) × Within l 1099511627776 × (s .sounding ≡ true) × (0 < most) × (2 * (k + most) ≤ length (now acc)) × From (2 * k) (now acc) ⌝ }
+    ensures { λ r. ⌜ (0 < r .frames) × (r .frames ≤ most) × (r .slot ≡ afterAt st l (now (w .entry)) (r .frames) s) × (now (acc .exit) ≡ addAt (2 * k) (heardAt st l (now (w .entry)) (r .frames) s) (now (acc .entry))) × Small 1 (heardAt st l (now (w .entry)) (r .frames) s) ⌝ }
+{
+    let v = s.voice;
+    let old = v.stage;
+    let e = enter(v, old);
+    let limit = limit_of(v, e, st, w);
+    let count = ahead(v, e, limit, most);
+    if count == 0 {
+        return one(st, l, g, w, s, acc, k);
+    }
+    let a = total_of(l, envelope_of(v, e));
+    let r = glide(st, gain(g, a), v.pan, limit, w, v.place, acc, k, count);
+    let y = age_by(e, r.frames as u32);
+    Went {
+        slot: Slot {
+            sounding: true,
+            voice: with_moved(v, y, r.place, v.marked),
+        },
+        frames: r.frames,
+    }
+}
+
 // n frames of a slot, added into the sums, left and right alternating.
 pub fn run_at(
     st: u32,
@@ -89,14 +167,10 @@ pub fn run_at(
         if !s.sounding {
             return s;
         }
-        let f = frame_at(st, l, g, w, s);
+        let f = go(st, l, g, w, s, acc, k, n - k);
         let t = f.slot;
         s = t;
-        let a = acc[2 * k] + f.left;
-        acc[2 * k] = a;
-        let b = acc[2 * k + 1] + f.right;
-        acc[2 * k + 1] = b;
-        k = k + 1;
+        k = k + f.frames;
     }
     s
 }

@@ -1,4 +1,5 @@
 // A voice: its record, one frame of it, n frames of it, its release, and what the panel is told of it.
+mod calm;
 mod frames;
 mod motion;
 mod panel;
@@ -6,6 +7,7 @@ mod reading;
 mod release;
 mod sound;
 mod stages;
+mod stretch;
 
 pub use frames::frame_at;
 pub use frames::run;

@@ -111,7 +111,7 @@ pub fn go_on(v: Voice, s: Stage, step: u32) -> Slot
 }
 
 // The window's length.
-fn span_of(v: Voice) -> u64
+pub fn span_of(v: Voice) -> u64
     ensures { λ r. ⌜ (r ≡ span v) × (r < 4294967296) ⌝ }
 {
     if v.end < v.start {

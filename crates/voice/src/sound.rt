@@ -34,7 +34,7 @@ pub fn loss_of(v: Voice, volume: u8, expression: u8) -> i64
 }
 
 // The attenuation, at least 0.
-fn total_of(l: i64, e: u64) -> u64
+pub fn total_of(l: i64, e: u64) -> u64
     requires { ⌜ Within l 1099511627776 × (e < 8796093022208) ⌝ }
     ensures { λ r. ⌜ r ≡ total l e ⌝ }
 {
@@ -43,7 +43,7 @@ fn total_of(l: i64, e: u64) -> u64
 }
 
 // floor(x * g / 2^16)
-fn scaled_by(x: i64, g: u32) -> i64
+pub fn scaled_by(x: i64, g: u32) -> i64
     requires { ⌜ Within x 100000 × (g ≤ 16777216) ⌝ }
     ensures { λ r. ⌜ (r ≡ floorZ (x *ℤ pos g) 65536) × Within r 25600001 ⌝ }
 {

@@ -1,24 +1,22 @@
--- A turn adds one frame into two sums; where the voice is freed the frames that are left add nothing.
-use Prim.Native.Nat.{ℕ, _≤_, _<_, _-_, _+_, _*_}
-use mathlib.Core.Path.{_≡_, refl, sym, ap, _∙_, subst}
-use mathlib.Core.Bool.{false}
-use mathlib.Core.List.{List, _∷_, [], _++_}
+-- A turn adds the next frames behind those that are added; where the voice is freed those that are left add nothing.
+use mathlib.Core.Path.{_≡_, refl, sym, ap, ap₂, _∙_, subst}
+use Prim.Native.Nat.{ℕ, _+_, _-_, _*_, _<_, _≤_}
+use mathlib.Core.Bool.{true, false}
+use mathlib.Core.List.{List, _++_}
 use native.Mathlib.Omega.{arith}
-use borrow.Author.Needs.{needs}
-use borrow.Author.Tests.{not-true}
-use lib.Dec.{lit<, lit≤}
-use lib.ListN.{length, getD, set, length-set}
-use lib.IntN.{ℤ, pos, _+ℤ_}
-use mir.Syntax.{w64, w32}
-use mir.Val.{SFits, toZ, ofZ}
+use borrow.Author.Tests.{not-true, not-false}
+use lib.Dec.{lit<}
+use lib.IntN.{ℤ, pos}
+use lib.ListN.{length, getD}
+use mir.Syntax.{w64}
+use mir.Val.{toZ, ofZ}
 use Rattle.arith.specs.Within.{Within, w-back}
 use Rattle.voice.specs.declared.Slot.{Slot}
-use Rattle.voice.specs.declared.Framed.{Framed}
-use Rattle.voice.specs.Frame.{frameAt}
 use Rattle.voice.specs.Run.{afterAt, heardAt}
-use Rattle.voice.specs.RunLaws.{after-turn, heard-turn, heard-length}
+use Rattle.voice.specs.RunLaws.{heard-length, at-cut, heardAt-cut}
 use Rattle.voice.specs.Silence.{stays, adds-nothing, stays-small}
-use Rattle.voice.specs.Sums.{addTo, Small, addTo-none, addTo-at, addTo-length, add-two, second, small-none, small-two, add-bits}
+use Rattle.voice.specs.Sums.{addTo, addAt, Small, loudest, addTo-none, addTo-length, addAt-length, add-next, to-beyond, small-none, small-append}
+use borrow.Author.Needs.{needs}
 use Rattle.voice.proofs.frames.run_at.Statement.{statement}
 use Rattle.voice.proofs.frames.run_at.Tie as tie
 
@@ -29,146 +27,28 @@ Inv-loop st l g w acc₀ n s₀ k₀ acc s k =
     × (length acc ≡ length acc₀)
     × (k ≤ n)
     × (2 * n ≤ length acc₀)
-    × Small 31 acc₀
     × Small 1 (heardAt st (toZ w64 l) w k s₀)
 
 abbrev μ-loop : tie.MeasureT-loop
 μ-loop st l g w acc₀ n s₀ k₀ acc s k = n - k
 
--- a turn: what it finds in the sums, and what it stores
-module _ (c : tie.After-frame-at Inv-loop μ-loop) where
+module _ (c : tie.After-go Inv-loop μ-loop) where
   abbrev lp : tie.At-loop Inv-loop μ-loop
-  lp = c .before .before .before .before
+  lp = c .before .before .before .before .before
 
   abbrev loss : ℤ
   loss = toZ w64 (ofZ w64 (lp .before .args .l))
 
-  abbrev xs : List ℤ
-  xs = heardAt (lp .before .args .st) loss (lp .before .args .w .now) (lp .loop .k) (lp .before .args .s0)
-
-  abbrev ys : List ℤ
-  ys = lp .before .args .acc .now
-
-  abbrev i : ℕ
-  i = 2 * lp .loop .k
-
-  abbrev left : ℤ
-  left = c .frame-at .result .left
-
-  abbrev right : ℤ
-  right = c .frame-at .result .right
-
-  xs-length : length xs ≡ i
-  xs-length = heard-length (lp .before .args .st) loss (lp .before .args .w .now) (lp .loop .k) (lp .before .args .s0)
-
-  read0 : getD (lp .loop .acc) i (pos 0) ≡ getD ys i (pos 0)
-  read0 = ap (λ (q : List ℤ). getD q i (pos 0)) (lp .loop .inv .1) ∙ addTo-at xs ys i xs-length
-
-  sum0 : (toZ w32 (ofZ w32 (getD ys i (pos 0))) +ℤ toZ w32 (ofZ w32 left) ≡ getD ys i (pos 0) +ℤ left)
-      × SFits w32 (getD ys i (pos 0) +ℤ left) × (toZ w32 (ofZ w32 (getD ys i (pos 0) +ℤ left)) ≡ getD ys i (pos 0) +ℤ left)
-  sum0 = add-bits (getD ys i (pos 0)) left (lp .loop .inv .5 i) (c .frame-at .ensures .1)
-
-  sum1 : (toZ w32 (ofZ w32 (getD ys (i + 1) (pos 0))) +ℤ toZ w32 (ofZ w32 right) ≡ getD ys (i + 1) (pos 0) +ℤ right)
-      × SFits w32 (getD ys (i + 1) (pos 0) +ℤ right) × (toZ w32 (ofZ w32 (getD ys (i + 1) (pos 0) +ℤ right)) ≡ getD ys (i + 1) (pos 0) +ℤ right)
-  sum1 = add-bits (getD ys (i + 1) (pos 0)) right (lp .loop .inv .5 (i + 1)) (c .frame-at .ensures .2)
-
-  bytes : 4 * length ys < 18446744073709551616
-  bytes = omega arith
-
-  room : i + 1 < length ys
-  room = omega arith
-
-  read1 : getD (set (lp .loop .acc) i (getD ys i (pos 0) +ℤ left)) (i + 1) (pos 0) ≡ getD ys (i + 1) (pos 0)
-  read1 = ap (λ (q : List ℤ). getD (set q i (getD ys i (pos 0) +ℤ left)) (i + 1) (pos 0)) (lp .loop .inv .1) ∙ second xs ys i left xs-length room
+  last : (lp .loop .k < lp .before .args .n) × (2 * lp .before .args .n < 18446744073709551616)
+  last = (c .before .before .before .before .loop-test .taken, omega (arith, lp .loop .inv .4))
 
 loop-holds : tie.Need-loop-holds Inv-loop μ-loop
 unfolding afterAt heardAt
-loop-holds c = (refl, sym (addTo-none (c .args .acc .now)), refl, omega arith, omega arith, c .pre .3, small-none)
-
-frame-at-requires : tie.Need-frame-at-requires Inv-loop μ-loop
-frame-at-requires c κs =
-    let p = c .before .before .before .before .pre in (p .0, rw (w-back w64 (p .1) (lit< tt)) (p .1))
-
-mul-a : tie.Need-mul-a Inv-loop μ-loop
-mul-a c = omega arith
-
-mul-a-2 : tie.Need-mul-a-2 Inv-loop μ-loop
-mul-a-2 c = omega arith
-
-slice-copy-out-a : tie.Need-slice-copy-out-a Inv-loop μ-loop
-slice-copy-out-a c = omega arith
-
-add-a : tie.Need-add-a Inv-loop μ-loop
-add-a c = let b = c .before .before .before .before in rw (read0 b, sum0 b .0) (sum0 b .1)
-
-mul-a-3 : tie.Need-mul-a-3 Inv-loop μ-loop
-mul-a-3 c = omega (arith, bytes (c .before .before .before .before))
-
-mul-a-4 : tie.Need-mul-a-4 Inv-loop μ-loop
-mul-a-4 c = omega (arith, bytes (c .before .before .before .before))
-
-slice-set-from-a : tie.Need-slice-set-from-a Inv-loop μ-loop
-slice-set-from-a c = omega (arith, bytes (c .before .before .before .before))
-
-mul-b : tie.Need-mul-b Inv-loop μ-loop
-mul-b c = omega (arith, bytes (c .before .before .before .before))
-
-add-b : tie.Need-add-b Inv-loop μ-loop
-add-b c = omega (arith, bytes (c .before .before .before .before))
-
-mul-b-2 : tie.Need-mul-b-2 Inv-loop μ-loop
-mul-b-2 c = omega (arith, bytes (c .before .before .before .before))
-
-slice-copy-out-b : tie.Need-slice-copy-out-b Inv-loop μ-loop
-slice-copy-out-b c = simp length-set (omega (arith, bytes (c .before .before .before .before)))
-
-add-b-2 : tie.Need-add-b-2 Inv-loop μ-loop
-add-b-2 c = let b = (c .before .before .before .before .before .before .before) in rw (read0 b, sum0 b .0, sum0 b .2, read1 b, sum1 b .0) (sum1 b .1)
-
-mul-b-3 : tie.Need-mul-b-3 Inv-loop μ-loop
-mul-b-3 c = omega (arith, bytes (c .before .before .before .before .before .before .before), room (c .before .before .before .before .before .before .before), lp (c .before .before .before .before .before .before .before) .loop .inv .2)
-
-add-b-3 : tie.Need-add-b-3 Inv-loop μ-loop
-add-b-3 c = omega (arith, bytes (c .before .before .before .before .before .before .before), room (c .before .before .before .before .before .before .before), lp (c .before .before .before .before .before .before .before) .loop .inv .2)
-
-mul-b-4 : tie.Need-mul-b-4 Inv-loop μ-loop
-mul-b-4 c = omega (arith, bytes (c .before .before .before .before .before .before .before), room (c .before .before .before .before .before .before .before), lp (c .before .before .before .before .before .before .before) .loop .inv .2)
-
-slice-set-from-b : tie.Need-slice-set-from-b Inv-loop μ-loop
-slice-set-from-b c = simp length-set (omega (arith, bytes (c .before .before .before .before .before .before .before), room (c .before .before .before .before .before .before .before), lp (c .before .before .before .before .before .before .before) .loop .inv .2))
-
-add-k : tie.Need-add-k Inv-loop μ-loop
-add-k c = omega (arith, bytes (c .before .before .before .before .before .before .before), room (c .before .before .before .before .before .before .before), lp (c .before .before .before .before .before .before .before) .loop .inv .2)
-
-loop-less : tie.Need-loop-less Inv-loop μ-loop
-loop-less c = omega (arith, bytes (c .before .before .before .before .before .before .before), room (c .before .before .before .before .before .before .before), lp (c .before .before .before .before .before .before .before) .loop .inv .2)
-
-loop-again : tie.Need-loop-again Inv-loop μ-loop
-loop-again c = let b = (c .before .before .before .before .before .before .before) in
-    let l = lp b in
-    let a = l .before .args in
-    let w = a .w .now in
-    let k = l .loop .k in
-    let s = afterAt (a .st) (loss b) w k (a .s0) in
-    let f = b .frame-at .result in
-    let e : f ≡ frameAt (a .st) (loss b) w s = b .frame-at .ensures .0 ∙ ap (frameAt (a .st) (loss b) w) (l .loop .inv .0) in
-    let turn : heardAt (a .st) (loss b) w (k + 1) (a .s0) ≡ xs b ++ (f .left ∷ f .right ∷ []) =
-    heard-turn (a .st) (loss b) w k (a .s0) ∙ ap (λ (g : Framed). xs b ++ (g .left ∷ g .right ∷ [])) (sym e) in (
-      ap (λ (g : Framed). g .slot) e ∙ sym (after-turn (a .st) (loss b) w k (a .s0)),
-      rw (read0 b, sum0 b .0, sum0 b .2, read1 b, sum1 b .0, sum1 b .2, turn)
-          (ap (λ (q : List ℤ). set (set q (i b) (getD (ys b) (i b) (pos 0) +ℤ f .left)) (i b + 1) (getD (ys b) (i b + 1) (pos 0) +ℤ f .right)) (l .loop .inv .1)
-          ∙ add-two (xs b) (ys b) (i b) (f .left) (f .right) (xs-length b) (room b)),
-      simp length-set (l .loop .inv .2),
-      omega arith,
-      l .loop .inv .4,
-      l .loop .inv .5,
-      rw turn (small-two (xs b) (f .left) (f .right) (l .loop .inv .6) (b .frame-at .ensures .1) (b .frame-at .ensures .2)),
-    )
+loop-holds c = (refl, sym (addTo-none (c .args .acc .now)), refl, omega arith, omega arith, small-none)
 
 same-length : tie.Need-same-length Inv-loop μ-loop
 same-length c = search needs
 
--- freed: the frames that are left add nothing
 returns : tie.Need-returns Inv-loop μ-loop
 returns c =
     let l = c .before .before .before in
@@ -182,7 +62,63 @@ returns c =
     sym (ap (λ (x : Slot). x .sounding) (l .loop .inv .0)) ∙ not-true (l .loop .s .sounding) (c .if1 .taken) in (
       rw (e, b) at (l .loop .inv .0 ∙ sym (stays (a .st) z w k (a .s0) off (a .n - k))),
       rw (e, b) at (l .loop .inv .1 ∙ sym (adds-nothing (a .st) z w k (a .s0) off (a .acc .now) (a .n - k))),
-      rw (e, b) at (stays-small (a .st) z w k (a .s0) off (a .n - k) (l .loop .inv .6)),
+      rw (e, b) at (stays-small (a .st) z w k (a .s0) off (a .n - k) (l .loop .inv .5)),
+    )
+
+sub-go : tie.Need-sub-go Inv-loop μ-loop
+sub-go c = search needs
+
+go-requires : tie.Need-go-requires Inv-loop μ-loop
+go-requires c κs =
+    let n = c .before in
+    let l = n .before .before .before in
+    let p = l .before .pre in
+    let a = l .before .args in
+    let z = toZ w64 (ofZ w64 (a .l)) in
+    let xs = heardAt (a .st) z (a .w .now) (l .loop .k) (a .s0) in
+    let x : length xs ≡ 2 * l .loop .k = heard-length (a .st) z (a .w .now) (l .loop .k) (a .s0) in
+    let t = n .before .before .loop-test .taken in (
+      p .0,
+      rw (w-back w64 (p .1) (lit< tt)) (p .1),
+      not-false (l .loop .s .sounding) (n .if1 .left),
+      omega (arith, t),
+      omega (arith, t, l .loop .inv .2, l .loop .inv .4),
+      λ j h.
+          subst (λ (y : ℤ). Within y (31 * loudest))
+          (sym (ap (λ (q : List ℤ). getD q j (pos 0)) (l .loop .inv .1) ∙ to-beyond xs (a .acc .now) j (omega (arith, x))))
+          (p .3 j),
+    )
+
+add-k : tie.Need-add-k Inv-loop μ-loop
+add-k c = let g = c .before .before .before in omega (arith, g .go .ensures .1, last g)
+
+loop-less : tie.Need-loop-less Inv-loop μ-loop
+loop-less c = let g = c .before .before .before in omega (arith, g .go .ensures .0, g .go .ensures .1, last g)
+
+loop-again : tie.Need-loop-again Inv-loop μ-loop
+loop-again c =
+    let g = c .before .before .before in
+    let l = lp g in
+    let a = l .before .args in
+    let w = a .w .now in
+    let z = loss g in
+    let k = l .loop .k in
+    let m = g .go .result .frames in
+    let s = afterAt (a .st) z w k (a .s0) in
+    let xs = heardAt (a .st) z w k (a .s0) in
+    let ys = a .acc .now in
+    let cut : heardAt (a .st) z w (k + m) (a .s0) ≡ xs ++ heardAt (a .st) z w m s = heardAt-cut (a .st) z w k m (a .s0) in
+    let e =
+    g .go .ensures .3
+    ∙ ap₂ (λ (x : Slot) (q : List ℤ). addAt (2 * k) (heardAt (a .st) z w m x) q) (l .loop .inv .0) (l .loop .inv .1)
+    ∙ add-next xs (heardAt (a .st) z w m s) ys (2 * k) (heard-length (a .st) z w k (a .s0))
+    ∙ ap (λ (q : List ℤ). addTo q ys) (sym cut) in (
+      g .go .ensures .2 ∙ ap (afterAt (a .st) z w m) (l .loop .inv .0) ∙ sym (at-cut (a .st) z w k m (a .s0)),
+      e,
+      ap length e ∙ addTo-length (heardAt (a .st) z w (k + m) (a .s0)) ys,
+      omega (arith, g .go .ensures .1, last g),
+      l .loop .inv .4,
+      subst (Small 1) (sym cut) (small-append xs (heardAt (a .st) z w m s) (l .loop .inv .5) (subst (λ (x : Slot). Small 1 (heardAt (a .st) z w m x)) (l .loop .inv .0) (g .go .ensures .4))),
     )
 
 same-length-2 : tie.Need-same-length-2 Inv-loop μ-loop
@@ -193,7 +129,7 @@ returns-2 c =
     let l = c .before in
     let e : l .loop .k ≡ l .before .args .n = omega arith in
     let b = w-back w64 (l .before .pre .1) (lit< tt) in
-    (rw (e, b) at (l .loop .inv .0), rw (e, b) at (l .loop .inv .1), rw (e, b) at (l .loop .inv .6))
+    (rw (e, b) at (l .loop .inv .0), rw (e, b) at (l .loop .inv .1), rw (e, b) at (l .loop .inv .5))
 
 pub run-at-spec : {M : Type 1} → statement M
 run-at-spec =
@@ -204,23 +140,8 @@ run-at-spec =
     loop-holds
     same-length
     returns
-    frame-at-requires
-    mul-a
-    mul-a-2
-    slice-copy-out-a
-    add-a
-    mul-a-3
-    mul-a-4
-    slice-set-from-a
-    mul-b
-    add-b
-    mul-b-2
-    slice-copy-out-b
-    add-b-2
-    mul-b-3
-    add-b-3
-    mul-b-4
-    slice-set-from-b
+    sub-go
+    go-requires
     add-k
     loop-less
     loop-again

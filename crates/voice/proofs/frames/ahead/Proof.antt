@@ -1,0 +1,48 @@
+-- As many as are calm, and no more than asked.
+use mathlib.Core.Path.{_≡_, refl, sym, ap, ap₂, _∙_, subst}
+use native.Mathlib.Nat.{not-suc-le-zero}
+use native.Mathlib.Omega.{arith}
+use Rattle.voice.specs.CalmLaws.{none-calm, room-le}
+use borrow.Author.Needs.{needs}
+use Rattle.voice.proofs.frames.ahead.Statement.{statement}
+use Rattle.voice.proofs.frames.ahead.Tie as tie
+
+is-dead-requires : tie.Need-is-dead-requires
+is-dead-requires c κs = search needs
+
+returns : tie.Need-returns
+returns c = (omega arith, omega arith, none-calm _ _ 0 refl, λ z. absurd (not-suc-le-zero z))
+
+returns-2 : tie.Need-returns-2
+returns-2 c = (omega arith, omega arith, none-calm _ _ 0 refl, λ z. absurd (not-suc-le-zero z))
+
+calm-requires : tie.Need-calm-requires
+calm-requires c κs = search needs
+
+cast-m : tie.Need-cast-m
+cast-m c = search needs
+
+returns-3 : tie.Need-returns-3
+returns-3 c =
+    let y = c .before .before in
+    let n = y .before .before in (
+      omega arith,
+      omega arith,
+      c .before .calm .ensures .0,
+      λ z. (sym (n .before .is-dead .ensures) ∙ n .if1 .left, y .if2 .left, c .before .calm .ensures .1),
+    )
+
+returns-4 : tie.Need-returns-4
+returns-4 c =
+    let y = c .before .before in
+    let n = y .before .before in (
+      omega arith,
+      omega arith,
+      λ j k. c .before .calm .ensures .0 j (omega arith),
+      λ z. (sym (n .before .is-dead .ensures) ∙ n .if1 .left, y .if2 .left, room-le (n .before .before .args .s) (c .before .calm .result) (n .before .before .args .most) (c .if3 .left) (c .before .calm .ensures .1)),
+    )
+
+pub ahead-spec : {M : Type 1} → statement M
+ahead-spec =
+    tie.close
+    (tie.spec is-dead-requires returns returns-2 calm-requires cast-m returns-3 returns-4)

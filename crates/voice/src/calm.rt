@@ -1,0 +1,80 @@
+// Calm frames: how many from a stage on have the same gain, and the stage after them.
+ghost use mathlib.Core.Path.{_≡_};
+ghost use Prim.Native.Nat.{_+_, _-_, _<_, _≤_};
+ghost use Rattle.voice.specs.Stages.{decayAt};
+ghost use Rattle.voice.specs.Stretch.{spentBy, RoomBy, Steady, Calms};
+use crate::Stage;
+use crate::Voice;
+use crate::stages::decay_at;
+
+// Frames until floor(1,000 * t / n) changes.
+fn until_change(n: u32, t: u32) -> u32
+    ensures { λ r. ⌜ Steady n t r ⌝ }
+{
+    if n == 0 {
+        return 0;
+    }
+    let r = 1000 * (t as u64) % (n as u64);
+    (((n as u64) - r + 999) / 1000) as u32
+}
+
+// The same, and no more than keep t a 32-bit count.
+fn calm_count(n: u32, t: u32) -> u32
+    ensures { λ r. ⌜ Steady n t r × (t + r < 4294967296) ⌝ }
+{
+    let m = until_change(n, t);
+    let room = 4294967295 - t;
+    if m < room { m } else { room }
+}
+
+fn calm_hold(n: u32, t: u32) -> u32
+    ensures { λ r. ⌜ (r ≡ n - t) × (t + r < 4294967296) ⌝ }
+{
+    if n <= t { 0 } else { n - t }
+}
+
+fn calm_attack(t: u32) -> u32
+    ensures { λ r. ⌜ (r ≡ 0) × (t + r < 4294967296) ⌝ }
+{
+    0
+}
+
+fn calm_decay(n: u32, z: u16, t: u32) -> u32
+    ensures { λ r. ⌜ Steady n t r × (t + r < 4294967296) × (0 < r → decayAt n z t < z) ⌝ }
+{
+    if z <= decay_at(n, z, t) {
+        return 0;
+    }
+    calm_count(n, t)
+}
+
+// How many frames from stage s on are calm.
+pub fn calm(v: Voice, s: Stage) -> u32
+    ensures { λ r. ⌜ Calms v s r × RoomBy r s ⌝ }
+{
+    match s {
+        Stage::Delay { left: _ } => 0,
+        Stage::Attack { t } => calm_attack(t),
+        Stage::Hold { t } => calm_hold(v.hold, t),
+        Stage::Decay { t } => calm_decay(v.decay, v.sustain, t),
+        Stage::Sustain => 4294967295,
+        Stage::Release { from: _, t } => calm_count(v.release, t),
+    }
+}
+
+// The stage with m frames more spent.
+pub fn age_by(s: Stage, m: u32) -> Stage
+    requires { ⌜ RoomBy m s ⌝ }
+    ensures { λ r. ⌜ r ≡ spentBy m s ⌝ }
+{
+    match s {
+        Stage::Delay { left } => Stage::Delay {
+            left: calm_hold(left, m),
+        },
+        Stage::Attack { t } => Stage::Attack { t: t + m },
+        Stage::Hold { t } => Stage::Hold { t: t + m },
+        Stage::Decay { t } => Stage::Decay { t: t + m },
+        Stage::Sustain => Stage::Sustain,
+        Stage::Release { from, t } => Stage::Release { from, t: t + m },
+    }
+}
