@@ -18,4 +18,5 @@ pub mod Cuts
 pub mod OutputProof
 pub mod Demand3Proof
 pub mod DeterminedProof
+pub mod Demand3Example
 pub mod Runs

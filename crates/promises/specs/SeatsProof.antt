@@ -383,12 +383,12 @@ module _ (x : Started) (m : ℕ) (mid : Mid x m) (few : m < 32) where
       other l =
           let z = spare (λ (j : ℕ). eqb (bit (x .mine) j) 1) all (up-slots 0 32 (omega arith)) (omega (arith, mid .count)) in
           let b = bit-two (x .mine) (z .slot) (eqb-false (bit (x .mine) (z .slot)) 1 (z .fails)) in
-          bit-two (x .mine) r (λ q. high (voiceIn (z .slot) eng .velocity) (released (voiceIn (z .slot) eng .stage)) (mid .soft (z .slot) (loud (z .slot) (z .small)))
+          bit-two (x .mine) r (λ q. high (voiceIn (z .slot) eng .velocity) (released (voiceIn (z .slot) eng .stage)) (f (z .slot)) (mid .soft (z .slot) (loud (z .slot) (z .small)))
           (subst (λ (n : ℕ). n ≤ f (z .slot)) (claim-mine eng (x .mine) r q) (l .each (z .slot) (one (z .slot) (z .small)))) (claim-other eng (x .mine) (z .slot) b))
         where
-          high : (v : ℕ) (b : Bool) → v ≤ 127 → {c : ℕ} → 512 ≤ c → c ≡ cond b v (256 + v) → ⊥
-          high v true h k e = omega arith
-          high v false h k e = omega arith
+          high : (v : ℕ) (b : Bool) (c : ℕ) → v ≤ 127 → 512 ≤ c → c ≡ cond b v (256 + v) → ⊥
+          high v true c h k e = omega arith
+          high v false c h k e = omega arith
 
       claims : Least f (getD o 0 0) o r → (j : ℕ) → bit (x .mine) j ≡ 0 → Before f (getD o 0 0) o r j
           → (cond (released (voiceIn r eng .stage)) (voiceIn r eng .velocity) (256 + voiceIn r eng .velocity) < cond (released (voiceIn j eng .stage)) (voiceIn j eng .velocity) (256 + voiceIn j eng .velocity))
