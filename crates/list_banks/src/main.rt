@@ -1,4 +1,4 @@
-// Admits the banks of a case file (standard input), lists them by the reader, and writes a line for each call. Of the letters it has B, a, l and t.
+// Opens the banks of a case file (standard input) and lists them by the reader, and writes a line for each call. Of the letters it has B, a, l and t.
 use bank::Listed;
 
 const IN: i32 = 0;
@@ -64,7 +64,7 @@ fn write_state() {
 
 fn admit(b: &[u8]) {
     io::write_all(OUT, b"a");
-    write_number(bank::admission_number(b) as u64);
+    write_number(reader::opens(b) as u64);
     write_number(0);
     write_state();
 }

@@ -1,13 +1,20 @@
--- 01, "Bank admission": what a reader gives from opening to the end, as lists.
+-- 01, "Bank admission": what a reader gives from opening to the end, in the words of `open`'s and `next`'s contracts.
 use mathlib.Core.List.{List, [], _∷_, _++_}
 use Prim.Native.Nat.{ℕ, zero, suc}
+use denote.Ref.{RefT}
 use Rattle.bank.specs.declared.Listed.{Listed}
-use Rattle.reader.specs.Reading.{given, rowAt}
+use Rattle.reader.specs.Reading.{openedOf, nextOf, rowAt}
+use Rattle.reader.specs.declared.Reader.{Reader}
+
+-- the reader after k nexts from opening
+unfoldable pub readerAfter : RefT (List ℕ) → ℕ → Reader
+readerAfter s zero = openedOf s .reader
+readerAfter s (suc k) = nextOf (readerAfter s k) .reader
 
 -- what the first k nexts from opening give, one behind the other
-unfoldable pub nexts : List ℕ → ℕ → List Listed
-nexts b zero = []
-nexts b (suc k) = nexts b k ++ (given b k ∷ [])
+unfoldable pub nexts : RefT (List ℕ) → ℕ → List Listed
+nexts s zero = []
+nexts s (suc k) = nexts s k ++ (nextOf (readerAfter s k) .listed ∷ [])
 
 -- the rows of phdr's first n records, in file order
 unfoldable pub rows : List ℕ → ℕ → List Listed

@@ -1,31 +1,48 @@
 -- A reader gives the records of phdr but the terminal, in file order, and then the end, again and again.
 use mathlib.Core.Bool.{true, false}
-use mathlib.Core.List.{List, []}
-use mathlib.Core.Path.{_≡_, refl}
+use mathlib.Core.List.{List, [], _∷_, _++_}
+use mathlib.Core.Path.{_≡_, refl, ap, ap₂, _∙_}
 use Prim.Native.Nat.{ℕ, zero, suc, _+_, _≤_}
 use native.Mathlib.Nat.{add-zero, add-suc}
 use native.Mathlib.Omega.{arith}
+use denote.Ref.{RefT, now}
 use Rattle.bank.specs.Admission.{admitted}
+use Rattle.bank.specs.declared.Listed.{Listed}
 use Rattle.bank.specs.declared.Listed.the-variants.{Refused, End}
-use Rattle.reader.specs.Reading.{heads}
+use Rattle.reader.specs.Reading.{nextOf, placeAfter, given, heads}
 use Rattle.reader.specs.ReadingLaws.{given-row, given-end, given-refused}
-use Rattle.reader.specs.Shelf.{nexts, rows, followed}
+use Rattle.reader.specs.Shelf.{readerAfter, nexts, rows, followed}
+use Rattle.reader.specs.declared.Reader.{Reader}
 
-module _ (b : List ℕ) (well : admitted b ≡ true) where
-  -- k nexts from opening give the first k records
-  pub first-records : (k : ℕ) → k ≤ heads b → nexts b k ≡ rows b k
-  unfolding nexts rows
-  first-records zero h = refl
-  first-records (suc k) h = rw (first-records k (omega arith), given-row b well k (omega arith)) refl
+abbrev with-last : List Listed → Listed → List Listed
+with-last ls l = ls ++ (l ∷ [])
 
-  -- and the end from then on
-  pub then-the-end : (j : ℕ) → nexts b (heads b + j) ≡ followed (rows b (heads b)) End j
+module _ (s : RefT (List ℕ)) where
+  -- the bank stays, and the place is the listing's
+  reader-after : (k : ℕ) → readerAfter s k ≡ record { bank = s; place = placeAfter (now s) k }
+  unfolding readerAfter placeAfter
+  reader-after zero = refl
+  reader-after (suc k) = ap (λ (r : Reader). nextOf r .reader) (reader-after k)
+
+  -- so the k-th next gives what `nth` gives
+  pub next-gives : (k : ℕ) → nextOf (readerAfter s k) .listed ≡ given (now s) k
+  next-gives k = ap (λ (r : Reader). nextOf r .listed) (reader-after k)
+
+  module _ (well : admitted (now s) ≡ true) where
+    -- k nexts from opening give the first k records
+    pub first-records : (k : ℕ) → k ≤ heads (now s) → nexts s k ≡ rows (now s) k
+    unfolding nexts rows
+    first-records zero h = refl
+    first-records (suc k) h = ap₂ with-last (first-records k (omega arith)) (next-gives k ∙ given-row (now s) well k (omega arith))
+
+    -- and the end from then on
+    pub then-the-end : (j : ℕ) → nexts s (heads (now s) + j) ≡ followed (rows (now s) (heads (now s))) End j
+    unfolding nexts followed
+    then-the-end zero = rw add-zero (first-records (heads (now s)) (omega arith))
+    then-the-end (suc j) = rw add-suc (ap₂ with-last (then-the-end j) (next-gives (heads (now s) + j) ∙ given-end (now s) well j))
+
+  -- a bank that is not admitted is refused at each next
+  pub refused-always : admitted (now s) ≡ false → (k : ℕ) → nexts s k ≡ followed [] Refused k
   unfolding nexts followed
-  then-the-end zero = rw add-zero (first-records (heads b) (omega arith))
-  then-the-end (suc j) = rw add-suc (rw (then-the-end j, given-end b well j) refl)
-
--- a bank that is not admitted is refused at each next
-pub refused-always : (b : List ℕ) → admitted b ≡ false → (k : ℕ) → nexts b k ≡ followed [] Refused k
-unfolding nexts followed
-refused-always b bad zero = refl
-refused-always b bad (suc k) = rw (refused-always b bad k, given-refused b bad k) refl
+  refused-always bad zero = refl
+  refused-always bad (suc k) = ap₂ with-last (refused-always bad k) (next-gives k ∙ given-refused (now s) bad k)
