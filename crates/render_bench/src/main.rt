@@ -72,9 +72,17 @@ fn main() {
 }
 
 fn read_bank(room: &mut [u8; 65536], from: Place, bank: &mut [u8; 66000], n: usize) -> Place {
-    if n <= 66000 { cases::next_bytes(room, from, &mut bank[..n]) } else { from }
+    if n <= 66000 {
+        cases::next_bytes(room, from, &mut bank[..n])
+    } else {
+        from
+    }
 }
 
 fn read_ram(room: &mut [u8; 65536], from: Place, ram: &mut [i16; 65536], n: usize) -> Place {
-    if n <= 65536 { cases::next_samples(room, from, &mut ram[..n]) } else { from }
+    if n <= 65536 {
+        cases::next_samples(room, from, &mut ram[..n])
+    } else {
+        from
+    }
 }
