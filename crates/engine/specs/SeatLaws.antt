@@ -2,7 +2,7 @@
 use Prim.Native.Nat.{ℕ, zero, suc, _+_, _*_, _/_, _%_, _^_, _≤_, _<_, max}
 use mathlib.Core.Path.{_≡_, refl, sym, ap, ap₂, _∙_}
 use mathlib.Core.Bool.{Bool, true, false, cond}
-use mathlib.Core.List.{List, [], _∷_, _++_}
+use mathlib.Core.List.{List, [], _∷_, _++_, map}
 use mathlib.Core.Logic.{_⊎_, ⊎-elim, inl, inr}
 use native.Mathlib.Nat.{pow-zero, pow-suc, not-suc-le-zero, le-of-suc-le-suc}
 use native.Mathlib.Numerals.{add-one}
@@ -12,12 +12,17 @@ use lib.Bits.{bitOr, or-step, or-zero-r}
 use lib.Dec.{eqb, ltb, leb·suc-suc}
 use lib.ListN.{length, getD, set, take, length-append, length-take}
 use lib.Seq.{take-suc, take-suc-set, getD-take}
-use Rattle.arith.specs.Word.{lowestClear}
+use lib.Count.{ones}
+use Rattle.arith.specs.Loops.{countIf}
+use Rattle.arith.specs.Word.{flagsOf, lowestClear}
+use Rattle.arith.specs.WordLaws.{ones-flags, count-map}
 use Rattle.voice.specs.declared.Voice.{Voice}
+use Rattle.voice.specs.declared.Slot.{Slot}
 use Rattle.voice.specs.State.{sounds}
 use Rattle.engine.specs.declared.Engine.{Engine}
 use Rattle.engine.specs.State.{paired, wordOf, slotsOf, withSlots, withOrder}
 use Rattle.engine.specs.Slots.{lowestFree, leastBy, without, renewed}
+use Rattle.engine.specs.PanelAsk.{voiceCount}
 use Rattle.engine.specs.SlotLoop.{voices-back, voices-set}
 
 -- an entry of the order, read as a slot
@@ -170,3 +175,15 @@ seated e i word v o h g q =
   where
     state : List Voice → ℕ → Engine
     state vs w = record { voices = vs; channels = e .channels; sounding = w; order = o; clock = e .clock }
+
+flags-slots : (w : ℕ) (vs : List Voice) → map (λ (s : Slot). s .sounding) (paired w vs) ≡ flagsOf (length vs) w
+unfolding paired flagsOf
+flags-slots w [] = refl
+flags-slots w (v ∷ vs) = ap (_∷_ (eqb (w % 2) 1)) (flags-slots (w / 2) vs)
+
+-- the ones of the word are the voices that sound
+pub ones-voices : (e : Engine) → e .sounding < 2 ^ length (e .voices) → ones (e .sounding) ≡ voiceCount e
+unfolding voiceCount
+ones-voices e h =
+    ones-flags (length (e .voices)) (e .sounding) h
+    ∙ sym (count-map (λ (s : Slot). s .sounding) (slotsOf e) ∙ ap (countIf (λ (b : Bool). b)) (flags-slots (e .sounding) (e .voices)))

@@ -1,6 +1,6 @@
-// The panel asks for a slot.
+// The panel: what it is told of a slot, and how many voices sound.
 ghost use mathlib.Core.Path.{_≡_};
-ghost use Rattle.engine.specs.PanelAsk.{ask};
+ghost use Rattle.engine.specs.PanelAsk.{ask, voiceCount};
 use crate::Engine;
 use crate::slots::slot_of;
 use curves::gains;
@@ -16,4 +16,11 @@ pub fn panel(e: Engine, slot: u8) -> Shown
     }
     let g = gains();
     show(slot_of(e, slot as usize), &g)
+}
+
+// How many voices sound: the ones of the word.
+pub fn voice_count(e: Engine) -> u32
+    ensures { λ r. ⌜ r ≡ voiceCount e ⌝ }
+{
+    arith::count(e.sounding)
 }

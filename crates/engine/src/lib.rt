@@ -14,6 +14,7 @@ mod lending; // lending.rt: admission and listing of a lent bank
 mod controls; // controls.rt: control change
 
 pub use board::panel;
+pub use board::voice_count;
 pub use channels::pitch_bend;
 pub use channels::program_change;
 pub use controls::control_change;
