@@ -1,6 +1,7 @@
 /* Makes one bank twice: as the engine is lent it, and as a SoundFont file for FluidSynth.
    bank KIND IN SF2: IN gets u32 length and the pdta body, u32 count and the samples (16 bits); SF2 the RIFF file.
-   KIND: bell (one looped sample of 20,000), short (a loop of one sample at the highest pitch, every generator repeated). */
+   KIND: bell (one looped sample of 20,000), middle and full (the same, filled to some 8,000 and 65,536 bytes with zones that no preset reaches),
+   short (a loop of one sample at the highest pitch, every generator repeated 200 times). */
 #include <math.h>
 #include <stdint.h>
 #include <stdio.h>
@@ -40,7 +41,20 @@ static void sample(const char *s, uint32_t start, uint32_t end, uint32_t from, u
 
 static void gen(Bytes *b, unsigned op, int amount) { u16(b, op), u16(b, (unsigned)amount & 65535); }
 
-static void lists(int hostile) {
+/* Zones of a second instrument, of six generators each, until the bank has about so many bytes. */
+static void filled(size_t bytes, unsigned n) {
+    unsigned bag = 1;
+    for (size_t have = 500; have + 28 <= bytes; have += 28) {
+        for (int k = 0; k < 5; k++) gen(&igen, 33 + k, -12000 + k), n++;
+        gen(&igen, 53, 0), n++;
+        u16(&ibag, n), u16(&ibag, 0), bag++;
+    }
+    gen(&igen, 0, 0);
+    inst.n = 0;
+    name(&inst, "Bell"), u16(&inst, 0), name(&inst, "More"), u16(&inst, 1), name(&inst, "EOI"), u16(&inst, bag);
+}
+
+static void lists(int hostile, size_t bytes) {
     unsigned n = 0;
     head("Bell", 0), head("EOP", 1);
     u16(&pbag, 0), u16(&pbag, 0), u16(&pbag, 1), u16(&pbag, 0);
@@ -53,8 +67,10 @@ static void lists(int hostile) {
         gen(&igen, 37, 600), n++;
         if (hostile) gen(&igen, 51, 120), n++, gen(&igen, 58, 0), n++;
     }
-    gen(&igen, 53, 0), n++, gen(&igen, 0, 0);
+    gen(&igen, 53, 0), n++;
     u16(&ibag, 0), u16(&ibag, 0), u16(&ibag, n), u16(&ibag, 0);
+    if (bytes) filled(bytes, n);
+    else gen(&igen, 0, 0);
     if (hostile) sample("Bell", 0, 64, 32, 33, 50000);
     else sample("Bell", 0, 20000, 2000, 19000, 44100);
     sample("EOS", 0, 0, 0, 0, 0);
@@ -66,8 +82,11 @@ static void put(const char *path, const Bytes *b) {
 }
 
 int main(int argc, char **argv) {
-    if (argc != 4 || (strcmp(argv[1], "bell") && strcmp(argv[1], "short"))) return fprintf(stderr, "bank bell|short IN SF2\n"), 2;
-    lists(!strcmp(argv[1], "short"));
+    const char *kinds[] = {"bell", "middle", "full", "short"};
+    int kind = 0;
+    while (argc == 4 && kind < 4 && strcmp(argv[1], kinds[kind])) kind++;
+    if (argc != 4 || kind == 4) return fprintf(stderr, "bank bell|middle|full|short IN SF2\n"), 2;
+    lists(kind == 3, kind == 1 ? 8000 : kind == 2 ? 65536 : 0);
     chunk(&pdta, "phdr", &phdr), chunk(&pdta, "pbag", &pbag), chunk(&pdta, "pmod", &pmod), chunk(&pdta, "pgen", &pgen), chunk(&pdta, "inst", &inst);
     chunk(&pdta, "ibag", &ibag), chunk(&pdta, "imod", &imod), chunk(&pdta, "igen", &igen), chunk(&pdta, "shdr", &shdr);
     for (int i = 0; i < 20046; i++) u16(&smpl, (unsigned)(int)lrint(20000 * sin(i * 0.0372) + 5000 * sin(i * 0.1937)) & 65535);
@@ -75,7 +94,8 @@ int main(int argc, char **argv) {
     u32(&part, 20046), memcpy(part.at + part.n, smpl.at, smpl.n), part.n += smpl.n;
     put(argv[2], &part);
     word(&info, "INFO");
-    Bytes *v = calloc(1, sizeof *v), *s = calloc(1, sizeof *s), *p = calloc(1, sizeof *p), *all = calloc(1, sizeof *all);
+    Bytes *v = calloc(1, sizeof *v), *p = calloc(1, sizeof *p), *all = calloc(1, sizeof *all);
+    if (!v || !p || !all) return fprintf(stderr, "bank: no memory\n"), 1;
     u16(v, 2), u16(v, 1), chunk(&info, "ifil", v);
     v->n = 0, word(v, "EMU8"), word(v, "000\0"), chunk(&info, "isng", v);
     v->n = 0, word(v, "Bell"), word(v, "\0\0\0\0"), chunk(&info, "INAM", v);
@@ -84,6 +104,5 @@ int main(int argc, char **argv) {
     word(&riff, "sfbk"), chunk(&riff, "LIST", &info), chunk(&riff, "LIST", &sdta), chunk(&riff, "LIST", p);
     chunk(all, "RIFF", &riff);
     put(argv[3], all);
-    (void)s;
     return 0;
 }

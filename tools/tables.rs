@@ -121,11 +121,17 @@ fn lists(rule: &str, size: usize, entries: &[u64]) -> String {
 }
 
 fn main() {
-    let root = std::env::args().nth(1).expect("tables FOLDER");
+    let Some(root) = std::env::args().nth(1) else {
+        eprintln!("tables FOLDER: writes crates/curves's tables below FOLDER");
+        std::process::exit(2);
+    };
     let write = |path: &str, text: String| {
         let path = Path::new(&root).join("crates/curves").join(path);
-        std::fs::create_dir_all(path.parent().unwrap()).unwrap();
-        std::fs::write(path, text).unwrap();
+        let made = path.parent().map_or(Ok(()), std::fs::create_dir_all);
+        if let Err(e) = made.and_then(|()| std::fs::write(&path, text)) {
+            eprintln!("tables: {}: {e}", path.display());
+            std::process::exit(1);
+        }
     };
     let (octaves, gains, velocities) = (octaves(), gains(), velocities());
     let with_control = [vec![960], velocities.clone()].concat();
