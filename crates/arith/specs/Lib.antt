@@ -12,3 +12,4 @@ pub mod Loops
 pub mod Put
 pub mod Word
 pub mod WordLaws
+pub mod Bytes

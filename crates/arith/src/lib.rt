@@ -1,4 +1,4 @@
-// What the crates share: the reading between two samples, floors, the exact binary32 of a whole number, the stereo frame, and a word as a set of slots.
+// What the crates share: the reading between two samples, floors, the exact binary32 of a whole number, the stereo frame, a word as a set of slots, and numbers in bytes.
 ghost use Prim.Native.Nat.{_^_, _-_, _<_, _≤_};
 ghost use Rattle.arith.specs.Between.{readingOf};
 ghost use Rattle.arith.specs.Bit.{bit, With};
@@ -11,6 +11,13 @@ ghost use lib.Count.{ones};
 ghost use lib.Dec.{eqb};
 ghost use lib.IntN.{negsuc, pos, _+ℤ_, _-ℤ_, _*ℤ_};
 ghost use mathlib.Core.Path.{_≡_};
+
+pub mod bytes;
+
+pub use bytes::byte;
+pub use bytes::signed16;
+pub use bytes::u16_at;
+pub use bytes::u32_at;
 
 fn reading(x0: i64, x1: i64, f: i64) -> i64
     requires { ⌜ Within x0 32768 × Within x1 32768 × Within f 16777216 ⌝ }

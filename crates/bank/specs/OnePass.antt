@@ -6,7 +6,7 @@ use lib.Dec.{ltb}
 use lib.IntN.{ℤ, pos}
 use lib.ListN.{getD}
 use Rattle.records.specs.Amounts.{poured}
-use Rattle.records.specs.Bytes.{u32At}
+use Rattle.arith.specs.Bytes.{u32At}
 use Rattle.records.specs.Sides.{bagOf, sampleAt}
 use Rattle.records.specs.Whole.{between, modZ}
 use Rattle.records.specs.Window.{shifted, goodPlaces, loops, rateOf}

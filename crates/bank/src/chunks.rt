@@ -38,7 +38,7 @@ fn bad_chunk(b: &[u8], k: usize) -> bool
     requires { ⌜ k < 9 ⌝ }
     ensures { λ r. ⌜ r ≡ badChunk (now (b .entry)) k ⌝ }
 {
-    if records::u32_at(b, records::chunk_at(b, k)) != name(k) {
+    if arith::u32_at(b, records::chunk_at(b, k)) != name(k) {
         return true;
     }
     b.len() < records::chunk_at(b, k + 1)
@@ -66,7 +66,7 @@ fn bad_records(b: &[u8], k: usize) -> bool
     requires { ⌜ k < 9 ⌝ }
     ensures { λ r. ⌜ r ≡ badRecords (now (b .entry)) k ⌝ }
 {
-    if records::u32_at(b, records::chunk_at(b, k) + 4) % records::size(k) != 0 {
+    if arith::u32_at(b, records::chunk_at(b, k) + 4) % records::size(k) != 0 {
         return true;
     }
     records::records_in(b, k) < least(k)

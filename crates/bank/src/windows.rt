@@ -4,7 +4,7 @@ ghost use Prim.Native.Nat.{_+_};
 ghost use Rattle.bank.specs.Admission.{badWindow, zoneLinkAt, windowFault};
 ghost use Rattle.bank.specs.OnePass.{goodAmounts, badOver};
 ghost use Rattle.records.specs.Search.{first, placed};
-ghost use Rattle.records.specs.Bytes.{u32At};
+ghost use Rattle.arith.specs.Bytes.{u32At};
 ghost use Rattle.records.specs.Sides.{bagOf, sampleAt};
 ghost use Rattle.records.specs.Whole.{modZ};
 ghost use Rattle.records.specs.Window.{shifted, loops};

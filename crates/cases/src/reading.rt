@@ -130,7 +130,7 @@ pub fn next_samples(room: &mut [u8; 65536], from: Place, into: &mut [i16]) -> Pl
     let mut i = 0;
     while i < into.len() {
         let b = next_u16(room, p);
-        let s = records::signed16(b.value);
+        let s = arith::signed16(b.value);
         into[i] = s;
         p = b.place;
         i += 1;

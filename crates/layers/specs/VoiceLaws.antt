@@ -7,7 +7,7 @@ use lib.IntN.{ℤ, pos, negsuc, natAbs, _+ℤ_, _-ℤ_, _*ℤ_}
 use Rattle.arith.specs.Over.{heldTo}
 use Rattle.curves.specs.Frames.{frames}
 use Rattle.records.specs.Amounts.{poured, pouredFrom}
-use Rattle.records.specs.Bytes.{u8At, i8At, u32At}
+use Rattle.arith.specs.Bytes.{u8At, i8At, u32At}
 use Rattle.records.specs.Sides.{sampleAt}
 use Rattle.records.specs.Whole.{between, modZ, word32}
 use Rattle.records.specs.Window.{shifted, moved, startOf, endOf, loopStartOf, loopEndOf, modeOf, rateOf, romOf}

@@ -5,7 +5,7 @@ use Prim.Native.Nat.{ℕ, _+_, _-_, min}
 use lib.IntN.{ℤ, pos, natAbs}
 use lib.Dec.{leb}
 use lib.ListN.{take, length, replicate}
-use Rattle.records.specs.Bytes.{u8At, i8At}
+use Rattle.arith.specs.Bytes.{u8At, i8At}
 use Rattle.records.specs.Search.{isAt}
 use Rattle.records.specs.Sides.{sampleAt, partsOf}
 use Rattle.records.specs.Whole.{modZ, word32}

@@ -1,7 +1,7 @@
 // A layer's window, mode and rate (01, "Bank admission" and "From a key to layers").
 ghost use mathlib.Core.Path.{_≡_};
 ghost use Prim.Native.Nat.{_+_, _-_, _<_, min};
-ghost use Rattle.records.specs.Bytes.{u32At};
+ghost use Rattle.arith.specs.Bytes.{u32At};
 ghost use Rattle.records.specs.Sides.{sampleAt};
 ghost use Rattle.records.specs.Whole.{modZ, word32};
 ghost use Rattle.records.specs.Window.{shifted};
@@ -36,7 +36,7 @@ pub fn place_of(
     requires { ⌜ (fine < 61) × (coarse < 61) ⌝ }
     ensures { λ r. ⌜ r ≡ word32 (shifted (u32At (now (b .entry)) (sampleAt m k + offset)) (at (now (own .entry)) fine) (at (now (own .entry)) coarse)) ⌝ }
 {
-    let place = records::u32_at(
+    let place = arith::u32_at(
         b,
         (m.samples as usize) + 46 * (k as usize) + (offset as usize),
     );

@@ -27,7 +27,7 @@ fn read_number() -> Number {
     let mut four = [0u8; 4];
     let n = io::read_full(IN, &mut four);
     if n == 4 {
-        return Number::Whole(records::u32_at(&four, 0));
+        return Number::Whole(arith::u32_at(&four, 0));
     }
     Number::Cut
 }

@@ -7,7 +7,7 @@ use native.Mathlib.Numerals.{add-one}
 use native.Mathlib.Omega.{arith}
 use lib.Dec.{lit<}
 use lib.ListN.{getD}
-use Rattle.records.specs.Bytes.{u32At}
+use Rattle.arith.specs.Bytes.{u32At}
 use Rattle.records.specs.Chunks.{sizes, chunkAt}
 
 pub chunk-first : (b : List ℕ) → chunkAt b 0 ≡ 0

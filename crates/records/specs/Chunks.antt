@@ -2,7 +2,7 @@
 use mathlib.Core.List.{List, [], _∷_}
 use Prim.Native.Nat.{ℕ, zero, suc, _+_, _*_, _/_}
 use lib.ListN.{getD}
-use Rattle.records.specs.Bytes.{u32At}
+use Rattle.arith.specs.Bytes.{u32At}
 
 -- four letters as the number that u32At reads
 abbrev letters : ℕ → ℕ → ℕ → ℕ → ℕ

@@ -1,6 +1,5 @@
 pub mod Whole
 pub mod WholeLaws
-pub mod Bytes
 pub mod Search
 pub mod SearchLaws
 pub mod Chunks

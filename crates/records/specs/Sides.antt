@@ -3,7 +3,7 @@
 use mathlib.Core.List.{List}
 use Prim.Native.Nat.{ℕ, _+_, _*_}
 use lib.IntN.{ℤ}
-use Rattle.records.specs.Bytes.{u16At, i16At}
+use Rattle.arith.specs.Bytes.{u16At, i16At}
 use Rattle.records.specs.Chunks.{body, records}
 use Rattle.records.specs.declared.Parts.{Parts}
 use Rattle.records.specs.declared.Side.{Side}

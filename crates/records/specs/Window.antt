@@ -5,7 +5,7 @@ use Prim.Native.Nat.{ℕ, _+_}
 use lib.Dec.{eqb, ltb}
 use lib.IntN.{ℤ, pos, _+ℤ_, _*ℤ_}
 use lib.Signed.{ltZ, leZ}
-use Rattle.records.specs.Bytes.{u16At, u32At}
+use Rattle.arith.specs.Bytes.{u16At, u32At}
 use Rattle.records.specs.Sides.{sampleAt}
 use Rattle.records.specs.Whole.{modZ}
 use Rattle.records.specs.Zones.{value}

@@ -6,8 +6,8 @@ ghost use Rattle.records.specs.Sides.{operator};
 use crate::Side;
 use crate::Zone;
 use crate::amount;
-use crate::signed16;
-use crate::u16_at;
+use arith::signed16;
+use arith::u16_at;
 
 pub fn operator(b: &[u8], s: Side, g: usize) -> u16
     requires { ⌜ g ≤ 8589934592 ⌝ }

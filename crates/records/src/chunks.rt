@@ -3,7 +3,7 @@ ghost use mathlib.Core.Path.{_≡_};
 ghost use Prim.Native.Nat.{_<_, _≤_};
 ghost use lib.ListN.{getD};
 ghost use Rattle.records.specs.Chunks.{sizes, chunkAt, records, body};
-use crate::u32_at;
+use arith::u32_at;
 
 const SIZES: [u32; 9] = [38, 4, 10, 4, 22, 4, 10, 4, 46];
 

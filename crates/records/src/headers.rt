@@ -3,14 +3,14 @@ ghost use mathlib.Core.Path.{_≡_};
 ghost use Prim.Native.Nat.{_+_, _≤_};
 ghost use mir.Syntax.{w8};
 ghost use mir.Val.{toZ};
-ghost use Rattle.records.specs.Bytes.{u8At, u32At, i8At};
+ghost use Rattle.arith.specs.Bytes.{u8At, u32At, i8At};
 ghost use Rattle.records.specs.Sides.{sampleAt, programOf, bankOf};
 ghost use Rattle.records.specs.Window.{rateOf, romOf};
 use crate::Parts;
-use crate::byte;
 use crate::times;
-use crate::u16_at;
-use crate::u32_at;
+use arith::byte;
+use arith::u16_at;
+use arith::u32_at;
 
 // Where a field of sample k stands.
 fn field_at(m: Parts, k: u32, offset: u8) -> usize

@@ -1,6 +1,5 @@
 // The bank as records: bytes, chunks, sides, zones, values and windows (01, "Bank admission").
 pub mod amounts;
-pub mod bytes;
 pub mod chunks;
 pub mod headers;
 pub mod memory;
@@ -10,11 +9,6 @@ pub mod zones;
 
 pub use amounts::operator;
 pub use amounts::poured;
-pub use bytes::byte;
-pub use bytes::signed16;
-pub use bytes::times;
-pub use bytes::u16_at;
-pub use bytes::u32_at;
 pub use chunks::body;
 pub use chunks::chunk_at;
 pub use chunks::records_in;
@@ -33,6 +27,7 @@ pub use sides::instruments;
 pub use sides::mod_of;
 pub use sides::parts_of;
 pub use sides::presets;
+pub use sides::times;
 pub use windows::both;
 pub use windows::good_places;
 pub use windows::implies;

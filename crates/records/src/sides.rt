@@ -1,14 +1,13 @@
 // Presets and instruments, one text for both: where their lists are, and the indexes of a record.
 ghost use mathlib.Core.Path.{_≡_};
-ghost use Prim.Native.Nat.{_≤_};
+ghost use Prim.Native.Nat.{_*_, _≤_};
 ghost use Rattle.records.specs.Chunks.{chunkAt};
 ghost use Rattle.records.specs.Sides.{bagOf, genOf, modOf, presets, instruments, partsOf};
 use crate::Parts;
 use crate::Side;
 use crate::body;
 use crate::records_in;
-use crate::times;
-use crate::u16_at;
+use arith::u16_at;
 
 pub fn bag_of(b: &[u8], s: Side, h: usize) -> u16
     requires { ⌜ h ≤ 4294967296 ⌝ }
@@ -81,4 +80,12 @@ pub fn parts_of(b: &[u8]) -> Parts
         instruments: instruments(b),
         samples: body(b, 8),
     }
+}
+
+// A record's size times its number.
+pub fn times(size: u8, n: usize) -> usize
+    requires { ⌜ n ≤ 4294967296 ⌝ }
+    ensures { λ r. ⌜ (r ≡ size * n) × (r ≤ 1095216660480) ⌝ }
+{
+    (size as usize) * n
 }

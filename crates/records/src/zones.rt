@@ -8,7 +8,7 @@ use crate::Side;
 use crate::Zone;
 use crate::bag_of;
 use crate::gen_of;
-use crate::u16_at;
+use arith::u16_at;
 
 pub fn has(b: &[u8], s: Side, o: u16, g: usize) -> bool
     requires { ⌜ g ≤ 8589934592 ⌝ }

@@ -65,7 +65,7 @@ fn times(text: &mut [u8; 65536], at: usize, v: Voice) -> usize {
 // Pan, class, attenuation, pitch and rate.
 fn levels(text: &mut [u8; 65536], at: usize, v: Voice) -> usize {
     let mut to = signed(text, at, wide(v.pan));
-    to = signed(text, to, wide(records::signed16(v.class)));
+    to = signed(text, to, wide(arith::signed16(v.class)));
     to = signed(text, to, v.attenuation);
     to = signed(text, to, v.pitch);
     number(text, to, long(v.rate))

@@ -8,7 +8,7 @@ use lib.ListN.{length}
 use mir.Facts.{toZ-ofZ}
 use mir.Syntax.{w16}
 use mir.Val.{toZ}
-use Rattle.records.specs.Bytes.{i16At}
+use Rattle.arith.specs.Bytes.{i16At}
 use Rattle.records.specs.Sides.{signed, amount}
 use Rattle.records.specs.Amounts.{poured}
 use Rattle.records.specs.AmountLaws.{front, poured-none, poured-front, pour-store, pour-pass}

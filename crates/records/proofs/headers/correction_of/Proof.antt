@@ -1,7 +1,7 @@
 -- `records::headers::correction_of` meets its contract.
 use borrow.Author.Needs.{needs, sfits-of}
 use mir.Facts.{toZ-ofZ}
-use Rattle.records.specs.Bytes.{i8At}
+use Rattle.arith.specs.Bytes.{i8At}
 use Rattle.records.proofs.headers.correction_of.Statement.{statement}
 use Rattle.records.proofs.headers.correction_of.Tie as tie
 

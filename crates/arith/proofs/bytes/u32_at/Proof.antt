@@ -1,8 +1,8 @@
 -- `records::bytes::u32_at` meets its contract.
-use Rattle.records.specs.Bytes.{u32At}
+use Rattle.arith.specs.Bytes.{u32At}
 use borrow.Author.Needs.{needs}
-use Rattle.records.proofs.bytes.u32_at.Statement.{statement}
-use Rattle.records.proofs.bytes.u32_at.Tie as tie
+use Rattle.arith.proofs.bytes.u32_at.Statement.{statement}
+use Rattle.arith.proofs.bytes.u32_at.Tie as tie
 
 byte-requires : tie.Need-byte-requires
 byte-requires c κs = search needs

@@ -1,9 +1,9 @@
-// Little-endian numbers among the bank's bytes; a byte past the end is 0.
+// Little-endian numbers among lent bytes; a byte past the end is 0.
 ghost use mathlib.Core.Path.{_≡_};
 ghost use Prim.Native.Nat.{_+_, _*_, _≤_};
 ghost use mir.Syntax.{w16};
 ghost use mir.Val.{toZ};
-ghost use Rattle.records.specs.Bytes.{u8At, u16At, u32At};
+ghost use Rattle.arith.specs.Bytes.{u8At, u16At, u32At};
 
 // A byte; 0 past the end.
 pub fn byte(b: &[u8], at: usize) -> u8
@@ -28,14 +28,6 @@ pub fn u16_at(b: &[u8], at: usize) -> u16
     ensures { λ r. ⌜ r ≡ u16At (now (b .entry)) at ⌝ }
 {
     pair(byte(b, at), byte(b, at + 1))
-}
-
-// A record's size times its number.
-pub fn times(size: u8, n: usize) -> usize
-    requires { ⌜ n ≤ 4294967296 ⌝ }
-    ensures { λ r. ⌜ (r ≡ size * n) × (r ≤ 1095216660480) ⌝ }
-{
-    (size as usize) * n
 }
 
 // The 16 bits of v as two's complement.

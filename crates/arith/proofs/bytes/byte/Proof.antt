@@ -1,11 +1,11 @@
 -- `records::bytes::byte` meets its contract.
-use Rattle.records.specs.Bytes.{u8At}
+use Rattle.arith.specs.Bytes.{u8At}
 use native.Mathlib.Omega.{arith}
 use mathlib.Core.Path.{refl, sym}
 use lib.ListN.{List·getD-eq-default}
 use borrow.Author.Needs.{needs}
-use Rattle.records.proofs.bytes.byte.Statement.{statement}
-use Rattle.records.proofs.bytes.byte.Tie as tie
+use Rattle.arith.proofs.bytes.byte.Statement.{statement}
+use Rattle.arith.proofs.bytes.byte.Tie as tie
 
 shared-slice-read-result : tie.Need-shared-slice-read-result
 shared-slice-read-result c = search needs

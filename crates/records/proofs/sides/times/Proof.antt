@@ -3,8 +3,8 @@ use native.Mathlib.Nat.{mul-le-mul}
 use native.Mathlib.Omega.{arith}
 use mathlib.Core.Path.{refl}
 use Prim.Native.Nat.{_*_, _≤_}
-use Rattle.records.proofs.bytes.times.Statement.{statement}
-use Rattle.records.proofs.bytes.times.Tie as tie
+use Rattle.records.proofs.sides.times.Statement.{statement}
+use Rattle.records.proofs.sides.times.Tie as tie
 
 mul-result : tie.Need-mul-result
 mul-result c =

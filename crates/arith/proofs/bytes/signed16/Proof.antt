@@ -10,10 +10,10 @@ use lib.IntN.{pos, negsuc, _-ℤ_}
 use mir.Facts.{toZ-ofZ}
 use mir.Syntax.{w16, w32}
 use mir.Val.{SFits, toZ, sel}
 use Rattle.arith.specs.Rounding.{sub-neg}
 use Rattle.arith.specs.Within.{w-nat, w-back}
-use Rattle.records.proofs.bytes.signed16.Statement.{statement}
-use Rattle.records.proofs.bytes.signed16.Tie as tie
+use Rattle.arith.proofs.bytes.signed16.Statement.{statement}
+use Rattle.arith.proofs.bytes.signed16.Tie as tie
 
 -- v - 65536, for a v of the upper half
 module _ (v : ℕ) (lo : 32768 ≤ v) (hi : v < 65536) where
