@@ -1,7 +1,8 @@
 /* Makes one bank twice: as the engine is lent it, and as a SoundFont file for FluidSynth.
    bank KIND IN SF2: IN gets u32 length and the pdta body, u32 count and the samples (16 bits); SF2 the RIFF file.
    KIND: bell (one looped sample of 20,000), middle and full (the same, filled to some 8,000 and 65,536 bytes with zones that no preset reaches),
-   short (a loop of one sample at the highest pitch, every generator repeated 200 times). */
+   short (a loop of one sample at the highest pitch, every generator repeated 200 times), deep (4,000 preset zones that all match, of an instrument
+   with 2,600 zones of which none does). */
 #include <math.h>
 #include <stdint.h>
 #include <stdio.h>
@@ -54,6 +55,18 @@ static void filled(size_t bytes, unsigned n) {
     name(&inst, "Bell"), u16(&inst, 0), name(&inst, "More"), u16(&inst, 1), name(&inst, "EOI"), u16(&inst, bag);
 }
 
+/* Preset zones that all name instrument 0, and instrument zones whose key range, low above high, matches nothing. */
+static void deep(void) {
+    head("Bell", 0), head("EOP", 4000);
+    for (unsigned z = 0; z <= 4000; z++) u16(&pbag, z), u16(&pbag, 0), gen(&pgen, 41, 0);
+    name(&inst, "Bell"), u16(&inst, 0), name(&inst, "EOI"), u16(&inst, 2600);
+    for (unsigned z = 0; z <= 2600; z++) u16(&ibag, 2 * z), u16(&ibag, 0);
+    for (unsigned z = 0; z < 2600; z++) gen(&igen, 43, 127), gen(&igen, 53, 0);
+    gen(&igen, 0, 0);
+    for (int i = 0; i < 10; i++) u8(&pmod, 0), u8(&imod, 0);
+    sample("Bell", 0, 20000, 2000, 19000, 44100), sample("EOS", 0, 0, 0, 0, 0);
+}
+
 static void lists(int hostile, size_t bytes) {
     unsigned n = 0;
     head("Bell", 0), head("EOP", 1);
@@ -82,11 +95,12 @@ static void put(const char *path, const Bytes *b) {
 }
 
 int main(int argc, char **argv) {
-    const char *kinds[] = {"bell", "middle", "full", "short"};
+    const char *kinds[] = {"bell", "middle", "full", "short", "deep"};
     int kind = 0;
-    while (argc == 4 && kind < 4 && strcmp(argv[1], kinds[kind])) kind++;
-    if (argc != 4 || kind == 4) return fprintf(stderr, "bank bell|middle|full|short IN SF2\n"), 2;
-    lists(kind == 3, kind == 1 ? 8000 : kind == 2 ? 65536 : 0);
+    while (argc == 4 && kind < 5 && strcmp(argv[1], kinds[kind])) kind++;
+    if (argc != 4 || kind == 5) return fprintf(stderr, "bank bell|middle|full|short|deep IN SF2\n"), 2;
+    if (kind == 4) deep();
+    else lists(kind == 3, kind == 1 ? 8000 : kind == 2 ? 65536 : 0);
     chunk(&pdta, "phdr", &phdr), chunk(&pdta, "pbag", &pbag), chunk(&pdta, "pmod", &pmod), chunk(&pdta, "pgen", &pgen), chunk(&pdta, "inst", &inst);
     chunk(&pdta, "ibag", &ibag), chunk(&pdta, "imod", &imod), chunk(&pdta, "igen", &igen), chunk(&pdta, "shdr", &shdr);
     for (int i = 0; i < 20046; i++) u16(&smpl, (unsigned)(int)lrint(20000 * sin(i * 0.0372) + 5000 * sin(i * 0.1937)) & 65535);
