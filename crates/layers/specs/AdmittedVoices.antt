@@ -20,9 +20,9 @@ use Rattle.records.specs.declared.Found.the-variants.{Nothing, At}
 use Rattle.records.specs.declared.Side.{Side}
 use Rattle.voice.specs.declared.Voice.{Voice}
 use Rattle.layers.specs.Layers.{picked, chosen, under, allUnder, layersBelow, layersOf, layerOf, presetFor, isPreset}
-use Rattle.layers.specs.NumberLaws.{mod4-lt}
+use Rattle.totals.specs.NumberLaws.{mod4-lt}
 use Rattle.layers.specs.StruckLaws.{struck-none, struck-some}
-use Rattle.layers.specs.VoiceNumbers.{playMode}
+use Rattle.totals.specs.VoiceNumbers.{playMode}
 use Rattle.layers.specs.VoiceOf.{voiceBy, voiceOf, voicesOf, struckVoices}
 use Rattle.layers.specs.declared.Pair.{Pair}
 

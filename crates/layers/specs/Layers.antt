@@ -12,7 +12,7 @@ use Rattle.records.specs.declared.Parts.{Parts}
 use Rattle.records.specs.declared.Side.{Side}
 use Rattle.records.specs.declared.Zone.{Zone}
 use Rattle.layers.specs.Ranges.{matches}
-use Rattle.layers.specs.declared.Layer.{Layer}
+use Rattle.totals.specs.declared.Layer.{Layer}
 use Rattle.layers.specs.declared.Layers.{Layers}
 use Rattle.layers.specs.declared.Pair.{Pair}
 

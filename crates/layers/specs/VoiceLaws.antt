@@ -15,11 +15,11 @@ use Rattle.records.specs.Zones.{value}
 use Rattle.records.specs.declared.Parts.{Parts}
 use Rattle.voice.specs.declared.Stage.the-variants.{Delay}
 use Rattle.voice.specs.declared.Voice.{Voice}
-use Rattle.layers.specs.Totals.{instrumentOnly, defaultOf, held, totalOf, total}
-use Rattle.layers.specs.TotalsLaws.{at, totalIn, ownValues, addedValues}
-use Rattle.layers.specs.VoiceNumbers.{keyOf, rootOf, softness, pitchOf, keyedTime, attenuationOf, playMode}
+use Rattle.totals.specs.Totals.{instrumentOnly, defaultOf, held, totalOf, total}
+use Rattle.totals.specs.TotalsLaws.{at, totalIn, ownValues, addedValues}
+use Rattle.totals.specs.VoiceNumbers.{keyOf, rootOf, softness, pitchOf, keyedTime, attenuationOf, playMode}
 use Rattle.layers.specs.VoiceOf.{voiceBy}
-use Rattle.layers.specs.declared.Layer.{Layer}
+use Rattle.totals.specs.declared.Layer.{Layer}
 
 -- a voice as it starts, by what a layer gives it
 abbrev pub made : ℕ → ℕ → ℕ → ℕ → ℕ → Bool → ℕ → ℕ → ℕ → ℕ → ℕ → ℕ → ℤ → ℤ → ℤ → ℕ → ℕ → ℕ → ℕ → ℕ → Voice

@@ -18,9 +18,9 @@ use Rattle.voice.specs.State.{blank}
 use Rattle.voice.specs.declared.Stage.the-variants.{Delay}
 use Rattle.voice.specs.declared.Voice.{Voice}
 use Rattle.layers.specs.Layers.{presetFor, layersOf, layerOf}
-use Rattle.layers.specs.Totals.{total}
-use Rattle.layers.specs.VoiceNumbers.{pitchOf, keyedTime, attenuationOf, playMode}
-use Rattle.layers.specs.declared.Layer.{Layer}
+use Rattle.totals.specs.Totals.{total}
+use Rattle.totals.specs.VoiceNumbers.{pitchOf, keyedTime, attenuationOf, playMode}
+use Rattle.totals.specs.declared.Layer.{Layer}
 use Rattle.layers.specs.declared.Pair.{Pair}
 use Rattle.layers.specs.declared.Struck.{Struck}
 

@@ -1,14 +1,11 @@
 // From a key to layers, and the voices that they start (01, "From a key to layers").
 mod layer_search;
-mod numbers;
 mod ranges;
 mod strike;
-mod totals;
 mod window;
 
 pub use layer_search::preset_for;
 pub use layer_search::search;
-use records::Zone;
 pub use strike::voices_for;
 use voice::Voice;
 
@@ -28,14 +25,6 @@ pub struct Range {
 pub struct Layers {
     pub count: u32,
     pub pairs: [Pair; 33],
-}
-
-// A layer's four zones: the preset's and the instrument's, each with the global one of its head.
-pub struct Layer {
-    pub preset: Zone,
-    pub above: Zone,
-    pub instrument: Zone,
-    pub beside: Zone,
 }
 
 // The voices that a key starts, and how many; of 33 or more none is made.

@@ -5,10 +5,10 @@ ghost use Rattle.arith.specs.Bytes.{u32At};
 ghost use Rattle.records.specs.Sides.{sampleAt};
 ghost use Rattle.records.specs.Whole.{modZ, word32};
 ghost use Rattle.records.specs.Window.{shifted};
-ghost use Rattle.layers.specs.TotalsLaws.{at};
-ghost use Rattle.layers.specs.VoiceNumbers.{playMode};
-use crate::totals::wide;
+ghost use Rattle.totals.specs.TotalsLaws.{at};
+ghost use Rattle.totals.specs.VoiceNumbers.{playMode};
 use records::Parts;
+use totals::wide;
 
 // A place held to 32 bits, which changes none of an admitted bank's that counts.
 fn held32(x: i64) -> u32

@@ -23,8 +23,8 @@ use Rattle.records.specs.Zones as RecordsZones
 use Rattle.bank.specs.Admission as BankAdmission
 use Rattle.layers.specs.Layers as LayersLayers
 use Rattle.layers.specs.Ranges as LayersRanges
-use Rattle.layers.specs.Totals as LayersTotals
-use Rattle.layers.specs.VoiceNumbers as LayersVoiceNumbers
+use Rattle.totals.specs.Totals as Totals
+use Rattle.totals.specs.VoiceNumbers as VoiceNumbers
 use Rattle.layers.specs.VoiceOf as LayersVoiceOf
 use Rattle.voice.specs.Frame as VoiceFrame
 use Rattle.voice.specs.Move as VoiceMove
@@ -107,7 +107,7 @@ struckBell =
     record { voices = voice ∷ replicate 31 blank; channels = replicate 16 freshChannel; sounding = 1; order = upFrom 1 31 ++ (0 ∷ []); clock = 0 }
 
 sounds-so : run before fresh ≡ struckBell
-unfolding CurvesDecibels.gainOf CurvesDecibels.cbOf CurvesDecibels.above CurvesDecibels.leastCb CurvesFrames.framesUp CurvesFrames.frames CurvesPitch.bendCents CurvesPitch.stepOf CurvesPitch.stepAt CurvesTable.allLe RecordsAmounts.pouredFrom RecordsAmounts.poured ArithBytes.u8At ArithBytes.u16At ArithBytes.u32At ArithBytes.i8At ArithBytes.i16At RecordsChunks.chunkAt RecordsChunks.nameAt RecordsChunks.bytesIn RecordsChunks.body RecordsChunks.records RecordsSearch.first RecordsSearch.last RecordsSides.presets RecordsSides.instruments RecordsSides.partsOf RecordsSides.bagOf RecordsSides.genOf RecordsSides.modOf RecordsSides.operator RecordsSides.amount RecordsSides.signed RecordsSides.programOf RecordsSides.bankOf RecordsWhole.between RecordsWhole.betweenZ RecordsWhole.modZ RecordsWhole.word32 RecordsWindow.shifted RecordsWindow.moved RecordsWindow.startOf RecordsWindow.endOf RecordsWindow.loopStartOf RecordsWindow.loopEndOf RecordsWindow.modeOf RecordsWindow.loops RecordsWindow.goodPlaces RecordsWindow.goodWindow RecordsWindow.rateOf RecordsWindow.romOf RecordsZones.zoneCount RecordsZones.genCount RecordsZones.has RecordsZones.closingOf RecordsZones.zoneAt RecordsZones.globalOf RecordsZones.lastOf RecordsZones.amountIn RecordsZones.value RecordsZones.zoneBelow RecordsZones.firstZone BankAdmission.longFault BankAdmission.badChunk BankAdmission.chunkFault BankAdmission.badRecords BankAdmission.recordsFault BankAdmission.fallsAt BankAdmission.endsWrong BankAdmission.badAt BankAdmission.badHead BankAdmission.badBag BankAdmission.headFault BankAdmission.bagFault BankAdmission.indexFault BankAdmission.badNumber BankAdmission.zoneLinkAt BankAdmission.linkFault BankAdmission.numberFault BankAdmission.namesSample BankAdmission.badRate BankAdmission.rateFault BankAdmission.badWindow BankAdmission.windowFault BankAdmission.faultOf BankAdmission.admitted LayersLayers.isPreset LayersLayers.presetFor LayersLayers.picked LayersLayers.chosen LayersLayers.under LayersLayers.allUnder LayersLayers.layersBelow LayersLayers.layersOf LayersLayers.layerCount LayersLayers.upTo33 LayersLayers.searched LayersLayers.layerOf LayersRanges.rangeAt LayersRanges.inside LayersRanges.hasAs LayersRanges.keyRange LayersRanges.velocityRange LayersRanges.matches LayersTotals.instrumentOnly LayersTotals.defaultOf LayersTotals.held LayersTotals.totalOf LayersTotals.total LayersVoiceNumbers.ifMidi LayersVoiceNumbers.keyOf LayersVoiceNumbers.rootOf LayersVoiceNumbers.pitchOf LayersVoiceNumbers.keyedTime LayersVoiceNumbers.softness LayersVoiceNumbers.attenuationOf LayersVoiceNumbers.playMode LayersVoiceOf.voiceBy LayersVoiceOf.voiceOf LayersVoiceOf.voicesOf LayersVoiceOf.hasPreset LayersVoiceOf.struckVoices LayersVoiceOf.struckOf VoiceFrame.goOn VoiceFrame.loud VoiceFrame.played VoiceFrame.living VoiceFrame.frameAt VoiceFrame.frame VoiceMove.pitchTotal VoiceMove.step VoiceMove.folds VoiceMove.fold VoiceMove.settled VoiceMove.ended VoiceRelease.release VoiceRun.after VoiceRun.heard VoiceRun.afterAt VoiceRun.heardAt VoiceStages.levelAt VoiceStages.decayAt VoiceStages.releaseAt VoiceStages.fromDecay VoiceStages.fromHold VoiceStages.fromAttack VoiceStages.fromDelay EngineBend.pitchBend EngineControls.pedalHeld EngineControls.cut EngineControls.pedal EngineControls.silence EngineControls.controlled EngineControls.controlChange EngineLentBank.bankFrom EngineNoteOff.ofChannel EngineNoteOff.held EngineNoteOff.heldKey EngineNoteOff.letOff EngineNoteOff.off EngineNoteOff.offKey EngineNoteOff.noteOff EngineNoteOn.bankOf EngineNoteOn.anyPast EngineNoteOn.classIn EngineNoteOn.rival EngineNoteOn.start EngineNoteOn.startAll EngineNoteOn.cleared EngineNoteOn.struck EngineNoteOn.noteOnNumber EngineNoteOn.noteOn EngineRender.distance EngineRender.window EngineRender.lacking EngineRender.renderNumber EngineRender.played EngineRender.render EngineSlots.lowestFree EngineSlots.claim EngineSlots.leastBy EngineSlots.taken EngineSlots.seat EngineSlots.without EngineSlots.renewed EngineSlots.startIn EngineState.paired EngineState.wordOf EngineState.fresh run frames seats among
+unfolding CurvesDecibels.gainOf CurvesDecibels.cbOf CurvesDecibels.above CurvesDecibels.leastCb CurvesFrames.framesUp CurvesFrames.frames CurvesPitch.bendCents CurvesPitch.stepOf CurvesPitch.stepAt CurvesTable.allLe RecordsAmounts.pouredFrom RecordsAmounts.poured ArithBytes.u8At ArithBytes.u16At ArithBytes.u32At ArithBytes.i8At ArithBytes.i16At RecordsChunks.chunkAt RecordsChunks.nameAt RecordsChunks.bytesIn RecordsChunks.body RecordsChunks.records RecordsSearch.first RecordsSearch.last RecordsSides.presets RecordsSides.instruments RecordsSides.partsOf RecordsSides.bagOf RecordsSides.genOf RecordsSides.modOf RecordsSides.operator RecordsSides.amount RecordsSides.signed RecordsSides.programOf RecordsSides.bankOf RecordsWhole.between RecordsWhole.betweenZ RecordsWhole.modZ RecordsWhole.word32 RecordsWindow.shifted RecordsWindow.moved RecordsWindow.startOf RecordsWindow.endOf RecordsWindow.loopStartOf RecordsWindow.loopEndOf RecordsWindow.modeOf RecordsWindow.loops RecordsWindow.goodPlaces RecordsWindow.goodWindow RecordsWindow.rateOf RecordsWindow.romOf RecordsZones.zoneCount RecordsZones.genCount RecordsZones.has RecordsZones.closingOf RecordsZones.zoneAt RecordsZones.globalOf RecordsZones.lastOf RecordsZones.amountIn RecordsZones.value RecordsZones.zoneBelow RecordsZones.firstZone BankAdmission.longFault BankAdmission.badChunk BankAdmission.chunkFault BankAdmission.badRecords BankAdmission.recordsFault BankAdmission.fallsAt BankAdmission.endsWrong BankAdmission.badAt BankAdmission.badHead BankAdmission.badBag BankAdmission.headFault BankAdmission.bagFault BankAdmission.indexFault BankAdmission.badNumber BankAdmission.zoneLinkAt BankAdmission.linkFault BankAdmission.numberFault BankAdmission.namesSample BankAdmission.badRate BankAdmission.rateFault BankAdmission.badWindow BankAdmission.windowFault BankAdmission.faultOf BankAdmission.admitted LayersLayers.isPreset LayersLayers.presetFor LayersLayers.picked LayersLayers.chosen LayersLayers.under LayersLayers.allUnder LayersLayers.layersBelow LayersLayers.layersOf LayersLayers.layerCount LayersLayers.upTo33 LayersLayers.searched LayersLayers.layerOf LayersRanges.rangeAt LayersRanges.inside LayersRanges.hasAs LayersRanges.keyRange LayersRanges.velocityRange LayersRanges.matches Totals.instrumentOnly Totals.defaultOf Totals.held Totals.totalOf Totals.total VoiceNumbers.ifMidi VoiceNumbers.keyOf VoiceNumbers.rootOf VoiceNumbers.pitchOf VoiceNumbers.keyedTime VoiceNumbers.softness VoiceNumbers.attenuationOf VoiceNumbers.playMode LayersVoiceOf.voiceBy LayersVoiceOf.voiceOf LayersVoiceOf.voicesOf LayersVoiceOf.hasPreset LayersVoiceOf.struckVoices LayersVoiceOf.struckOf VoiceFrame.goOn VoiceFrame.loud VoiceFrame.played VoiceFrame.living VoiceFrame.frameAt VoiceFrame.frame VoiceMove.pitchTotal VoiceMove.step VoiceMove.folds VoiceMove.fold VoiceMove.settled VoiceMove.ended VoiceRelease.release VoiceRun.after VoiceRun.heard VoiceRun.afterAt VoiceRun.heardAt VoiceStages.levelAt VoiceStages.decayAt VoiceStages.releaseAt VoiceStages.fromDecay VoiceStages.fromHold VoiceStages.fromAttack VoiceStages.fromDelay EngineBend.pitchBend EngineControls.pedalHeld EngineControls.cut EngineControls.pedal EngineControls.silence EngineControls.controlled EngineControls.controlChange EngineLentBank.bankFrom EngineNoteOff.ofChannel EngineNoteOff.held EngineNoteOff.heldKey EngineNoteOff.letOff EngineNoteOff.off EngineNoteOff.offKey EngineNoteOff.noteOff EngineNoteOn.bankOf EngineNoteOn.anyPast EngineNoteOn.classIn EngineNoteOn.rival EngineNoteOn.start EngineNoteOn.startAll EngineNoteOn.cleared EngineNoteOn.struck EngineNoteOn.noteOnNumber EngineNoteOn.noteOn EngineRender.distance EngineRender.window EngineRender.lacking EngineRender.renderNumber EngineRender.played EngineRender.render EngineSlots.lowestFree EngineSlots.claim EngineSlots.leastBy EngineSlots.taken EngineSlots.seat EngineSlots.without EngineSlots.renewed EngineSlots.startIn EngineState.paired EngineState.wordOf EngineState.fresh run frames seats among
 sounds-so = refl
 
 -- five frames in two cuts; between them a key is left, another channel is bent, a note-on is refused and another key is struck
@@ -123,7 +123,7 @@ meanwhile =
 
 -- each call meets the conditions, at a pitch total of 0 cents
 conditions : KeepsAll 0 (pos 0) meanwhile struckBell
-unfolding CurvesDecibels.gainOf CurvesDecibels.cbOf CurvesDecibels.above CurvesDecibels.leastCb CurvesFrames.framesUp CurvesFrames.frames CurvesPitch.bendCents CurvesPitch.stepOf CurvesPitch.stepAt CurvesTable.allLe RecordsAmounts.pouredFrom RecordsAmounts.poured ArithBytes.u8At ArithBytes.u16At ArithBytes.u32At ArithBytes.i8At ArithBytes.i16At RecordsChunks.chunkAt RecordsChunks.nameAt RecordsChunks.bytesIn RecordsChunks.body RecordsChunks.records RecordsSearch.first RecordsSearch.last RecordsSides.presets RecordsSides.instruments RecordsSides.partsOf RecordsSides.bagOf RecordsSides.genOf RecordsSides.modOf RecordsSides.operator RecordsSides.amount RecordsSides.signed RecordsSides.programOf RecordsSides.bankOf RecordsWhole.between RecordsWhole.betweenZ RecordsWhole.modZ RecordsWhole.word32 RecordsWindow.shifted RecordsWindow.moved RecordsWindow.startOf RecordsWindow.endOf RecordsWindow.loopStartOf RecordsWindow.loopEndOf RecordsWindow.modeOf RecordsWindow.loops RecordsWindow.goodPlaces RecordsWindow.goodWindow RecordsWindow.rateOf RecordsWindow.romOf RecordsZones.zoneCount RecordsZones.genCount RecordsZones.has RecordsZones.closingOf RecordsZones.zoneAt RecordsZones.globalOf RecordsZones.lastOf RecordsZones.amountIn RecordsZones.value RecordsZones.zoneBelow RecordsZones.firstZone BankAdmission.longFault BankAdmission.badChunk BankAdmission.chunkFault BankAdmission.badRecords BankAdmission.recordsFault BankAdmission.fallsAt BankAdmission.endsWrong BankAdmission.badAt BankAdmission.badHead BankAdmission.badBag BankAdmission.headFault BankAdmission.bagFault BankAdmission.indexFault BankAdmission.badNumber BankAdmission.zoneLinkAt BankAdmission.linkFault BankAdmission.numberFault BankAdmission.namesSample BankAdmission.badRate BankAdmission.rateFault BankAdmission.badWindow BankAdmission.windowFault BankAdmission.faultOf BankAdmission.admitted LayersLayers.isPreset LayersLayers.presetFor LayersLayers.picked LayersLayers.chosen LayersLayers.under LayersLayers.allUnder LayersLayers.layersBelow LayersLayers.layersOf LayersLayers.layerCount LayersLayers.upTo33 LayersLayers.searched LayersLayers.layerOf LayersRanges.rangeAt LayersRanges.inside LayersRanges.hasAs LayersRanges.keyRange LayersRanges.velocityRange LayersRanges.matches LayersTotals.instrumentOnly LayersTotals.defaultOf LayersTotals.held LayersTotals.totalOf LayersTotals.total LayersVoiceNumbers.ifMidi LayersVoiceNumbers.keyOf LayersVoiceNumbers.rootOf LayersVoiceNumbers.pitchOf LayersVoiceNumbers.keyedTime LayersVoiceNumbers.softness LayersVoiceNumbers.attenuationOf LayersVoiceNumbers.playMode LayersVoiceOf.voiceBy LayersVoiceOf.voiceOf LayersVoiceOf.voicesOf LayersVoiceOf.hasPreset LayersVoiceOf.struckVoices LayersVoiceOf.struckOf VoiceFrame.goOn VoiceFrame.loud VoiceFrame.played VoiceFrame.living VoiceFrame.frameAt VoiceFrame.frame VoiceMove.pitchTotal VoiceMove.step VoiceMove.folds VoiceMove.fold VoiceMove.settled VoiceMove.ended VoiceRelease.release VoiceRun.after VoiceRun.heard VoiceRun.afterAt VoiceRun.heardAt VoiceStages.levelAt VoiceStages.decayAt VoiceStages.releaseAt VoiceStages.fromDecay VoiceStages.fromHold VoiceStages.fromAttack VoiceStages.fromDelay EngineBend.pitchBend EngineControls.pedalHeld EngineControls.cut EngineControls.pedal EngineControls.silence EngineControls.controlled EngineControls.controlChange EngineLentBank.bankFrom EngineNoteOff.ofChannel EngineNoteOff.held EngineNoteOff.heldKey EngineNoteOff.letOff EngineNoteOff.off EngineNoteOff.offKey EngineNoteOff.noteOff EngineNoteOn.bankOf EngineNoteOn.anyPast EngineNoteOn.classIn EngineNoteOn.rival EngineNoteOn.start EngineNoteOn.startAll EngineNoteOn.cleared EngineNoteOn.struck EngineNoteOn.noteOnNumber EngineNoteOn.noteOn EngineRender.distance EngineRender.window EngineRender.lacking EngineRender.renderNumber EngineRender.played EngineRender.render EngineSlots.lowestFree EngineSlots.claim EngineSlots.leastBy EngineSlots.taken EngineSlots.seat EngineSlots.without EngineSlots.renewed EngineSlots.startIn EngineState.paired EngineState.wordOf EngineState.fresh run frames seats among
+unfolding CurvesDecibels.gainOf CurvesDecibels.cbOf CurvesDecibels.above CurvesDecibels.leastCb CurvesFrames.framesUp CurvesFrames.frames CurvesPitch.bendCents CurvesPitch.stepOf CurvesPitch.stepAt CurvesTable.allLe RecordsAmounts.pouredFrom RecordsAmounts.poured ArithBytes.u8At ArithBytes.u16At ArithBytes.u32At ArithBytes.i8At ArithBytes.i16At RecordsChunks.chunkAt RecordsChunks.nameAt RecordsChunks.bytesIn RecordsChunks.body RecordsChunks.records RecordsSearch.first RecordsSearch.last RecordsSides.presets RecordsSides.instruments RecordsSides.partsOf RecordsSides.bagOf RecordsSides.genOf RecordsSides.modOf RecordsSides.operator RecordsSides.amount RecordsSides.signed RecordsSides.programOf RecordsSides.bankOf RecordsWhole.between RecordsWhole.betweenZ RecordsWhole.modZ RecordsWhole.word32 RecordsWindow.shifted RecordsWindow.moved RecordsWindow.startOf RecordsWindow.endOf RecordsWindow.loopStartOf RecordsWindow.loopEndOf RecordsWindow.modeOf RecordsWindow.loops RecordsWindow.goodPlaces RecordsWindow.goodWindow RecordsWindow.rateOf RecordsWindow.romOf RecordsZones.zoneCount RecordsZones.genCount RecordsZones.has RecordsZones.closingOf RecordsZones.zoneAt RecordsZones.globalOf RecordsZones.lastOf RecordsZones.amountIn RecordsZones.value RecordsZones.zoneBelow RecordsZones.firstZone BankAdmission.longFault BankAdmission.badChunk BankAdmission.chunkFault BankAdmission.badRecords BankAdmission.recordsFault BankAdmission.fallsAt BankAdmission.endsWrong BankAdmission.badAt BankAdmission.badHead BankAdmission.badBag BankAdmission.headFault BankAdmission.bagFault BankAdmission.indexFault BankAdmission.badNumber BankAdmission.zoneLinkAt BankAdmission.linkFault BankAdmission.numberFault BankAdmission.namesSample BankAdmission.badRate BankAdmission.rateFault BankAdmission.badWindow BankAdmission.windowFault BankAdmission.faultOf BankAdmission.admitted LayersLayers.isPreset LayersLayers.presetFor LayersLayers.picked LayersLayers.chosen LayersLayers.under LayersLayers.allUnder LayersLayers.layersBelow LayersLayers.layersOf LayersLayers.layerCount LayersLayers.upTo33 LayersLayers.searched LayersLayers.layerOf LayersRanges.rangeAt LayersRanges.inside LayersRanges.hasAs LayersRanges.keyRange LayersRanges.velocityRange LayersRanges.matches Totals.instrumentOnly Totals.defaultOf Totals.held Totals.totalOf Totals.total VoiceNumbers.ifMidi VoiceNumbers.keyOf VoiceNumbers.rootOf VoiceNumbers.pitchOf VoiceNumbers.keyedTime VoiceNumbers.softness VoiceNumbers.attenuationOf VoiceNumbers.playMode LayersVoiceOf.voiceBy LayersVoiceOf.voiceOf LayersVoiceOf.voicesOf LayersVoiceOf.hasPreset LayersVoiceOf.struckVoices LayersVoiceOf.struckOf VoiceFrame.goOn VoiceFrame.loud VoiceFrame.played VoiceFrame.living VoiceFrame.frameAt VoiceFrame.frame VoiceMove.pitchTotal VoiceMove.step VoiceMove.folds VoiceMove.fold VoiceMove.settled VoiceMove.ended VoiceRelease.release VoiceRun.after VoiceRun.heard VoiceRun.afterAt VoiceRun.heardAt VoiceStages.levelAt VoiceStages.decayAt VoiceStages.releaseAt VoiceStages.fromDecay VoiceStages.fromHold VoiceStages.fromAttack VoiceStages.fromDelay EngineBend.pitchBend EngineControls.pedalHeld EngineControls.cut EngineControls.pedal EngineControls.silence EngineControls.controlled EngineControls.controlChange EngineLentBank.bankFrom EngineNoteOff.ofChannel EngineNoteOff.held EngineNoteOff.heldKey EngineNoteOff.letOff EngineNoteOff.off EngineNoteOff.offKey EngineNoteOff.noteOff EngineNoteOn.bankOf EngineNoteOn.anyPast EngineNoteOn.classIn EngineNoteOn.rival EngineNoteOn.start EngineNoteOn.startAll EngineNoteOn.cleared EngineNoteOn.struck EngineNoteOn.noteOnNumber EngineNoteOn.noteOn EngineRender.distance EngineRender.window EngineRender.lacking EngineRender.renderNumber EngineRender.played EngineRender.render EngineSlots.lowestFree EngineSlots.claim EngineSlots.leastBy EngineSlots.taken EngineSlots.seat EngineSlots.without EngineSlots.renewed EngineSlots.startIn EngineState.paired EngineState.wordOf EngineState.fresh run frames seats among
 conditions = (
   record { lives = refl; own = refl; tuned = λ h. refl },
   (
@@ -145,12 +145,12 @@ conditions = (
 )
 
 five : frames meanwhile struckBell ≡ 5
-unfolding CurvesDecibels.gainOf CurvesDecibels.cbOf CurvesDecibels.above CurvesDecibels.leastCb CurvesFrames.framesUp CurvesFrames.frames CurvesPitch.bendCents CurvesPitch.stepOf CurvesPitch.stepAt CurvesTable.allLe RecordsAmounts.pouredFrom RecordsAmounts.poured ArithBytes.u8At ArithBytes.u16At ArithBytes.u32At ArithBytes.i8At ArithBytes.i16At RecordsChunks.chunkAt RecordsChunks.nameAt RecordsChunks.bytesIn RecordsChunks.body RecordsChunks.records RecordsSearch.first RecordsSearch.last RecordsSides.presets RecordsSides.instruments RecordsSides.partsOf RecordsSides.bagOf RecordsSides.genOf RecordsSides.modOf RecordsSides.operator RecordsSides.amount RecordsSides.signed RecordsSides.programOf RecordsSides.bankOf RecordsWhole.between RecordsWhole.betweenZ RecordsWhole.modZ RecordsWhole.word32 RecordsWindow.shifted RecordsWindow.moved RecordsWindow.startOf RecordsWindow.endOf RecordsWindow.loopStartOf RecordsWindow.loopEndOf RecordsWindow.modeOf RecordsWindow.loops RecordsWindow.goodPlaces RecordsWindow.goodWindow RecordsWindow.rateOf RecordsWindow.romOf RecordsZones.zoneCount RecordsZones.genCount RecordsZones.has RecordsZones.closingOf RecordsZones.zoneAt RecordsZones.globalOf RecordsZones.lastOf RecordsZones.amountIn RecordsZones.value RecordsZones.zoneBelow RecordsZones.firstZone BankAdmission.longFault BankAdmission.badChunk BankAdmission.chunkFault BankAdmission.badRecords BankAdmission.recordsFault BankAdmission.fallsAt BankAdmission.endsWrong BankAdmission.badAt BankAdmission.badHead BankAdmission.badBag BankAdmission.headFault BankAdmission.bagFault BankAdmission.indexFault BankAdmission.badNumber BankAdmission.zoneLinkAt BankAdmission.linkFault BankAdmission.numberFault BankAdmission.namesSample BankAdmission.badRate BankAdmission.rateFault BankAdmission.badWindow BankAdmission.windowFault BankAdmission.faultOf BankAdmission.admitted LayersLayers.isPreset LayersLayers.presetFor LayersLayers.picked LayersLayers.chosen LayersLayers.under LayersLayers.allUnder LayersLayers.layersBelow LayersLayers.layersOf LayersLayers.layerCount LayersLayers.upTo33 LayersLayers.searched LayersLayers.layerOf LayersRanges.rangeAt LayersRanges.inside LayersRanges.hasAs LayersRanges.keyRange LayersRanges.velocityRange LayersRanges.matches LayersTotals.instrumentOnly LayersTotals.defaultOf LayersTotals.held LayersTotals.totalOf LayersTotals.total LayersVoiceNumbers.ifMidi LayersVoiceNumbers.keyOf LayersVoiceNumbers.rootOf LayersVoiceNumbers.pitchOf LayersVoiceNumbers.keyedTime LayersVoiceNumbers.softness LayersVoiceNumbers.attenuationOf LayersVoiceNumbers.playMode LayersVoiceOf.voiceBy LayersVoiceOf.voiceOf LayersVoiceOf.voicesOf LayersVoiceOf.hasPreset LayersVoiceOf.struckVoices LayersVoiceOf.struckOf VoiceFrame.goOn VoiceFrame.loud VoiceFrame.played VoiceFrame.living VoiceFrame.frameAt VoiceFrame.frame VoiceMove.pitchTotal VoiceMove.step VoiceMove.folds VoiceMove.fold VoiceMove.settled VoiceMove.ended VoiceRelease.release VoiceRun.after VoiceRun.heard VoiceRun.afterAt VoiceRun.heardAt VoiceStages.levelAt VoiceStages.decayAt VoiceStages.releaseAt VoiceStages.fromDecay VoiceStages.fromHold VoiceStages.fromAttack VoiceStages.fromDelay EngineBend.pitchBend EngineControls.pedalHeld EngineControls.cut EngineControls.pedal EngineControls.silence EngineControls.controlled EngineControls.controlChange EngineLentBank.bankFrom EngineNoteOff.ofChannel EngineNoteOff.held EngineNoteOff.heldKey EngineNoteOff.letOff EngineNoteOff.off EngineNoteOff.offKey EngineNoteOff.noteOff EngineNoteOn.bankOf EngineNoteOn.anyPast EngineNoteOn.classIn EngineNoteOn.rival EngineNoteOn.start EngineNoteOn.startAll EngineNoteOn.cleared EngineNoteOn.struck EngineNoteOn.noteOnNumber EngineNoteOn.noteOn EngineRender.distance EngineRender.window EngineRender.lacking EngineRender.renderNumber EngineRender.played EngineRender.render EngineSlots.lowestFree EngineSlots.claim EngineSlots.leastBy EngineSlots.taken EngineSlots.seat EngineSlots.without EngineSlots.renewed EngineSlots.startIn EngineState.paired EngineState.wordOf EngineState.fresh run frames seats among
+unfolding CurvesDecibels.gainOf CurvesDecibels.cbOf CurvesDecibels.above CurvesDecibels.leastCb CurvesFrames.framesUp CurvesFrames.frames CurvesPitch.bendCents CurvesPitch.stepOf CurvesPitch.stepAt CurvesTable.allLe RecordsAmounts.pouredFrom RecordsAmounts.poured ArithBytes.u8At ArithBytes.u16At ArithBytes.u32At ArithBytes.i8At ArithBytes.i16At RecordsChunks.chunkAt RecordsChunks.nameAt RecordsChunks.bytesIn RecordsChunks.body RecordsChunks.records RecordsSearch.first RecordsSearch.last RecordsSides.presets RecordsSides.instruments RecordsSides.partsOf RecordsSides.bagOf RecordsSides.genOf RecordsSides.modOf RecordsSides.operator RecordsSides.amount RecordsSides.signed RecordsSides.programOf RecordsSides.bankOf RecordsWhole.between RecordsWhole.betweenZ RecordsWhole.modZ RecordsWhole.word32 RecordsWindow.shifted RecordsWindow.moved RecordsWindow.startOf RecordsWindow.endOf RecordsWindow.loopStartOf RecordsWindow.loopEndOf RecordsWindow.modeOf RecordsWindow.loops RecordsWindow.goodPlaces RecordsWindow.goodWindow RecordsWindow.rateOf RecordsWindow.romOf RecordsZones.zoneCount RecordsZones.genCount RecordsZones.has RecordsZones.closingOf RecordsZones.zoneAt RecordsZones.globalOf RecordsZones.lastOf RecordsZones.amountIn RecordsZones.value RecordsZones.zoneBelow RecordsZones.firstZone BankAdmission.longFault BankAdmission.badChunk BankAdmission.chunkFault BankAdmission.badRecords BankAdmission.recordsFault BankAdmission.fallsAt BankAdmission.endsWrong BankAdmission.badAt BankAdmission.badHead BankAdmission.badBag BankAdmission.headFault BankAdmission.bagFault BankAdmission.indexFault BankAdmission.badNumber BankAdmission.zoneLinkAt BankAdmission.linkFault BankAdmission.numberFault BankAdmission.namesSample BankAdmission.badRate BankAdmission.rateFault BankAdmission.badWindow BankAdmission.windowFault BankAdmission.faultOf BankAdmission.admitted LayersLayers.isPreset LayersLayers.presetFor LayersLayers.picked LayersLayers.chosen LayersLayers.under LayersLayers.allUnder LayersLayers.layersBelow LayersLayers.layersOf LayersLayers.layerCount LayersLayers.upTo33 LayersLayers.searched LayersLayers.layerOf LayersRanges.rangeAt LayersRanges.inside LayersRanges.hasAs LayersRanges.keyRange LayersRanges.velocityRange LayersRanges.matches Totals.instrumentOnly Totals.defaultOf Totals.held Totals.totalOf Totals.total VoiceNumbers.ifMidi VoiceNumbers.keyOf VoiceNumbers.rootOf VoiceNumbers.pitchOf VoiceNumbers.keyedTime VoiceNumbers.softness VoiceNumbers.attenuationOf VoiceNumbers.playMode LayersVoiceOf.voiceBy LayersVoiceOf.voiceOf LayersVoiceOf.voicesOf LayersVoiceOf.hasPreset LayersVoiceOf.struckVoices LayersVoiceOf.struckOf VoiceFrame.goOn VoiceFrame.loud VoiceFrame.played VoiceFrame.living VoiceFrame.frameAt VoiceFrame.frame VoiceMove.pitchTotal VoiceMove.step VoiceMove.folds VoiceMove.fold VoiceMove.settled VoiceMove.ended VoiceRelease.release VoiceRun.after VoiceRun.heard VoiceRun.afterAt VoiceRun.heardAt VoiceStages.levelAt VoiceStages.decayAt VoiceStages.releaseAt VoiceStages.fromDecay VoiceStages.fromHold VoiceStages.fromAttack VoiceStages.fromDelay EngineBend.pitchBend EngineControls.pedalHeld EngineControls.cut EngineControls.pedal EngineControls.silence EngineControls.controlled EngineControls.controlChange EngineLentBank.bankFrom EngineNoteOff.ofChannel EngineNoteOff.held EngineNoteOff.heldKey EngineNoteOff.letOff EngineNoteOff.off EngineNoteOff.offKey EngineNoteOff.noteOff EngineNoteOn.bankOf EngineNoteOn.anyPast EngineNoteOn.classIn EngineNoteOn.rival EngineNoteOn.start EngineNoteOn.startAll EngineNoteOn.cleared EngineNoteOn.struck EngineNoteOn.noteOnNumber EngineNoteOn.noteOn EngineRender.distance EngineRender.window EngineRender.lacking EngineRender.renderNumber EngineRender.played EngineRender.render EngineSlots.lowestFree EngineSlots.claim EngineSlots.leastBy EngineSlots.taken EngineSlots.seat EngineSlots.without EngineSlots.renewed EngineSlots.startIn EngineState.paired EngineState.wordOf EngineState.fresh run frames seats among
 five = refl
 
 -- the place after them: five steps of one sample, folded into the loop of four
 at-sample-one : voiceIn 0 (run meanwhile struckBell) .place ≡ 16777216
-unfolding CurvesDecibels.gainOf CurvesDecibels.cbOf CurvesDecibels.above CurvesDecibels.leastCb CurvesFrames.framesUp CurvesFrames.frames CurvesPitch.bendCents CurvesPitch.stepOf CurvesPitch.stepAt CurvesTable.allLe RecordsAmounts.pouredFrom RecordsAmounts.poured ArithBytes.u8At ArithBytes.u16At ArithBytes.u32At ArithBytes.i8At ArithBytes.i16At RecordsChunks.chunkAt RecordsChunks.nameAt RecordsChunks.bytesIn RecordsChunks.body RecordsChunks.records RecordsSearch.first RecordsSearch.last RecordsSides.presets RecordsSides.instruments RecordsSides.partsOf RecordsSides.bagOf RecordsSides.genOf RecordsSides.modOf RecordsSides.operator RecordsSides.amount RecordsSides.signed RecordsSides.programOf RecordsSides.bankOf RecordsWhole.between RecordsWhole.betweenZ RecordsWhole.modZ RecordsWhole.word32 RecordsWindow.shifted RecordsWindow.moved RecordsWindow.startOf RecordsWindow.endOf RecordsWindow.loopStartOf RecordsWindow.loopEndOf RecordsWindow.modeOf RecordsWindow.loops RecordsWindow.goodPlaces RecordsWindow.goodWindow RecordsWindow.rateOf RecordsWindow.romOf RecordsZones.zoneCount RecordsZones.genCount RecordsZones.has RecordsZones.closingOf RecordsZones.zoneAt RecordsZones.globalOf RecordsZones.lastOf RecordsZones.amountIn RecordsZones.value RecordsZones.zoneBelow RecordsZones.firstZone BankAdmission.longFault BankAdmission.badChunk BankAdmission.chunkFault BankAdmission.badRecords BankAdmission.recordsFault BankAdmission.fallsAt BankAdmission.endsWrong BankAdmission.badAt BankAdmission.badHead BankAdmission.badBag BankAdmission.headFault BankAdmission.bagFault BankAdmission.indexFault BankAdmission.badNumber BankAdmission.zoneLinkAt BankAdmission.linkFault BankAdmission.numberFault BankAdmission.namesSample BankAdmission.badRate BankAdmission.rateFault BankAdmission.badWindow BankAdmission.windowFault BankAdmission.faultOf BankAdmission.admitted LayersLayers.isPreset LayersLayers.presetFor LayersLayers.picked LayersLayers.chosen LayersLayers.under LayersLayers.allUnder LayersLayers.layersBelow LayersLayers.layersOf LayersLayers.layerCount LayersLayers.upTo33 LayersLayers.searched LayersLayers.layerOf LayersRanges.rangeAt LayersRanges.inside LayersRanges.hasAs LayersRanges.keyRange LayersRanges.velocityRange LayersRanges.matches LayersTotals.instrumentOnly LayersTotals.defaultOf LayersTotals.held LayersTotals.totalOf LayersTotals.total LayersVoiceNumbers.ifMidi LayersVoiceNumbers.keyOf LayersVoiceNumbers.rootOf LayersVoiceNumbers.pitchOf LayersVoiceNumbers.keyedTime LayersVoiceNumbers.softness LayersVoiceNumbers.attenuationOf LayersVoiceNumbers.playMode LayersVoiceOf.voiceBy LayersVoiceOf.voiceOf LayersVoiceOf.voicesOf LayersVoiceOf.hasPreset LayersVoiceOf.struckVoices LayersVoiceOf.struckOf VoiceFrame.goOn VoiceFrame.loud VoiceFrame.played VoiceFrame.living VoiceFrame.frameAt VoiceFrame.frame VoiceMove.pitchTotal VoiceMove.step VoiceMove.folds VoiceMove.fold VoiceMove.settled VoiceMove.ended VoiceRelease.release VoiceRun.after VoiceRun.heard VoiceRun.afterAt VoiceRun.heardAt VoiceStages.levelAt VoiceStages.decayAt VoiceStages.releaseAt VoiceStages.fromDecay VoiceStages.fromHold VoiceStages.fromAttack VoiceStages.fromDelay EngineBend.pitchBend EngineControls.pedalHeld EngineControls.cut EngineControls.pedal EngineControls.silence EngineControls.controlled EngineControls.controlChange EngineLentBank.bankFrom EngineNoteOff.ofChannel EngineNoteOff.held EngineNoteOff.heldKey EngineNoteOff.letOff EngineNoteOff.off EngineNoteOff.offKey EngineNoteOff.noteOff EngineNoteOn.bankOf EngineNoteOn.anyPast EngineNoteOn.classIn EngineNoteOn.rival EngineNoteOn.start EngineNoteOn.startAll EngineNoteOn.cleared EngineNoteOn.struck EngineNoteOn.noteOnNumber EngineNoteOn.noteOn EngineRender.distance EngineRender.window EngineRender.lacking EngineRender.renderNumber EngineRender.played EngineRender.render EngineSlots.lowestFree EngineSlots.claim EngineSlots.leastBy EngineSlots.taken EngineSlots.seat EngineSlots.without EngineSlots.renewed EngineSlots.startIn EngineState.paired EngineState.wordOf EngineState.fresh run frames seats among
+unfolding CurvesDecibels.gainOf CurvesDecibels.cbOf CurvesDecibels.above CurvesDecibels.leastCb CurvesFrames.framesUp CurvesFrames.frames CurvesPitch.bendCents CurvesPitch.stepOf CurvesPitch.stepAt CurvesTable.allLe RecordsAmounts.pouredFrom RecordsAmounts.poured ArithBytes.u8At ArithBytes.u16At ArithBytes.u32At ArithBytes.i8At ArithBytes.i16At RecordsChunks.chunkAt RecordsChunks.nameAt RecordsChunks.bytesIn RecordsChunks.body RecordsChunks.records RecordsSearch.first RecordsSearch.last RecordsSides.presets RecordsSides.instruments RecordsSides.partsOf RecordsSides.bagOf RecordsSides.genOf RecordsSides.modOf RecordsSides.operator RecordsSides.amount RecordsSides.signed RecordsSides.programOf RecordsSides.bankOf RecordsWhole.between RecordsWhole.betweenZ RecordsWhole.modZ RecordsWhole.word32 RecordsWindow.shifted RecordsWindow.moved RecordsWindow.startOf RecordsWindow.endOf RecordsWindow.loopStartOf RecordsWindow.loopEndOf RecordsWindow.modeOf RecordsWindow.loops RecordsWindow.goodPlaces RecordsWindow.goodWindow RecordsWindow.rateOf RecordsWindow.romOf RecordsZones.zoneCount RecordsZones.genCount RecordsZones.has RecordsZones.closingOf RecordsZones.zoneAt RecordsZones.globalOf RecordsZones.lastOf RecordsZones.amountIn RecordsZones.value RecordsZones.zoneBelow RecordsZones.firstZone BankAdmission.longFault BankAdmission.badChunk BankAdmission.chunkFault BankAdmission.badRecords BankAdmission.recordsFault BankAdmission.fallsAt BankAdmission.endsWrong BankAdmission.badAt BankAdmission.badHead BankAdmission.badBag BankAdmission.headFault BankAdmission.bagFault BankAdmission.indexFault BankAdmission.badNumber BankAdmission.zoneLinkAt BankAdmission.linkFault BankAdmission.numberFault BankAdmission.namesSample BankAdmission.badRate BankAdmission.rateFault BankAdmission.badWindow BankAdmission.windowFault BankAdmission.faultOf BankAdmission.admitted LayersLayers.isPreset LayersLayers.presetFor LayersLayers.picked LayersLayers.chosen LayersLayers.under LayersLayers.allUnder LayersLayers.layersBelow LayersLayers.layersOf LayersLayers.layerCount LayersLayers.upTo33 LayersLayers.searched LayersLayers.layerOf LayersRanges.rangeAt LayersRanges.inside LayersRanges.hasAs LayersRanges.keyRange LayersRanges.velocityRange LayersRanges.matches Totals.instrumentOnly Totals.defaultOf Totals.held Totals.totalOf Totals.total VoiceNumbers.ifMidi VoiceNumbers.keyOf VoiceNumbers.rootOf VoiceNumbers.pitchOf VoiceNumbers.keyedTime VoiceNumbers.softness VoiceNumbers.attenuationOf VoiceNumbers.playMode LayersVoiceOf.voiceBy LayersVoiceOf.voiceOf LayersVoiceOf.voicesOf LayersVoiceOf.hasPreset LayersVoiceOf.struckVoices LayersVoiceOf.struckOf VoiceFrame.goOn VoiceFrame.loud VoiceFrame.played VoiceFrame.living VoiceFrame.frameAt VoiceFrame.frame VoiceMove.pitchTotal VoiceMove.step VoiceMove.folds VoiceMove.fold VoiceMove.settled VoiceMove.ended VoiceRelease.release VoiceRun.after VoiceRun.heard VoiceRun.afterAt VoiceRun.heardAt VoiceStages.levelAt VoiceStages.decayAt VoiceStages.releaseAt VoiceStages.fromDecay VoiceStages.fromHold VoiceStages.fromAttack VoiceStages.fromDelay EngineBend.pitchBend EngineControls.pedalHeld EngineControls.cut EngineControls.pedal EngineControls.silence EngineControls.controlled EngineControls.controlChange EngineLentBank.bankFrom EngineNoteOff.ofChannel EngineNoteOff.held EngineNoteOff.heldKey EngineNoteOff.letOff EngineNoteOff.off EngineNoteOff.offKey EngineNoteOff.noteOff EngineNoteOn.bankOf EngineNoteOn.anyPast EngineNoteOn.classIn EngineNoteOn.rival EngineNoteOn.start EngineNoteOn.startAll EngineNoteOn.cleared EngineNoteOn.struck EngineNoteOn.noteOnNumber EngineNoteOn.noteOn EngineRender.distance EngineRender.window EngineRender.lacking EngineRender.renderNumber EngineRender.played EngineRender.render EngineSlots.lowestFree EngineSlots.claim EngineSlots.leastBy EngineSlots.taken EngineSlots.seat EngineSlots.without EngineSlots.renewed EngineSlots.startIn EngineState.paired EngineState.wordOf EngineState.fresh run frames seats among
 at-sample-one = refl
 
 -- so demand 3 speaks of it

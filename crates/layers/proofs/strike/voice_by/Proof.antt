@@ -6,9 +6,9 @@ use mir.Facts.{toZ-ofZ}
 use mir.Syntax.{w8, w16, w32}
 use Prim.Native.Nat.{_-_, min}
 use Rattle.curves.specs.Frames.{frames}
-use Rattle.layers.specs.TotalsLaws.{totalIn}
+use Rattle.totals.specs.TotalsLaws.{totalIn}
 use Rattle.layers.specs.VoiceLaws.{made-same, voiceIn, voice-in}
-use Rattle.layers.specs.VoiceNumbers.{pitchOf}
+use Rattle.totals.specs.VoiceNumbers.{pitchOf}
 use Rattle.layers.proofs.strike.voice_by.Statement.{statement}
 use Rattle.layers.proofs.strike.voice_by.Tie as tie
 

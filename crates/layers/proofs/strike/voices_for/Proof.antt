@@ -9,7 +9,7 @@ use Rattle.voice.specs.declared.Voice.{Voice}
 use Rattle.layers.specs.Layers.{layersOf, upTo33, searched}
 use Rattle.layers.specs.StruckLaws.{struckBy, filled, filled-none, filled-set, found-length, found-at, struck-few, struck-many}
 use Rattle.layers.specs.VoiceOf.{voiceBy, voiceOf, voicesOf}
-use Rattle.layers.specs.declared.Layer.{Layer}
+use Rattle.totals.specs.declared.Layer.{Layer}
 use Rattle.layers.specs.declared.Layers.{Layers}
 use Rattle.layers.proofs.strike.voices_for.Statement.{statement}
 use Rattle.layers.proofs.strike.voices_for.Tie as tie

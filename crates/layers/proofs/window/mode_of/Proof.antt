@@ -8,8 +8,8 @@ use mir.Syntax.{w64}
 use Prim.Native.Nat.{ℕ, _<_}
 use Rattle.records.specs.Whole.{modZ}
 use Rattle.arith.specs.Within.{w-back}
-use Rattle.layers.specs.NumberLaws.{mod4-lt}
-use Rattle.layers.specs.VoiceNumbers.{playMode}
+use Rattle.totals.specs.NumberLaws.{mod4-lt}
+use Rattle.totals.specs.VoiceNumbers.{playMode}
 use Rattle.layers.proofs.window.mode_of.Statement.{statement}
 use Rattle.layers.proofs.window.mode_of.Tie as tie
 

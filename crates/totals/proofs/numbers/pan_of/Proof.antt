@@ -1,0 +1,22 @@
+-- `pan_of` meets its contract.
+use borrow.Author.Needs.{needs}
+use lib.Dec.{lit<}
+use mir.Syntax.{w16, w64}
+use Rattle.records.specs.Whole.{between}
+use Rattle.arith.specs.Within.{w-fits, w-back}
+use Rattle.totals.specs.Totals.{totalOf, held, instrumentOnly}
+use Rattle.totals.proofs.numbers.pan_of.Statement.{statement}
+use Rattle.totals.proofs.numbers.pan_of.Tie as tie
+
+held-at-requires : tie.Need-held-at-requires
+held-at-requires c κs = search needs
+
+cast-result : tie.Need-cast-result
+cast-result c = rw (w-back w64 (c .held-at .ensures .1) (lit< tt)) (w-fits w16 (c .held-at .ensures .1) (lit< tt))
+
+returns : tie.Need-returns
+unfolding totalOf held instrumentOnly between
+returns c = rw (w-back w64 (c .held-at .ensures .1) (lit< tt), w-back w16 (c .held-at .ensures .1) (lit< tt)) (c .held-at .ensures .0)
+
+pub pan-of-spec : {M : Type 1} → statement M
+pan-of-spec = tie.close (tie.spec held-at-requires cast-result returns)

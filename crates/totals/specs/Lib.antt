@@ -1,0 +1,4 @@
+pub mod Totals
+pub mod TotalsLaws
+pub mod VoiceNumbers
+pub mod NumberLaws
