@@ -5,6 +5,7 @@ pub mod big;
 pub mod case;
 pub mod key_to_layers;
 pub mod make;
+pub mod real;
 pub mod slots_keys_clock;
 pub mod strike;
 pub mod tables_and_steps;

@@ -1,13 +1,16 @@
-//! The second program's commands: play a case, strike keys, make the stored cases and their traces.
+//! The second program's commands: play a case, strike keys, make the stored cases and their traces, make cases of real files.
 
-use second::{case, make, strike};
+use second::{case, make, real, strike};
+use std::fs;
 use std::io::{self, BufReader, BufWriter};
 use std::path::Path;
 use std::process::ExitCode;
 
 const USAGE: &str = "usage: second play < CASE > TRACE
        second strike < STRIKES > LINES
-       second make DIR";
+       second make DIR
+       second real BANK.sf2 PIECE.mid SECONDS > CASE
+       second struck BANK.sf2 > STRIKES";
 
 /// The status is 0 for a damaged case too, whose trace ends with `bad`; 1 where reading or writing fails; 2 for usage.
 fn main() -> ExitCode {
@@ -17,6 +20,8 @@ fn main() -> ExitCode {
         ["play"] => case::play(BufReader::new(io::stdin().lock()), BufWriter::new(io::stdout().lock())),
         ["strike"] => strike::play(BufReader::new(io::stdin().lock()), BufWriter::new(io::stdout().lock())),
         ["make", directory] => make::write_all(Path::new(directory)),
+        ["real", bank, piece, seconds] => real_case(bank, piece, seconds),
+        ["struck", bank] => real_bank(bank).and_then(|bank| real::write_strikes(&bank, &mut BufWriter::new(io::stdout().lock()))),
         _ => {
             eprintln!("{USAGE}");
             return ExitCode::from(2);
@@ -29,4 +34,19 @@ fn main() -> ExitCode {
             ExitCode::FAILURE
         }
     }
+}
+
+/// A file's bytes, with its name in what is said where it cannot be read.
+fn bytes_of(name: &str) -> io::Result<Vec<u8>> {
+    fs::read(name).map_err(|error| io::Error::new(error.kind(), format!("{name}: {error}")))
+}
+
+fn real_bank(name: &str) -> io::Result<real::RealBank> {
+    real::bank(&bytes_of(name)?).map_err(|error| io::Error::other(format!("{name}: {error}")))
+}
+
+fn real_case(bank: &str, piece: &str, seconds: &str) -> io::Result<()> {
+    let seconds = seconds.parse().map_err(|_| io::Error::other(format!("{seconds}: not a number of seconds")))?;
+    let events = real::midi(&bytes_of(piece)?).map_err(|error| io::Error::other(format!("{piece}: {error}")))?;
+    real::write_case(&real_bank(bank)?, &events, seconds, &mut BufWriter::new(io::stdout().lock()))
 }
