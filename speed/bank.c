@@ -2,7 +2,7 @@
    bank KIND IN SF2: IN gets u32 length and the pdta body, u32 count and the samples (16 bits); SF2 the RIFF file.
    KIND: bell (one looped sample of 20,000), middle and full (the same, filled to some 8,000 and 65,536 bytes with zones that no preset reaches),
    short (a loop of one sample at the highest pitch, every generator repeated 200 times), deep (4,000 preset zones that all match, of an instrument
-   with 2,600 zones of which none does). */
+   with 2,600 zones of which none does), wide (32 preset zones that all match, of an instrument with 15,900 zones of which the last does). */
 #include <math.h>
 #include <stdint.h>
 #include <stdio.h>
@@ -55,16 +55,28 @@ static void filled(size_t bytes, unsigned n) {
     name(&inst, "Bell"), u16(&inst, 0), name(&inst, "More"), u16(&inst, 1), name(&inst, "EOI"), u16(&inst, bag);
 }
 
-/* Preset zones that all name instrument 0, and instrument zones whose key range, low above high, matches nothing. */
+/* Preset zones that all name instrument 0, which has so many zones. */
+static void naming(unsigned presets, unsigned zones) {
+    head("Bell", 0), head("EOP", presets);
+    for (unsigned z = 0; z <= presets; z++) u16(&pbag, z), u16(&pbag, 0), gen(&pgen, 41, 0);
+    name(&inst, "Bell"), u16(&inst, 0), name(&inst, "EOI"), u16(&inst, zones);
+    for (int i = 0; i < 10; i++) u8(&pmod, 0), u8(&imod, 0);
+    sample("Bell", 0, 20000, 2000, 19000, 44100), sample("EOS", 0, 0, 0, 0, 0);
+}
+
+/* Instrument zones whose key range, low above high, matches nothing. */
 static void deep(void) {
-    head("Bell", 0), head("EOP", 4000);
-    for (unsigned z = 0; z <= 4000; z++) u16(&pbag, z), u16(&pbag, 0), gen(&pgen, 41, 0);
-    name(&inst, "Bell"), u16(&inst, 0), name(&inst, "EOI"), u16(&inst, 2600);
+    naming(4000, 2600);
     for (unsigned z = 0; z <= 2600; z++) u16(&ibag, 2 * z), u16(&ibag, 0);
     for (unsigned z = 0; z < 2600; z++) gen(&igen, 43, 127), gen(&igen, 53, 0);
     gen(&igen, 0, 0);
-    for (int i = 0; i < 10; i++) u8(&pmod, 0), u8(&imod, 0);
-    sample("Bell", 0, 20000, 2000, 19000, 44100), sample("EOS", 0, 0, 0, 0, 0);
+}
+
+/* Empty instrument zones, and one that matches at their end. */
+static void wide(void) {
+    naming(32, 15900);
+    for (unsigned z = 0; z < 15900; z++) u16(&ibag, 0), u16(&ibag, 0);
+    u16(&ibag, 1), u16(&ibag, 0), gen(&igen, 53, 0), gen(&igen, 0, 0);
 }
 
 static void lists(int hostile, size_t bytes) {
@@ -95,11 +107,12 @@ static void put(const char *path, const Bytes *b) {
 }
 
 int main(int argc, char **argv) {
-    const char *kinds[] = {"bell", "middle", "full", "short", "deep"};
+    const char *kinds[] = {"bell", "middle", "full", "short", "deep", "wide"};
     int kind = 0;
-    while (argc == 4 && kind < 5 && strcmp(argv[1], kinds[kind])) kind++;
-    if (argc != 4 || kind == 5) return fprintf(stderr, "bank bell|middle|full|short|deep IN SF2\n"), 2;
+    while (argc == 4 && kind < 6 && strcmp(argv[1], kinds[kind])) kind++;
+    if (argc != 4 || kind == 6) return fprintf(stderr, "bank bell|middle|full|short|deep|wide IN SF2\n"), 2;
     if (kind == 4) deep();
+    else if (kind == 5) wide();
     else lists(kind == 3, kind == 1 ? 8000 : kind == 2 ? 65536 : 0);
     chunk(&pdta, "phdr", &phdr), chunk(&pdta, "pbag", &pbag), chunk(&pdta, "pmod", &pmod), chunk(&pdta, "pgen", &pgen), chunk(&pdta, "inst", &inst);
     chunk(&pdta, "ibag", &ibag), chunk(&pdta, "imod", &imod), chunk(&pdta, "igen", &igen), chunk(&pdta, "shdr", &shdr);

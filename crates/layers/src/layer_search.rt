@@ -1,8 +1,11 @@
 // The layers of a key: the preset, and the search over zones within zones (01, "From a key to layers").
 ghost use mathlib.Core.Path.{_≡_};
+ghost use Rattle.layers.specs.Barren.{entered};
 ghost use Rattle.layers.specs.Layers.{picked, searched, presetFor, isPreset};
 use crate::Layers;
 use crate::Pair;
+use crate::barren::is_barren;
+use crate::barren::note_barren;
 use crate::ranges::matches;
 use records::Found;
 use records::Parts;
@@ -19,13 +22,32 @@ fn picked(b: &[u8], s: Side, zone: Zone, global: Zone, key: u8, velocity: u8) ->
     false
 }
 
-// The layers of preset h: the search stops at the thirty-third.
+// Whether the search goes into the instrument of a preset zone: the zone is picked, and its instrument is not remembered as barren.
+fn enters(
+    b: &[u8],
+    p: Side,
+    zone: Zone,
+    global: Zone,
+    key: u8,
+    velocity: u8,
+    barren: &[bool],
+) -> bool
+    ensures { λ r. ⌜ r ≡ entered (now (b .entry)) p zone global key velocity (now (barren .entry)) ⌝ }
+{
+    if picked(b, p, zone, global, key, velocity) {
+        return !is_barren(barren, zone.link);
+    }
+    false
+}
+
+// The layers of preset h: the search stops at the thirty-third. An instrument in which nothing matches is gone through once only; a bank has fewer than 3,072.
 pub fn search(b: &[u8], m: Parts, key: u8, velocity: u8, h: u32) -> Layers
     ensures { λ r. ⌜ r ≡ searched (now (b .entry)) m key velocity h ⌝ }
 {
     let p = m.presets;
     let i = m.instruments;
     let mut pairs = [Pair { outer: 0, inner: 0 }; 33];
+    let mut barren = [false; 3072];
     let mut found: usize = 0;
     let from = records::bag_of(b, p, h as usize) as u32;
     let count = records::zone_count(b, p, h) as u32;
@@ -34,7 +56,8 @@ pub fn search(b: &[u8], m: Parts, key: u8, velocity: u8, h: u32) -> Layers
     'search: while n < count {
         let z = from + n;
         let zone = records::zone_at(b, p, z);
-        if picked(b, p, zone, above, key, velocity) {
+        if enters(b, p, zone, above, key, velocity, &barren) {
+            let before = found;
             let k = zone.link as u32;
             let low = records::bag_of(b, i, k as usize) as u32;
             let many = records::zone_count(b, i, k) as u32;
@@ -52,6 +75,7 @@ pub fn search(b: &[u8], m: Parts, key: u8, velocity: u8, h: u32) -> Layers
                 }
                 j = j + 1;
             }
+            note_barren(&mut barren, zone.link, found == before);
         }
         n = n + 1;
     }

@@ -1,4 +1,5 @@
 // From a key to layers, and the voices that they start (01, "From a key to layers").
+mod barren;
 mod layer_search;
 mod ranges;
 mod strike;

@@ -12,6 +12,7 @@ pub fn write(s: &mut Script) {
     range_edges(s);
     local_and_global_ranges(s);
     order_of_layers(s);
+    instruments_that_give_nothing(s);
 }
 
 /// n sounding zones, told apart by their pan.
@@ -324,5 +325,26 @@ fn order_of_layers(s: &mut Script) {
     s.on(0, 60, 100);
     for _ in 0..40 {
         s.go(20);
+    }
+}
+
+/// Instruments that are named by several preset zones, some with no zone that matches the key or the velocity: those give
+/// no layer each time they are named, and the others give theirs each time.
+fn instruments_that_give_nothing(s: &mut Script) {
+    let mut plan = BankPlan { samples: vec![sample(0, 16)], ..BankPlan::default() };
+    let ranges: [&[Gen]; 4] = [&[(43, 0x3b00)], &[(43, 0x7f3c)], &[(44, 0x7f40)], &[(43, 0x0a14)]];
+    for range in ranges {
+        let zones = [-50, 50].map(|pan| zone_to(&[range, &quick(&[(17, pan)])].concat(), 53, 0));
+        plan.instruments.push(zones.to_vec());
+    }
+    for (program, numbers) in [[0, 0, 1, 0, 2, 1, 3, 2], [3, 2, 2, 0, 1, 0, 1, 3]].into_iter().enumerate() {
+        let zones = (0..).zip(numbers).map(|(i, number)| zone_to(&[(17, 40 * i - 140)], 41, number));
+        plan.presets.push(PresetPlan { program: program as u16, bank: 0, zones: zones.collect() });
+    }
+    s.begin_plan("instruments that give nothing", &plan, &noise(16, 39));
+    for program in [0, 1] {
+        for (key, velocity) in [(40, 20), (60, 20), (59, 64), (60, 100)] {
+            strike(s, program, key, velocity, 4);
+        }
     }
 }

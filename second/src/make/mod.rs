@@ -7,7 +7,7 @@
 //!   memory_edge_of_render, listing), layer_cases::counts for 4, layer_cases::which_preset for 3
 //! - each admission rule broken alone, at its edge: admission (chunks, records, indexes, numbers, rates, windows, zones,
 //!   long_banks)
-//! - 0, 1, 32 and 33 layers: layer_cases::counts
+//! - 0, 1, 32 and 33 layers: layer_cases::counts; instruments named again that give none: instruments_that_give_nothing
 //! - global, ignored and repeated zones and generators: layer_cases::zone_kinds; ranges in every place:
 //!   layer_cases::ranges_in_places, range_edges, local_and_global_ranges
 //! - preset values added: value_cases::adding; instruments only: instruments_only; held totals: held_totals, key_times
