@@ -21,11 +21,13 @@ bad-index-requires : tie.Need-bad-index-requires
 bad-index-requires c κs = search needs
 
 -- the first test, of the generator index
-generators : (c : tie.After-bad-index) → c .bad-index .result ≡ badAt (genOf (c .before .before .before .before .before .args .b .now) (c .before .before .before .before .before .args .s) (c .before .before .before .before .before .args .z - 1)) (genOf (c .before .before .before .before .before .args .b .now) (c .before .before .before .before .before .args .s) (c .before .before .before .before .before .args .z)) (c .before .before .before .before .before .args .z) (c .before .before .before .before .before .args .s .nbags) (c .before .before .before .before .before .args .s .ngens)
-generators c =
-    let k = c .before .before .before in
-    let a = k .before .before .args in
-    index-read (genOf (a .b .now) (a .s)) (a .z) (a .s .nbags) (a .s .ngens) (k .less-one .ensures .0) (c .before .before .gen-of .ensures) (c .before .gen-of2 .ensures) (c .bad-index .ensures)
+module _ (c : tie.After-bad-index) where
+  abbrev start : tie.Start
+  start = c .before .before .before .before .before
+
+  generators : c .bad-index .result ≡ badAt (genOf (start .args .b .now) (start .args .s) (start .args .z - 1)) (genOf (start .args .b .now) (start .args .s) (start .args .z)) (start .args .z) (start .args .s .nbags) (start .args .s .ngens)
+  generators =
+      index-read (genOf (start .args .b .now) (start .args .s)) (start .args .z) (start .args .s .nbags) (start .args .s .ngens) (c .before .before .before .less-one .ensures .0) (c .before .before .gen-of .ensures) (c .before .gen-of2 .ensures) (c .bad-index .ensures)
 
 returns : tie.Need-returns
 unfolding badBag
@@ -48,7 +50,7 @@ unfolding badBag
 returns-2 c =
     let k = c .before .before .before in
     let n = k .before .before in
-    let a = n .before .before .before .before .before .args in
+    let a = start n .args in
     let e = index-read (modOf (a .b .now) (a .s)) (a .z) (a .s .nbags) (a .s .nmods) (k .less-one2 .ensures .0) (c .before .before .mod-of .ensures) (c .before .mod-of2 .ensures) (c .bad-index2 .ensures) in
     rw (sym (generators n) ∙ k .before .if1 .left) e
 
