@@ -82,6 +82,7 @@ module _ (c : tie.After-enum-told2) where
 
 parts-of-requires : tie.Need-parts-of-requires
 parts-of-requires c κs = omega (arith, whole-bank (the-bytes c) (chunks-good (whole c)))
+
 -- 4. indexes, the first test that reads the lists
 index-fault-requires : tie.Need-index-fault-requires
 index-fault-requires c κs = tt
