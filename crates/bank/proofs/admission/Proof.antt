@@ -13,7 +13,10 @@ use Rattle.bank.specs.Admission.{longFault, chunkFault, recordsFault, in
 use Rattle.bank.proofs.admission.Statement.{statement}
 use Rattle.bank.proofs.admission.Tie as tie
 
--- a test's answer, where the code's answer is known: the chain of places is long, so each fact is read off once, at the place that gives it
+-- A need of the last tests stands behind a long chain of places, all of which `cc` and `omega` would look at. So each fact is read off once, at
+-- the place that gives it, and named there.
+
+-- a test's answer, where what the code found is known
 answers : {r f x : Found} → r ≡ f → r ≡ x → f ≡ x
 answers e g = sym e ∙ g
 
@@ -21,7 +24,7 @@ answers e g = sym e ∙ g
 answers-of : (test : Parts → Found) {m m' : Parts} {r x : Found} → m ≡ m' → r ≡ test m → r ≡ x → test m' ≡ x
 answers-of test p e g = sym (e ∙ ap test p) ∙ g
 
--- 1. not too long
+-- 1. the bank is not too long, where the code goes on
 module _ (c : tie.Else1) where
   abbrev bytes : List ℕ
   bytes = c .before .before .args .b .now
@@ -50,6 +53,7 @@ returns-2 c =
 enum-told : tie.Need-enum-told
 enum-told c = c .match .keys2
 
+-- no chunk at fault, where the code goes on
 chunks-good : (c : tie.After-enum-told) → chunkFault (bytes (c .before .before .before)) ≡ Nothing
 chunks-good c = answers (c .before .before .chunk-fault .ensures) (c .enum-told .given .1)
 
@@ -70,6 +74,7 @@ returns-3 c =
 enum-told-2 : tie.Need-enum-told-2
 enum-told-2 c = c .match2 .keys2
 
+-- no records at fault, where the code goes on
 module _ (c : tie.After-enum-told2) where
   abbrev whole : tie.After-enum-told
   whole = c .before .before .before
@@ -90,6 +95,7 @@ index-fault-requires c κs = tt
 enum-known-p-3 : tie.Need-enum-known-p-3
 enum-known-p-3 c = c .match3 .keys1
 
+-- the bank and the tests so far, where its lists were found
 module _ (c : tie.After-parts-of) where
   abbrev early : tie.After-enum-told2
   early = c .before
@@ -111,6 +117,7 @@ returns-4 c =
 enum-told-3 : tie.Need-enum-told-3
 enum-told-3 c = c .match3 .keys2
 
+-- no index at fault, where the code goes on
 module _ (c : tie.After-enum-told3) where
   abbrev read : tie.After-parts-of
   read = c .before .before .before
@@ -136,6 +143,7 @@ returns-5 c =
 enum-told-4 : tie.Need-enum-told-4
 enum-told-4 c = c .match4 .keys2
 
+-- no number at fault, where the code goes on
 module _ (c : tie.After-enum-told4) where
   abbrev indexed : tie.After-enum-told3
   indexed = c .before .before .before
@@ -162,6 +170,7 @@ returns-6 c =
 enum-told-5 : tie.Need-enum-told-5
 enum-told-5 c = c .match5 .keys2
 
+-- no rate at fault, where the code goes on
 module _ (c : tie.After-enum-told5) where
   abbrev numbered : tie.After-enum-told4
   numbered = c .before .before .before

@@ -26,6 +26,7 @@ cast-t6 c = search needs
 room : (s : tie.Start) (k : ℕ) → k < 0 + (s .args .m .instruments .nlinks - 1) → s .args .m .samples + 46 * k < 18446744073709551616
 room s k h = omega arith
 
+-- the product alone
 within : (a k : ℕ) → a + 46 * k < 18446744073709551616 → 46 * k < 18446744073709551616
 within a k h = omega arith
 

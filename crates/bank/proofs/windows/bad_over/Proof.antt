@@ -20,7 +20,7 @@ poured-requires c κs = search needs
 good-amounts-requires : tie.Need-good-amounts-requires
 good-amounts-requires c κs = search needs
 
--- a zone that sounds is as good as its window
+-- of a zone that sounds the window counts; said apart, since a rewrite would reach into the zone that is poured too
 sounds : {t x y : Bool} → t ≡ true → x ≡ y → x ≡ (t && y)
 sounds e f = rw e f
 
