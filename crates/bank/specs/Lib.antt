@@ -1,5 +1,6 @@
 pub mod Admission
 pub mod AdmissionLaws
+pub mod IndexLaws
 pub mod OnePass
 pub mod OnePassLaws
 pub mod Rules

@@ -1,11 +1,11 @@
 -- `bank::chunks::bad_chunk` meets its contract.
+use Rattle.arith.specs.Bytes.{u32At}
 use Rattle.records.specs.Chunks.{names, nameAt}
 use Rattle.bank.specs.Admission.{badChunk}
 use lib.ListN.{getD, length}
 use lib.Dec.{eqb, ltb}
-use mathlib.Core.Bool.{true, false}
 use borrow.Author.Tests.{ne-eqb, eq-eqb}
-use mathlib.Core.Path.{_≡_, ap}
+use mathlib.Core.Path.{_≡_, refl, sym, ap, ap₂, _∙_}
 use borrow.Author.Needs.{needs}
 use Rattle.bank.proofs.chunks.bad_chunk.Statement.{statement}
 use Rattle.bank.proofs.chunks.bad_chunk.Tie as tie
@@ -19,13 +19,21 @@ u32-at-requires c κs = search needs
 name-requires : tie.Need-name-requires
 name-requires c κs = search needs
 
+-- what the code compares is the chunk's name and the one in the table
+module _ (c : tie.After-name) where
+  abbrev start : tie.Start
+  start = c .before .before .before .before
+
+  compared : eqb (c .before .u32-at .result) (c .name .result) ≡ eqb (nameAt (start .args .b .now) (start .args .k)) (getD names (start .args .k) 0)
+  unfolding nameAt
+  compared =
+      ap₂ eqb (c .before .u32-at .ensures ∙ ap (u32At (start .args .b .now)) (c .before .before .chunk-at .ensures .0)) (c .name .ensures)
+
 returns : tie.Need-returns
-unfolding badChunk nameAt
+unfolding badChunk
 returns c =
-    let a = c .before .before .before .before .before .args in
-    let e = ne-eqb (c .before .before .u32-at .result) (c .before .name .result) (c .if1 .taken) in
-    let f : eqb (nameAt (a .b .now) (a .k)) (getD names (a .k) 0) ≡ false = cc in
-    simp f
+    let k = c .before in
+    rw (sym (compared k) ∙ ne-eqb (k .before .u32-at .result) (k .name .result) (c .if1 .taken)) refl
 
 add-chunk-at : tie.Need-add-chunk-at
 add-chunk-at c = search needs
@@ -34,12 +42,11 @@ chunk-at-requires-2 : tie.Need-chunk-at-requires-2
 chunk-at-requires-2 c κs = search needs
 
 returns-2 : tie.Need-returns-2
-unfolding badChunk nameAt
+unfolding badChunk
 returns-2 c =
-    let a = c .before .before .before .before .before .before .args in
-    let e = eq-eqb (c .before .before .before .u32-at .result) (c .before .before .name .result) (c .before .if1 .left) in
-    let f : eqb (nameAt (a .b .now) (a .k)) (getD names (a .k) 0) ≡ true = cc in
-    simp f (ap (ltb (length (a .b .now))) (c .chunk-at2 .ensures .0))
+    let k = c .before .before in
+    let same = sym (compared k) ∙ eq-eqb (k .before .u32-at .result) (k .name .result) (c .before .if1 .left) in
+    rw same (ap (ltb (length (start k .args .b .now))) (c .chunk-at2 .ensures .0))
 
 pub bad-chunk-spec : {M : Type 1} → statement M
 bad-chunk-spec =

@@ -1,12 +1,12 @@
 -- `bank::chunks::bad_records` meets its contract.
+use Rattle.arith.specs.Bytes.{u32At}
 use Rattle.records.specs.Chunks.{sizes, bytesIn}
 use Rattle.bank.specs.Admission.{badRecords}
 use lib.ListN.{getD}
-use lib.Dec.{eqb, ltb}
-use Prim.Native.Nat.{_%_}
-use mathlib.Core.Bool.{true, false}
+use lib.Dec.{ltb}
+use Prim.Native.Nat.{ℕ, _+_, _%_}
 use borrow.Author.Tests.{ne-eqb, eq-eqb}
-use mathlib.Core.Path.{_≡_, ap₂}
+use mathlib.Core.Path.{_≡_, refl, ap, ap₂, _∙_}
 use borrow.Author.Needs.{needs}
 use Rattle.bank.proofs.chunks.bad_records.Statement.{statement}
 use Rattle.bank.proofs.chunks.bad_records.Tie as tie
@@ -26,13 +26,19 @@ size-requires c κs = search needs
 rem-if1 : tie.Need-rem-if1
 rem-if1 c = search needs
 
+-- what the code compares with 0 is what is left over of the chunk's bytes
+module _ (c : tie.After-size) where
+  abbrev start : tie.Start
+  start = c .before .before .before .before
+
+  left-over : c .before .u32-at .result % c .size .result ≡ bytesIn (start .args .b .now) (start .args .k) % getD sizes (start .args .k) 0
+  unfolding bytesIn
+  left-over =
+      ap₂ _%_ (c .before .u32-at .ensures ∙ ap (λ (at : ℕ). u32At (start .args .b .now) (at + 4)) (c .before .before .chunk-at .ensures .0)) (c .size .ensures .0)
+
 returns : tie.Need-returns
-unfolding badRecords bytesIn
-returns c =
-    let a = c .before .before .before .before .before .args in
-    let e = ne-eqb (c .before .before .u32-at .result % c .before .size .result) 0 (c .if1 .taken) in
-    let f : eqb (bytesIn (a .b .now) (a .k) % getD sizes (a .k) 0) 0 ≡ false = cc in
-    simp f
+unfolding badRecords
+returns c = rw (← left-over (c .before), ne-eqb (c .before .before .u32-at .result % c .before .size .result) 0 (c .if1 .taken)) refl
 
 records-in-requires : tie.Need-records-in-requires
 records-in-requires c κs = search needs
@@ -41,13 +47,10 @@ least-requires : tie.Need-least-requires
 least-requires c κs = search needs
 
 returns-2 : tie.Need-returns-2
-unfolding badRecords bytesIn
+unfolding badRecords
 returns-2 c =
     let k = c .before .before in
-    let a = k .before .before .before .before .before .args in
-    let e = eq-eqb (k .before .before .u32-at .result % k .before .size .result) 0 (k .if1 .left) in
-    let f : eqb (bytesIn (a .b .now) (a .k) % getD sizes (a .k) 0) 0 ≡ true = cc in
-    simp f (ap₂ ltb (c .before .records-in .ensures) (c .least .ensures))
+    rw (← left-over (k .before), eq-eqb (k .before .before .u32-at .result % k .before .size .result) 0 (k .if1 .left)) (ap₂ ltb (c .before .records-in .ensures) (c .least .ensures))
 
 pub bad-records-spec : {M : Type 1} → statement M
 bad-records-spec =

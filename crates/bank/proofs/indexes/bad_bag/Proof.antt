@@ -1,9 +1,9 @@
 -- `bank::indexes::bad_bag` meets its contract.
-use Rattle.records.specs.Sides.{genOf}
+use Rattle.records.specs.Sides.{genOf, modOf}
 use Prim.Native.Nat.{_-_}
-use mathlib.Core.Bool.{true, false}
-use mathlib.Core.Path.{_≡_}
+use mathlib.Core.Path.{_≡_, refl, sym, _∙_}
 use Rattle.bank.specs.Admission.{badAt, badBag}
+use Rattle.bank.specs.IndexLaws.{index-read}
 use borrow.Author.Needs.{needs}
 use Rattle.bank.proofs.indexes.bad_bag.Statement.{statement}
 use Rattle.bank.proofs.indexes.bad_bag.Tie as tie
@@ -20,12 +20,18 @@ gen-of-requires-2 c κs = search needs
 bad-index-requires : tie.Need-bad-index-requires
 bad-index-requires c κs = search needs
 
+-- the first test, of the generator index
+module _ (c : tie.After-bad-index) where
+  abbrev start : tie.Start
+  start = c .before .before .before .before .before
+
+  generators : c .bad-index .result ≡ badAt (genOf (start .args .b .now) (start .args .s) (start .args .z - 1)) (genOf (start .args .b .now) (start .args .s) (start .args .z)) (start .args .z) (start .args .s .nbags) (start .args .s .ngens)
+  generators =
+      index-read (genOf (start .args .b .now) (start .args .s)) (start .args .z) (start .args .s .nbags) (start .args .s .ngens) (c .before .before .before .less-one .ensures .0) (c .before .before .gen-of .ensures) (c .before .gen-of2 .ensures) (c .bad-index .ensures)
+
 returns : tie.Need-returns
 unfolding badBag
-returns c =
-    let a = c .before .before .before .before .before .before .args in
-    let e : badAt (genOf (a .b .now) (a .s) (a .z - 1)) (genOf (a .b .now) (a .s) (a .z)) (a .z) (a .s .nbags) (a .s .ngens) ≡ true = cc in
-    simp e
+returns c = rw (sym (generators (c .before)) ∙ c .if1 .taken) refl
 
 less-one-requires-2 : tie.Need-less-one-requires-2
 less-one-requires-2 c κs = search needs
@@ -42,9 +48,11 @@ bad-index-requires-2 c κs = search needs
 returns-2 : tie.Need-returns-2
 unfolding badBag
 returns-2 c =
-    let a = c .before .before .before .before .before .before .before .before .before .before .args in
-    let e : badAt (genOf (a .b .now) (a .s) (a .z - 1)) (genOf (a .b .now) (a .s) (a .z)) (a .z) (a .s .nbags) (a .s .ngens) ≡ false = cc in
-    simp e (cc)
+    let k = c .before .before .before in
+    let n = k .before .before in
+    let a = start n .args in
+    let e = index-read (modOf (a .b .now) (a .s)) (a .z) (a .s .nbags) (a .s .nmods) (k .less-one2 .ensures .0) (c .before .before .mod-of .ensures) (c .before .mod-of2 .ensures) (c .bad-index2 .ensures) in
+    rw (sym (generators n) ∙ k .before .if1 .left) e
 
 pub bad-bag-spec : {M : Type 1} → statement M
 bad-bag-spec =

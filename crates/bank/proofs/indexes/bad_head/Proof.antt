@@ -1,5 +1,7 @@
 -- `bank::indexes::bad_head` meets its contract.
 use Rattle.bank.specs.Admission.{badHead}
+use Rattle.records.specs.Sides.{bagOf}
+use Rattle.bank.specs.IndexLaws.{index-read}
 use borrow.Author.Needs.{needs}
 use Rattle.bank.proofs.indexes.bad_head.Statement.{statement}
 use Rattle.bank.proofs.indexes.bad_head.Tie as tie
@@ -18,7 +20,10 @@ bad-index-requires c κs = search needs
 
 returns : tie.Need-returns
 unfolding badHead
-returns c = cc
+returns c =
+    let k = c .before .before .before in
+    let a = k .before .before .args in
+    index-read (bagOf (a .b .now) (a .s)) (a .h) (a .s .nheads) (a .s .nbags) (k .less-one .ensures .0) (c .before .before .bag-of .ensures) (c .before .bag-of2 .ensures) (c .bad-index .ensures)
 
 pub bad-head-spec : {M : Type 1} → statement M
 bad-head-spec =

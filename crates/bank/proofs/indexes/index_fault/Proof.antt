@@ -1,5 +1,7 @@
 -- `bank::indexes::index_fault` meets its contract.
 use Rattle.bank.specs.Admission.{indexFault}
+use Rattle.records.specs.Search.{orElse}
+use mathlib.Core.Path.{ap₂, _∙_}
 use borrow.Author.Needs.{needs}
 use Rattle.bank.proofs.indexes.index_fault.Statement.{statement}
 use Rattle.bank.proofs.indexes.index_fault.Tie as tie
@@ -27,7 +29,11 @@ or-else-requires-3 c κs = search needs
 
 returns : tie.Need-returns
 unfolding indexFault
-returns c = cc
+returns c =
+    let i = c .before in
+    let p = i .before .before .before in
+    c .or-else3 .ensures
+    ∙ ap₂ orElse (p .or-else .ensures ∙ ap₂ orElse (p .before .before .head-fault .ensures) (p .before .bag-fault .ensures)) (i .or-else2 .ensures ∙ ap₂ orElse (i .before .before .head-fault2 .ensures) (i .before .bag-fault2 .ensures))
 
 pub index-fault-spec : {M : Type 1} → statement M
 index-fault-spec =

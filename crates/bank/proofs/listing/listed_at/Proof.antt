@@ -1,13 +1,15 @@
 -- `bank::listing::listed_at` meets its contract.
 use mathlib.Core.Bool.{true, false}
-use Prim.Native.Nat.{_-_, _≤_, _<_}
+use Prim.Native.Nat.{ℕ, _+_, _-_, _≤_, _<_}
 use Rattle.bank.specs.Admission.{admitted}
 use borrow.Author.Needs.{needs}
 use borrow.Author.Tests.{lt-ltb, le-ltb}
-use mathlib.Core.Path.{_≡_, sym, _∙_}
+use mathlib.Core.Path.{_≡_, refl, sym, ap, ap₂, _∙_}
 use Rattle.bank.specs.AdmittedLaws.{admitted-room}
 use Rattle.bank.specs.Listing.{listed}
-use Rattle.records.specs.Sides.{partsOf}
+use Rattle.bank.specs.declared.Listed.the-variants.{Row}
+use Rattle.records.specs.Sides.{partsOf, programOf, bankOf}
+use Rattle.records.specs.declared.Parts.{Parts}
 use Rattle.bank.proofs.listing.listed_at.Statement.{statement}
 use Rattle.bank.proofs.listing.listed_at.Tie as tie
 
@@ -38,7 +40,9 @@ returns c =
     let yes : admitted (a .b .now) ≡ true = sym (m .before .before .admitted .ensures) ∙ m .before .if1 .taken in
     let e : t .before .less-one .result ≡ partsOf (a .b .now) .presets .nheads - 1 = rw (m .parts-of .ensures) at (t .before .less-one .ensures .0) in
     let low : a .place < partsOf (a .b .now) .presets .nheads - 1 = rw e at (t .if2 .taken) in
-    simp (yes, lt-ltb _ _ low) (cc)
+    let program = c .before .program-of .ensures ∙ ap (λ (x : Parts). programOf (a .b .now) x (a .place)) (m .parts-of .ensures) in
+    let bank = c .bank-of .ensures ∙ ap (λ (x : Parts). bankOf (a .b .now) x (a .place)) (m .parts-of .ensures) in
+    rw (yes, lt-ltb _ _ low) (ap₂ (λ (x y : ℕ). Row x y (a .place + 1)) program bank)
 
 returns-2 : tie.Need-returns-2
 unfolding listed
@@ -48,13 +52,13 @@ returns-2 c =
     let yes : admitted (a .b .now) ≡ true = sym (m .before .before .admitted .ensures) ∙ m .before .if1 .taken in
     let e : c .before .less-one .result ≡ partsOf (a .b .now) .presets .nheads - 1 = rw (m .parts-of .ensures) at (c .before .less-one .ensures .0) in
     let high : partsOf (a .b .now) .presets .nheads - 1 ≤ a .place = rw e at (c .if2 .left) in
-    simp (yes, le-ltb _ _ high)
+    rw (yes, le-ltb _ _ high) refl
 
 returns-3 : tie.Need-returns-3
 unfolding listed
 returns-3 c =
     let no : admitted (c .before .before .before .args .b .now) ≡ false = sym (c .before .admitted .ensures) ∙ c .if1 .left in
-    simp no
+    rw no refl
 
 pub listed-at-spec : {M : Type 1} → statement M
 listed-at-spec =

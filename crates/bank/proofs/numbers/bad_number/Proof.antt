@@ -1,4 +1,8 @@
 -- `bank::numbers::bad_number` meets its contract.
+use mathlib.Core.Bool.{not}
+use mathlib.Core.Path.{refl, ap}
+use Prim.Native.Nat.{ℕ}
+use lib.Dec.{ltb}
 use Rattle.bank.specs.Admission.{badNumber}
 use borrow.Author.Needs.{needs}
 use Rattle.bank.proofs.numbers.bad_number.Statement.{statement}
@@ -17,12 +21,12 @@ returns : tie.Need-returns
 unfolding badNumber
 returns c =
     let k = c .before .before in
-    let e = rw (k .before .zone-at .ensures) at (k .if1 .taken) in
-    simp e (cc)
+    let zone = k .before .zone-at .result in
+    rw (← k .before .zone-at .ensures, k .if1 .taken) (ap (λ (limit : ℕ). not (ltb (zone .link) limit)) (c .less-one .ensures .0))
 
 returns-2 : tie.Need-returns-2
 unfolding badNumber
-returns-2 c = simp (rw (c .before .zone-at .ensures) at (c .if1 .left))
+returns-2 c = rw (← c .before .zone-at .ensures, c .if1 .left) refl
 
 pub bad-number-spec : {M : Type 1} → statement M
 bad-number-spec =

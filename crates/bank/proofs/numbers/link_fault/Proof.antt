@@ -1,15 +1,13 @@
 -- `bank::numbers::link_fault` meets its contract.
 use borrow.Author.Needs.{needs}
-use mathlib.Core.Path.{_≡_, sym}
+use mathlib.Core.Path.{_≡_, sym, _∙_}
 use native.Mathlib.Omega.{arith}
 use Prim.Native.Nat.{_-_, _≤_}
 use Rattle.bank.specs.Admission.{badNumber, zoneLinkAt, linkFault}
-use Rattle.records.specs.Search.{first, placed}
 use Rattle.records.specs.SearchLaws.{placed-none}
-use Rattle.records.specs.Sides.{bagOf}
 use Rattle.records.specs.ZoneLaws.{below-none, below-next, zone-placed, none-found}
-use Rattle.records.specs.Zones.{zoneCount, zoneBelow}
-use Rattle.records.specs.declared.Found.the-variants.{Nothing, At}
+use Rattle.records.specs.Zones.{zoneBelow}
+use Rattle.records.specs.declared.Found.the-variants.{Nothing}
 use Rattle.bank.proofs.numbers.link_fault.Statement.{statement}
 use Rattle.bank.proofs.numbers.link_fault.Tie as tie
 
@@ -32,7 +30,7 @@ number-in-requires : tie.Need-number-in-requires Inv-loop μ-loop
 number-in-requires c κs = search needs
 
 enum-known-found : tie.Need-enum-known-found Inv-loop μ-loop
-enum-known-found c = search needs
+enum-known-found c = c .match .keys1
 
 returns : tie.Need-returns Inv-loop μ-loop
 unfolding linkFault
@@ -40,11 +38,11 @@ returns c =
     let l = c .before .before .before .before .before in
     let a = l .before .before .before .args in
     let q = c .before .found .given .0 .0 in
-    let found : placed (zoneLinkAt (a .b .now) (a .s)) (first (badNumber (a .b .now) (a .s) (l .loop .h)) (bagOf (a .b .now) (a .s) (l .loop .h)) (zoneCount (a .b .now) (a .s) (l .loop .h))) ≡ At q = cc in
-    sym (zone-placed (a .b .now) (a .s) (badNumber (a .b .now) (a .s)) (zoneLinkAt (a .b .now) (a .s)) (l .loop .h) q (l .loop .inv .0) found (omega arith))
+    let found = sym (c .before .before .before .number-in .ensures) ∙ c .before .found .given .1 in
+    sym (zone-placed (a .b .now) (a .s) (badNumber (a .b .now) (a .s)) (zoneLinkAt (a .b .now) (a .s)) (l .loop .h) q (l .loop .inv .0) found (rw (l .before .less-one .ensures .0) at (c .before .before .before .before .loop-test .taken)))
 
 enum-told : tie.Need-enum-told Inv-loop μ-loop
-enum-told c = search needs
+enum-told c = c .match .keys2
 
 add-h : tie.Need-add-h Inv-loop μ-loop
 add-h c = search needs
@@ -56,7 +54,7 @@ loop-again : tie.Need-loop-again Inv-loop μ-loop
 loop-again c =
     let l = c .before .before .before .before in
     let a = l .before .before .before .args in
-    let none : placed (zoneLinkAt (a .b .now) (a .s)) (first (badNumber (a .b .now) (a .s) (l .loop .h)) (bagOf (a .b .now) (a .s) (l .loop .h)) (zoneCount (a .b .now) (a .s) (l .loop .h))) ≡ Nothing = cc in
+    let none = sym (c .before .before .number-in .ensures) ∙ c .enum-told .given .1 in
     (below-next (a .b .now) (a .s) (badNumber (a .b .now) (a .s)) (l .loop .h) (l .loop .inv .0) (placed-none (zoneLinkAt (a .b .now) (a .s)) _ none), search needs)
 
 returns-2 : tie.Need-returns-2 Inv-loop μ-loop

@@ -1,5 +1,7 @@
 -- `bank::numbers::number_fault` meets its contract.
 use Rattle.bank.specs.Admission.{numberFault}
+use Rattle.records.specs.Search.{orElse}
+use mathlib.Core.Path.{ap₂, _∙_}
 use borrow.Author.Needs.{needs}
 use Rattle.bank.proofs.numbers.number_fault.Statement.{statement}
 use Rattle.bank.proofs.numbers.number_fault.Tie as tie
@@ -15,7 +17,7 @@ or-else-requires c κs = search needs
 
 returns : tie.Need-returns
 unfolding numberFault
-returns c = cc
+returns c = c .or-else .ensures ∙ ap₂ orElse (c .before .before .link-fault .ensures) (c .before .link-fault2 .ensures)
 
 pub number-fault-spec : {M : Type 1} → statement M
 number-fault-spec =

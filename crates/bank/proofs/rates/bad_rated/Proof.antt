@@ -1,4 +1,9 @@
 -- `bank::rates::bad_rated` meets its contract.
+use mathlib.Core.Bool.{Bool, not, _&&_}
+use mathlib.Core.Path.{ap, ap₂, _∙_}
+use Prim.Native.Nat.{ℕ}
+use lib.Dec.{ltb}
+use Rattle.records.specs.Whole.{between}
 use Rattle.bank.specs.OnePass.{badRated}
 use borrow.Author.Needs.{needs}
 use Rattle.bank.proofs.rates.bad_rated.Statement.{statement}
@@ -30,7 +35,15 @@ both-requires-2 c κs = search needs
 
 returns : tie.Need-returns
 unfolding badRated
-returns c = cc
+returns c =
+    let g = c .before .before in
+    let l = g .before .before .before in
+    let z = l .before .before in
+    let a = z .before .before .before .args in
+    let zone = z .zone-at .result in
+    let known = c .before .both .ensures ∙ ap (λ (limit : ℕ). zone .sounding && ltb (zone .link) limit) (l .less-one .ensures .0) in
+    let good = g .good-rate .ensures ∙ ap (between 400 50000) (g .before .rate-of .ensures) in
+    rw (← z .zone-at .ensures) (c .both2 .ensures ∙ ap₂ (λ (x y : Bool). x && not y) known good)
 
 pub bad-rated-spec : {M : Type 1} → statement M
 bad-rated-spec =

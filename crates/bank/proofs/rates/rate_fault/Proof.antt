@@ -1,7 +1,7 @@
 -- `bank::rates::rate_fault` meets its contract.
-use mathlib.Core.Path.{_≡_}
+use mathlib.Core.Path.{_≡_, refl, sym, _∙_}
 use native.Mathlib.Omega.{arith}
-use Prim.Native.Nat.{_-_}
+use Prim.Native.Nat.{ℕ, _+_, _-_, _*_, _<_}
 use Rattle.bank.specs.Admission.{badRate, rateFault}
 use Rattle.records.specs.Search.{first}
 use Rattle.records.specs.SearchLaws.{first-is}
@@ -11,46 +11,52 @@ use Rattle.bank.proofs.rates.rate_fault.Statement.{statement}
 use Rattle.bank.proofs.rates.rate_fault.Tie as tie
 
 lowest-bad-requires : tie.Need-lowest-bad-requires
-lowest-bad-requires c κs = search needs
+lowest-bad-requires c κs = tt
 
 enum-told : tie.Need-enum-told
-enum-told c = search needs
+enum-told c = c .match .keys1
 
 enum-known-k : tie.Need-enum-known-k
-enum-known-k c = search needs
+enum-known-k c = c .match .keys2
 
 cast-t6 : tie.Need-cast-t6
 cast-t6 c = search needs
 
+-- a sample's header stands within 64 bits: shown where only the parameters are in sight, as omega looks at all that is
+room : (s : tie.Start) (k : ℕ) → k < 0 + (s .args .m .instruments .nlinks - 1) → s .args .m .samples + 46 * k < 18446744073709551616
+room s k h = omega arith
+
+-- the product alone
+within : (a k : ℕ) → a + 46 * k < 18446744073709551616 → 46 * k < 18446744073709551616
+within a k h = omega arith
+
+-- the lowest sample at fault, as the code found it
+module _ (c : tie.After-struct-known) where
+  abbrev start : tie.Start
+  start = c .before .before .before .before .before .before
+
+  abbrev sample : ℕ
+  sample = c .before .before .k .given .0 .0
+
+  found : first (badRate (start .args .b .now) (start .args .m)) 0 (start .args .m .instruments .nlinks - 1) ≡ At sample
+  found = sym (c .before .before .before .before .lowest-bad .ensures) ∙ c .before .before .k .given .1
+
+  low : start .args .m .samples + 46 * sample < 18446744073709551616
+  low = room start sample (first-is (badRate (start .args .b .now) (start .args .m)) 0 (start .args .m .instruments .nlinks - 1) sample found .high)
+
 mul-t7 : tie.Need-mul-t7
-mul-t7 c =
-    let a = c .before .before .before .before .before .before .args in
-    let k = c .before .before .k .given .0 .0 in
-    let e : first (badRate (a .b .now) (a .m)) 0 (a .m .instruments .nlinks - 1) ≡ At k = cc in
-    let h = first-is (badRate (a .b .now) (a .m)) 0 (a .m .instruments .nlinks - 1) k e in
-    record { fits = omega arith }
+mul-t7 c = record { fits = within (start c .args .m .samples) (sample c) (low c) }
 
 add-t8 : tie.Need-add-t8
-add-t8 c =
-    let a = c .before .before .before .before .before .before .args in
-    let k = c .before .before .k .given .0 .0 in
-    let e : first (badRate (a .b .now) (a .m)) 0 (a .m .instruments .nlinks - 1) ≡ At k = cc in
-    let h = first-is (badRate (a .b .now) (a .m)) 0 (a .m .instruments .nlinks - 1) k e in
-    record { fits = omega arith }
+add-t8 c = record { fits = low c }
 
 returns : tie.Need-returns
 unfolding rateFault
-returns c =
-    let a = c .before .before .before .before .args in
-    let e : first (badRate (a .b .now) (a .m)) 0 (a .m .instruments .nlinks - 1) ≡ Nothing = cc in
-    simp e
+returns c = rw (sym (c .before .before .lowest-bad .ensures) ∙ c .enum-told .given .1) refl
 
 returns-2 : tie.Need-returns-2
 unfolding rateFault
-returns-2 c =
-    let a = c .before .before .before .before .before .before .args in
-    let e : first (badRate (a .b .now) (a .m)) 0 (a .m .instruments .nlinks - 1) ≡ At (c .before .before .k .given .0 .0) = cc in
-    simp e
+returns-2 c = rw (found c) refl
 
 pub rate-fault-spec : {M : Type 1} → statement M
 rate-fault-spec =

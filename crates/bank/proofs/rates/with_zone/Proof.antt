@@ -1,5 +1,7 @@
 -- `bank::rates::with_zone` meets its contract.
-use Rattle.bank.specs.OnePass.{withZone}
+use mathlib.Core.Path.{refl, sym, ap, _∙_}
+use Rattle.records.specs.declared.Zone.{Zone}
+use Rattle.bank.specs.OnePass.{lower, withZone}
 use borrow.Author.Needs.{needs}
 use Rattle.bank.proofs.rates.with_zone.Statement.{statement}
 use Rattle.bank.proofs.rates.with_zone.Tie as tie
@@ -19,13 +21,14 @@ lower-requires c κs = search needs
 returns : tie.Need-returns
 unfolding withZone
 returns c =
-    let k = c .before .before .before .before in
-    let e = rw (k .before .bad-rated .ensures) at (k .if1 .taken) in
-    simp e (cc)
+    let z = c .before .before in
+    let k = z .before .before in
+    let a = k .before .before .before .args in
+    rw (sym (k .before .bad-rated .ensures) ∙ k .if1 .taken) (c .lower .ensures ∙ ap (λ (zone : Zone). lower (a .low) (zone .link)) (z .zone-at .ensures))
 
 returns-2 : tie.Need-returns-2
 unfolding withZone
-returns-2 c = simp (rw (c .before .bad-rated .ensures) at (c .if1 .left))
+returns-2 c = rw (sym (c .before .bad-rated .ensures) ∙ c .if1 .left) refl
 
 pub with-zone-spec : {M : Type 1} → statement M
 with-zone-spec =

@@ -1,9 +1,14 @@
 -- `bank::windows::good_amounts` meets its contract.
 use borrow.Author.Needs.{needs, sfits-of}
-use mathlib.Core.Path.{_∙_}
+use mathlib.Core.Bool.{Bool}
+use mathlib.Core.Path.{_≡_, ap, ap₂, _∙_}
+use Prim.Native.Nat.{ℕ, _+_}
+use lib.IntN.{ℤ}
 use mir.Facts.{toZ-ofZ}
-use mir.Syntax.{w64}
-use mir.Val.{SFits}
+use Rattle.arith.specs.Bytes.{u32At}
+use Rattle.records.specs.Sides.{sampleAt}
+use Rattle.records.specs.Whole.{modZ}
+use Rattle.records.specs.Window.{shifted, goodPlaces, loops}
 use Rattle.bank.specs.OnePass.{movedBy, goodAmounts}
 use Rattle.bank.proofs.windows.good_amounts.Statement.{statement}
 use Rattle.bank.proofs.windows.good_amounts.Tie as tie
@@ -53,6 +58,14 @@ looping-requires c κs = search needs
 good-places-requires : tie.Need-good-places-requires
 good-places-requires c κs = search needs
 
+-- a place as the code has it, read back from its bits and those of its two amounts
+place : (p : ℕ) {fine coarse f g r s : ℤ} → f ≡ fine → g ≡ coarse → r ≡ shifted p f g → s ≡ r → s ≡ shifted p fine coarse
+place p f g e back = back ∙ e ∙ ap₂ (shifted p) f g
+
+-- places and mode replaced by equal ones
+tested : {a b c d w x y z : ℤ} {l m r : Bool} → r ≡ goodPlaces a b c d l → a ≡ w → b ≡ x → c ≡ y → d ≡ z → l ≡ m → r ≡ goodPlaces w x y z m
+tested e p q s t u = cc
+
 returns : tie.Need-returns
 unfolding goodAmounts movedBy
 returns c =
@@ -61,16 +74,13 @@ returns c =
     let k3 = k4 .before .before .before in
     let k2 = k3 .before .before .before in
     let k1 = k2 .before .before .before in
-    let e1 = rw (toZ-ofZ (sfits-of (k1 .before .before .moved-by-arg .given)), toZ-ofZ (sfits-of (k1 .before .moved-by-arg2 .given))) at (k1 .moved-by .ensures) in
-    let e2 = rw (toZ-ofZ (sfits-of (k2 .before .before .moved-by-arg3 .given)), toZ-ofZ (sfits-of (k2 .before .moved-by-arg4 .given))) at (k2 .moved-by2 .ensures) in
-    let e3 = rw (toZ-ofZ (sfits-of (k3 .before .before .moved-by-arg5 .given)), toZ-ofZ (sfits-of (k3 .before .moved-by-arg6 .given))) at (k3 .moved-by3 .ensures) in
-    let e4 = rw (toZ-ofZ (sfits-of (k4 .before .before .moved-by-arg7 .given)), toZ-ofZ (sfits-of (k4 .before .moved-by-arg8 .given))) at (k4 .moved-by4 .ensures) in
-    let e5 = rw (toZ-ofZ (sfits-of (last .looping-arg .given))) at (c .before .looping .ensures) in
-    let h1 : SFits w64 (k1 .moved-by .result) = sfits-of (k1 .moved-by .ok) in
-    let h2 : SFits w64 (k2 .moved-by2 .result) = sfits-of (k2 .moved-by2 .ok) in
-    let h3 : SFits w64 (k3 .moved-by3 .result) = sfits-of (k3 .moved-by3 .ok) in
-    let h4 : SFits w64 (k4 .moved-by4 .result) = sfits-of (k4 .moved-by4 .ok) in
-    rw (toZ-ofZ h1, toZ-ofZ h2, toZ-ofZ h3, toZ-ofZ h4) at (c .good-places .ensures) ∙ simp (e1, e2, e3, e4, e5)
+    let a = k1 .before .before .before .before .args in
+    let start = place (u32At (a .b .now) (sampleAt (a .m) (a .k) + 20)) (toZ-ofZ (sfits-of (k1 .before .before .moved-by-arg .given))) (toZ-ofZ (sfits-of (k1 .before .moved-by-arg2 .given))) (k1 .moved-by .ensures) (toZ-ofZ (sfits-of (k1 .moved-by .ok))) in
+    let end = place (u32At (a .b .now) (sampleAt (a .m) (a .k) + 24)) (toZ-ofZ (sfits-of (k2 .before .before .moved-by-arg3 .given))) (toZ-ofZ (sfits-of (k2 .before .moved-by-arg4 .given))) (k2 .moved-by2 .ensures) (toZ-ofZ (sfits-of (k2 .moved-by2 .ok))) in
+    let loop-start = place (u32At (a .b .now) (sampleAt (a .m) (a .k) + 28)) (toZ-ofZ (sfits-of (k3 .before .before .moved-by-arg5 .given))) (toZ-ofZ (sfits-of (k3 .before .moved-by-arg6 .given))) (k3 .moved-by3 .ensures) (toZ-ofZ (sfits-of (k3 .moved-by3 .ok))) in
+    let loop-end = place (u32At (a .b .now) (sampleAt (a .m) (a .k) + 32)) (toZ-ofZ (sfits-of (k4 .before .before .moved-by-arg7 .given))) (toZ-ofZ (sfits-of (k4 .before .moved-by-arg8 .given))) (k4 .moved-by4 .ensures) (toZ-ofZ (sfits-of (k4 .moved-by4 .ok))) in
+    let mode = c .before .looping .ensures ∙ ap (λ (amount : ℤ). loops (modZ amount 4)) (toZ-ofZ (sfits-of (last .looping-arg .given))) in
+    tested (c .good-places .ensures) start end loop-start loop-end mode
 
 pub good-amounts-spec : {M : Type 1} → statement M
 good-amounts-spec =
