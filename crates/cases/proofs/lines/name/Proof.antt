@@ -3,8 +3,8 @@ use mathlib.Core.Path.{sym}
 use native.Mathlib.Omega.{arith}
 use lib.Seq.{length-take-le}
 use borrow.Author.Needs.{needs}
-use Rattle.drive.proofs.naming.name.Statement.{statement}
-use Rattle.drive.proofs.naming.name.Tie as tie
+use Rattle.cases.proofs.lines.name.Statement.{statement}
+use Rattle.cases.proofs.lines.name.Tie as tie
 
 next-byte-requires : tie.Need-next-byte-requires
 next-byte-requires c κs = search needs
@@ -17,9 +17,6 @@ array-borrow-prefix-bytes c = search needs
 
 slice-aggregate-write-name : tie.Need-slice-aggregate-write-name
 slice-aggregate-write-name c = sym (length-take-le _ _ (omega arith))
-
-moved-requires : tie.Need-moved-requires
-moved-requires c κs = search needs
 
 write-name-requires : tie.Need-write-name-requires
 write-name-requires c κs = search needs
@@ -35,6 +32,5 @@ name-spec =
     cast-n
     array-borrow-prefix-bytes
     slice-aggregate-write-name
-    moved-requires
     write-name-requires
     returns)
