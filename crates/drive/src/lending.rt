@@ -1,142 +1,102 @@
-// The commands that say what is lent: a bank, a RAM, a ROM and how much of each; and a fresh engine.
-use crate::Memory;
+// The commands that say what is lent: a bank, a RAM, a ROM and how much of each.
+use crate::Lent;
 use crate::Run;
 use cases::Place;
 
-// A memory that was read, and the place behind it.
-pub struct Stored {
-    pub memory: Memory,
-    pub place: Place,
-}
-
-// The first n bytes of what there is, at most all of it.
-pub fn first_bytes(whole: &[u8], n: usize) -> &[u8] {
-    if n < whole.len() {
-        return &whole[..n];
-    }
-    whole
-}
-
-// The first n samples of what there is, at most all of it.
-pub fn first_samples(whole: &[i16], n: usize) -> &[i16] {
-    if n < whole.len() {
-        return &whole[..n];
-    }
-    whole
-}
-
-// A place that marks a bad command.
-pub fn spoilt(place: Place) -> Place {
-    Place {
-        at: place.at,
-        end: place.end,
-        cut: true,
-    }
-}
-
-// The run at another place of the case.
-pub fn moved(run: Run, place: Place) -> Run {
-    let mut next = run;
-    next.place = place;
-    next
+// What is lent behind a command, and the place behind it.
+struct Loan {
+    lent: Lent,
+    place: Place,
 }
 
 // B: a bank.
-pub fn lend_bank(bank: &mut [u8], room: &mut [u8; 65536], run: Run) -> Run {
-    let from = run.place;
-    let size = cases::next_u32(room, from);
-    let place = size.place;
-    let n = size.value as usize;
-    if bank.len() < n {
-        return moved(run, spoilt(place));
-    }
-    let behind = cases::next_bytes(room, place, &mut bank[..n]);
-    let mut next = moved(run, behind);
-    next.bank = n;
-    next
+fn lend_bank(bank: &mut [u8; 66000], room: &mut [u8; 65536], from: Place, lent: Lent) -> Loan {
+    let held = cases::next_bank(room, from, bank);
+    let place = held.place;
+    let mut next = lent;
+    next.bank = held.count;
+    Loan { lent: next, place }
 }
 
-// A memory of n samples, all of them lent.
-fn whole(n: usize) -> Memory {
-    Memory { held: n, lent: n }
+// M: a RAM, all of it lent.
+fn lend_ram(ram: &mut [i16; 65536], room: &mut [u8; 65536], from: Place, lent: Lent) -> Loan {
+    let held = cases::next_memory(room, from, ram);
+    let place = held.place;
+    let mut next = lent;
+    next.ram = held.count;
+    next.ram_held = held.count;
+    Loan { lent: next, place }
 }
 
-// A memory's samples.
-fn store(samples: &mut [i16], room: &mut [u8; 65536], from: Place) -> Stored {
-    let size = cases::next_u32(room, from);
-    let place = size.place;
-    let n = size.value as usize;
-    if samples.len() < n {
-        return Stored {
-            memory: whole(0),
-            place: spoilt(place),
-        };
-    }
-    let behind = cases::next_samples(room, place, &mut samples[..n]);
-    Stored {
-        memory: whole(n),
-        place: behind,
-    }
+// O: a ROM, all of it lent.
+fn lend_rom(rom: &mut [i16; 65536], room: &mut [u8; 65536], from: Place, lent: Lent) -> Loan {
+    let held = cases::next_memory(room, from, rom);
+    let place = held.place;
+    let mut next = lent;
+    next.rom = held.count;
+    next.rom_held = held.count;
+    Loan { lent: next, place }
 }
 
-// M: a RAM.
-pub fn lend_ram(ram: &mut [i16], room: &mut [u8; 65536], run: Run) -> Run {
-    let from = run.place;
-    let s = store(ram, room, from);
-    let mut next = moved(run, s.place);
-    let m = s.memory;
-    next.ram = m;
-    next
-}
-
-// O: a ROM.
-pub fn lend_rom(rom: &mut [i16], room: &mut [u8; 65536], run: Run) -> Run {
-    let from = run.place;
-    let s = store(rom, room, from);
-    let mut next = moved(run, s.place);
-    let m = s.memory;
-    next.rom = m;
-    next
-}
-
-// Only the first n samples are lent, at most all of them.
-fn cut_to(m: Memory, n: usize) -> Memory {
-    if n < m.held {
-        return Memory {
-            held: m.held,
-            lent: n,
-        };
-    }
-    whole(m.held)
+// So many samples, at most all that a memory holds.
+fn least(n: u32, held: usize) -> usize {
+    let wanted = n as usize;
+    if wanted < held { wanted } else { held }
 }
 
 // m: only the first samples of the RAM.
-pub fn cut_ram(room: &mut [u8; 65536], run: Run) -> Run {
-    let from = run.place;
+fn cut_ram(room: &mut [u8; 65536], from: Place, lent: Lent) -> Loan {
     let size = cases::next_u32(room, from);
-    let mut next = moved(run, size.place);
-    let m = run.ram;
-    next.ram = cut_to(m, size.value as usize);
-    next
+    let place = size.place;
+    let mut next = lent;
+    next.ram = least(size.value, lent.ram_held);
+    Loan { lent: next, place }
 }
 
 // x: only the first samples of the ROM.
-pub fn cut_rom(room: &mut [u8; 65536], run: Run) -> Run {
-    let from = run.place;
+fn cut_rom(room: &mut [u8; 65536], from: Place, lent: Lent) -> Loan {
     let size = cases::next_u32(room, from);
-    let mut next = moved(run, size.place);
-    let m = run.rom;
-    next.rom = cut_to(m, size.value as usize);
-    next
+    let place = size.place;
+    let mut next = lent;
+    next.rom = least(size.value, lent.rom_held);
+    Loan { lent: next, place }
 }
 
-// F: a fresh engine, its clock at a value.
-pub fn fresh_at(room: &mut [u8; 65536], run: Run) -> Run {
+// The command behind its letter.
+fn next_loan(
+    bank: &mut [u8; 66000],
+    ram: &mut [i16; 65536],
+    rom: &mut [i16; 65536],
+    room: &mut [u8; 65536],
+    letter: u8,
+    from: Place,
+    lent: Lent,
+) -> Loan {
+    match letter {
+        b'B' => lend_bank(bank, room, from, lent),
+        b'M' => lend_ram(ram, room, from, lent),
+        b'O' => lend_rom(rom, room, from, lent),
+        b'm' => cut_ram(room, from, lent),
+        _ => cut_rom(room, from, lent),
+    }
+}
+
+// B, M, O, m, x: the run with what is lent from here on.
+pub fn lend(
+    bank: &mut [u8; 66000],
+    ram: &mut [i16; 65536],
+    rom: &mut [i16; 65536],
+    room: &mut [u8; 65536],
+    letter: u8,
+    run: Run,
+) -> Run {
     let from = run.place;
-    let clock = cases::next_u32(room, from);
-    let mut next = moved(run, clock.place);
-    let mut e = engine::fresh();
-    e.clock = clock.value;
-    next.engine = e;
+    let before = run.lent;
+    let l = next_loan(bank, ram, rom, room, letter, from, before);
+    let place = l.place;
+    let lent = l.lent;
+    let mut next = run;
+    next.place = place;
+    next.lent = lent;
     next
 }

@@ -1,44 +1,80 @@
 // Plays a case file from standard input and writes its trace to standard output.
-mod calls; // calls.rt: the commands that are calls
-mod lending; // lending.rt: the commands that say what is lent, a fresh engine
-mod naming; // naming.rt: a case's name
-mod trace; // trace.rt: the lines of a trace
+mod asking; // asking.rt: the calls that leave the state as it is
+mod calls; // calls.rt: the calls that answer a count
+mod lending; // lending.rt: the commands that say what is lent
+mod rendering; // rendering.rt: render
+mod trace; // trace.rt: the state at a line's end
 
 use cases::Place;
 use engine::Engine;
 
-// A sample memory: how many samples it has, and how many of them are lent.
-pub struct Memory {
-    pub held: usize,
-    pub lent: usize,
+// How many bytes of the bank are lent and how many samples of each memory; and how many samples each memory holds.
+pub struct Lent {
+    pub bank: usize,
+    pub ram: usize,
+    pub rom: usize,
+    pub ram_held: usize,
+    pub rom_held: usize,
 }
 
 // How far a case is played.
 pub struct Run {
     pub engine: Engine,
-    // what is still to be read of the case; cut marks a bad command
+    pub lent: Lent,
+    // what is still to be read of the case; cut marks its end, or a bad command
     pub place: Place,
     // how much of the trace is to be written yet
     pub at: usize,
-    // how many bytes of the bank are lent
-    pub bank: usize,
-    pub ram: Memory,
-    pub rom: Memory,
-    pub over: bool,
 }
 
 // Nothing is read, nothing lent.
 fn begin() -> Run {
-    let none = Memory { held: 0, lent: 0 };
+    let none = Lent {
+        bank: 0,
+        ram: 0,
+        rom: 0,
+        ram_held: 0,
+        rom_held: 0,
+    };
     Run {
         engine: engine::fresh(),
+        lent: none,
         place: cases::start(),
         at: 0,
-        bank: 0,
-        ram: none,
-        rom: none,
-        over: false,
     }
+}
+
+// The run at another place of the case.
+fn moved(run: Run, place: Place) -> Run {
+    let mut next = run;
+    next.place = place;
+    next
+}
+
+// A letter that nobody knows.
+fn unknown(run: Run) -> Run {
+    let place = run.place;
+    moved(run, cases::spoilt(place))
+}
+
+// t: the case's name.
+fn name(room: &mut [u8; 65536], text: &mut [u8; 65536], run: Run) -> Run {
+    let from = run.place;
+    let line = cases::name(room, text, from, run.at);
+    let mut next = moved(run, line.place);
+    next.at = line.at;
+    next
+}
+
+// F: a fresh engine, its clock at a value.
+fn fresh_at(room: &mut [u8; 65536], run: Run) -> Run {
+    let from = run.place;
+    let clock = cases::next_u32(room, from);
+    let mut next = moved(run, clock.place);
+    let mut e = engine::fresh();
+    e.clock = clock.value;
+    next.engine = e;
+    next
 }
 
 // The command behind its letter. A letter that nobody knows is a bad command.
@@ -53,23 +89,13 @@ fn obey(
     run: Run,
 ) -> Run {
     match letter {
-        b'B' => lending::lend_bank(bank, room, run),
-        b'M' => lending::lend_ram(ram, room, run),
-        b'O' => lending::lend_rom(rom, room, run),
-        b'm' => lending::cut_ram(room, run),
-        b'x' => lending::cut_rom(room, run),
-        b'F' => lending::fresh_at(room, run),
-        b't' => naming::name(room, text, run),
-        b'a' => calls::admission(bank, text, run),
-        b'l' => calls::listing(bank, room, text, run),
-        b'n' => calls::note_on(bank, ram, rom, room, text, run),
-        b'o' => calls::note_off(room, text, run),
-        b'c' => calls::control_change(room, text, run),
-        b'p' => calls::program_change(room, text, run),
-        b'b' => calls::pitch_bend(room, text, run),
-        b'r' => calls::render(ram, rom, out, room, text, run),
-        b's' => calls::panel(room, text, run),
-        _ => calls::unknown(run),
+        b'B' | b'M' | b'O' | b'm' | b'x' => lending::lend(bank, ram, rom, room, letter, run),
+        b'F' => fresh_at(room, run),
+        b't' => name(room, text, run),
+        b'a' | b'l' | b's' => asking::ask(bank, room, text, letter, run),
+        b'n' | b'o' | b'c' | b'p' | b'b' => calls::call(bank, ram, rom, room, text, letter, run),
+        b'r' => rendering::render(ram, rom, out, room, text, run),
+        _ => unknown(run),
     }
 }
 
@@ -86,18 +112,18 @@ fn step(
     let from = run.place;
     let letter = cases::next_byte(room, from);
     let place = letter.place;
-    let mut next = run;
+    let next = moved(run, place);
     if place.cut {
-        next.over = true;
         return next;
     }
-    next.place = place;
     let done = obey(bank, ram, rom, out, room, text, letter.value, next);
-    let end = done.place;
-    if end.cut {
-        return trace::bad(text, done);
-    }
-    done
+    trace::closed(text, done)
+}
+
+// Whether nothing is to be played any more.
+fn over(run: Run) -> bool {
+    let place = run.place;
+    place.cut
 }
 
 // A proved loop has to end, and nothing says that the input does: it counts down from a number that no run uses up.
@@ -110,7 +136,7 @@ fn main() {
     let mut text = io::large_buffer();
     let mut run = begin();
     let mut turns = u64::MAX;
-    while turns > 0 && !run.over {
+    while turns > 0 && !over(run) {
         run = step(
             &mut bank,
             &mut ram,

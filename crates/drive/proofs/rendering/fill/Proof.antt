@@ -5,8 +5,8 @@ use mathlib.Core.Path.{_≡_}
 use Prim.Native.Nat.{_≤_, _-_}
 use native.Mathlib.Omega.{arith}
 use lib.ListN.{length, length-set}
-use Rattle.drive.proofs.calls.fill.Statement.{statement}
-use Rattle.drive.proofs.calls.fill.Tie as tie
+use Rattle.drive.proofs.rendering.fill.Statement.{statement}
+use Rattle.drive.proofs.rendering.fill.Tie as tie
 
 abbrev Inv-loop : tie.InvT-loop
 Inv-loop out₀ i₀ out i = (length out ≡ length out₀) × (i ≤ length out)
