@@ -1,6 +1,6 @@
 // The lines of a trace that more than one program writes, and a case's name.
+use crate::hash::bits_of;
 use crate::reading::Place;
-use crate::reading::next_byte;
 use crate::reading::next_bytes;
 use crate::writing::decimal;
 use crate::writing::hex;
@@ -57,6 +57,26 @@ pub fn state(text: &mut [u8; 65536], at: usize, clock: u32, sounding: u32) -> us
     hex(text, to, sounding as u64, 8)
 }
 
+// A stage's letter with its level's bits.
+pub fn level(text: &mut [u8; 65536], at: usize, letter: u8, x: f32) -> usize {
+    let mut to = put(text, at, letter);
+    to = put(text, to, b':');
+    hex(text, to, bits_of(x) as u64, 8)
+}
+
+// A call that answers a count.
+pub fn counted(text: &mut [u8; 65536], at: usize, letter: u8, status: u8, count: u32) -> usize {
+    let to = called(text, at, letter, status);
+    spaced(text, to, count as u64)
+}
+
+// A render with the hash of its output.
+pub fn rendered(text: &mut [u8; 65536], at: usize, status: u8, hash: u64) -> usize {
+    let mut to = called(text, at, b'r', status);
+    to = put(text, to, b' ');
+    hex(text, to, hash, 16)
+}
+
 // The bytes are read before any of them is written, since none is where the command is cut off.
 fn write_name(
     bytes: &mut [u8],
@@ -75,10 +95,9 @@ fn write_name(
     Line { place, at: to }
 }
 
-// t: a case's name.
-pub fn name(room: &mut [u8; 65536], text: &mut [u8; 65536], from: Place, at: usize) -> Line {
-    let size = next_byte(room, from);
-    let n = size.value as usize;
+// t: a case's name of n bytes.
+pub fn name(room: &mut [u8; 65536], text: &mut [u8; 65536], from: Place, at: usize, n: u8) -> Line {
     let mut bytes = [0u8; 256];
-    write_name(&mut bytes[..n], room, text, size.place, at)
+    let size = n as usize;
+    write_name(&mut bytes[..size], room, text, from, at)
 }

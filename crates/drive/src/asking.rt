@@ -1,20 +1,10 @@
-// The calls that leave the state as it is: admission, listing, panel. What follows, the call, its line.
+// The calls that leave the state as it is: listing and panel.
 use crate::Run;
 use crate::trace;
 use bank::Listed;
-use cases::Line;
-use cases::Place;
+use cases::Command;
 use engine::Engine;
 use voice::Shown;
-
-// a: admission, whose count is always 0.
-fn admission(bank: &[u8], text: &mut [u8; 65536], place: Place, at: usize) -> Line {
-    let to = cases::called(text, at, b'a', engine::admit(bank));
-    Line {
-        place,
-        at: cases::spaced(text, to, 0),
-    }
-}
 
 // What the listing answers.
 fn row(text: &mut [u8; 65536], at: usize, l: Listed) -> usize {
@@ -29,83 +19,29 @@ fn row(text: &mut [u8; 65536], at: usize, l: Listed) -> usize {
     }
 }
 
-// l: listing.
-fn listing(
-    bank: &[u8],
-    room: &mut [u8; 65536],
-    text: &mut [u8; 65536],
-    from: Place,
-    at: usize,
-) -> Line {
-    let wanted = cases::next_u32(room, from);
-    let place = wanted.place;
-    if place.cut {
-        return Line { place, at };
-    }
-    Line {
-        place,
-        at: row(text, at, engine::list(bank, wanted.value)),
-    }
-}
-
-// The panel's answer behind a space; nothing where it is refused.
+// What the panel answers: a stage behind a space, and nothing where it is refused.
 fn shown(text: &mut [u8; 65536], at: usize, s: Shown) -> usize {
-    if trace::refused(s) {
-        return cases::called(text, at, b's', 2);
-    }
-    let mut to = cases::called(text, at, b's', 0);
-    to = cases::put(text, to, b' ');
-    trace::stage(text, to, s)
-}
-
-// s: panel.
-fn panel(
-    room: &mut [u8; 65536],
-    text: &mut [u8; 65536],
-    from: Place,
-    at: usize,
-    e: Engine,
-) -> Line {
-    let slot = cases::next_byte(room, from);
-    let place = slot.place;
-    if place.cut {
-        return Line { place, at };
-    }
-    Line {
-        place,
-        at: shown(text, at, engine::panel(e, slot.value)),
+    match s {
+        Shown::Refused => cases::called(text, at, b's', 2),
+        _ => {
+            let to = cases::word(text, at, b"s 0 ");
+            trace::stage(text, to, s)
+        }
     }
 }
 
-// The call behind its letter.
-fn asked(
-    bank: &[u8],
-    room: &mut [u8; 65536],
-    text: &mut [u8; 65536],
-    letter: u8,
-    from: Place,
-    at: usize,
-    e: Engine,
-) -> Line {
-    match letter {
-        b'a' => admission(bank, text, from, at),
-        b'l' => listing(bank, room, text, from, at),
-        _ => panel(room, text, from, at, e),
+// The call by its letter.
+fn asked(bank: &[u8], text: &mut [u8; 65536], at: usize, c: Command, e: Engine) -> usize {
+    if c.letter == b'l' {
+        return row(text, at, engine::list(bank, c.first));
     }
+    shown(text, at, engine::panel(e, c.one))
 }
 
-// a, l, s: the call's line, with the state as it was.
-pub fn ask(
-    bank: &[u8; 66000],
-    room: &mut [u8; 65536],
-    text: &mut [u8; 65536],
-    letter: u8,
-    run: Run,
-) -> Run {
-    let from = run.place;
+// l, s: the call and its line.
+pub fn ask(bank: &[u8; 66000], text: &mut [u8; 65536], c: Command, run: Run) -> Run {
     let lent = run.lent;
     let e = run.engine;
-    let b = cases::first_bytes(bank, lent.bank);
-    let line = asked(b, room, text, letter, from, run.at, e);
-    trace::stated(text, line.place, line.at, e, run)
+    let at = asked(cases::first_bytes(bank, lent.bank), text, run.at, c, e);
+    trace::stated(text, at, e, run)
 }

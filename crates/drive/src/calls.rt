@@ -1,68 +1,17 @@
-// The calls that answer a count: note-on, note-off, control change, program change, pitch bend. The bytes that follow, the call, its line.
-use crate::Lent;
+// The calls that answer a count: admission, note-on, note-off, control change, program change, pitch bend.
 use crate::Run;
 use crate::trace;
-use cases::Place;
+use cases::Command;
+use cases::Lent;
 use engine::Answered;
 use engine::Engine;
 
-// What stands behind a call's letter: a channel and one or two bytes more, or a bend; and the place behind it.
-struct Given {
-    channel: u8,
-    one: u8,
-    two: u8,
-    bend: u16,
-    place: Place,
-}
-
-// b: a channel and a bend.
-fn bend_given(room: &mut [u8; 65536], from: Place) -> Given {
-    let a = cases::next_byte(room, from);
-    let b = cases::next_u16(room, a.place);
-    let place = b.place;
-    Given {
-        channel: a.value,
-        one: 0,
-        two: 0,
-        bend: b.value,
-        place,
-    }
-}
-
-// o, p: a channel, and a key or a program.
-fn two_given(room: &mut [u8; 65536], from: Place) -> Given {
-    let a = cases::next_byte(room, from);
-    let b = cases::next_byte(room, a.place);
-    let place = b.place;
-    Given {
-        channel: a.value,
-        one: b.value,
-        two: 0,
-        bend: 0,
-        place,
-    }
-}
-
-// n, c: a channel, a key and a velocity, or a control and its value.
-fn three_given(room: &mut [u8; 65536], from: Place) -> Given {
-    let ab = two_given(room, from);
-    let c = cases::next_byte(room, ab.place);
-    let place = c.place;
-    Given {
-        channel: ab.channel,
-        one: ab.one,
-        two: c.value,
-        bend: 0,
-        place,
-    }
-}
-
-// The bytes behind a letter.
-fn next_given(room: &mut [u8; 65536], letter: u8, from: Place) -> Given {
-    match letter {
-        b'b' => bend_given(room, from),
-        b'o' | b'p' => two_given(room, from),
-        _ => three_given(room, from),
+// a: admission, whose count is always 0.
+fn admission(bank: &[u8; 66000], lent: Lent, e: Engine) -> Answered {
+    Answered {
+        status: engine::admit(cases::first_bytes(bank, lent.bank)),
+        count: 0,
+        engine: e,
     }
 }
 
@@ -72,7 +21,7 @@ fn note_on<'a>(
     ram: &'a [i16; 65536],
     rom: &'a [i16; 65536],
     lent: Lent,
-    g: Given,
+    c: Command,
     e: Engine,
 ) -> Answered {
     engine::note_on(
@@ -80,51 +29,42 @@ fn note_on<'a>(
         cases::first_bytes(bank, lent.bank),
         cases::first_samples(ram, lent.ram),
         cases::first_samples(rom, lent.rom),
-        g.channel,
-        g.one,
-        g.two,
+        c.one,
+        c.two,
+        c.three,
     )
 }
 
-// The call behind its letter.
+// The call by its letter.
 fn answer<'a>(
     bank: &[u8; 66000],
     ram: &'a [i16; 65536],
     rom: &'a [i16; 65536],
     lent: Lent,
-    letter: u8,
-    g: Given,
+    c: Command,
     e: Engine,
 ) -> Answered {
+    let letter = c.letter;
     match letter {
-        b'n' => note_on(bank, ram, rom, lent, g, e),
-        b'o' => engine::note_off(e, g.channel, g.one),
-        b'c' => engine::control_change(e, g.channel, g.one, g.two),
-        b'p' => engine::program_change(e, g.channel, g.one),
-        _ => engine::pitch_bend(e, g.channel, g.bend),
+        b'a' => admission(bank, lent, e),
+        b'n' => note_on(bank, ram, rom, lent, c, e),
+        b'o' => engine::note_off(e, c.one, c.two),
+        b'c' => engine::control_change(e, c.one, c.two, c.three),
+        b'p' => engine::program_change(e, c.one, c.two),
+        _ => engine::pitch_bend(e, c.one, c.bend),
     }
 }
 
-// n, o, c, p, b: the bytes are read, the call is made, its line is written.
+// a, n, o, c, p, b: the call and its line.
 pub fn call<'a>(
     bank: &[u8; 66000],
     ram: &'a [i16; 65536],
     rom: &'a [i16; 65536],
-    room: &mut [u8; 65536],
     text: &mut [u8; 65536],
-    letter: u8,
+    c: Command,
     run: Run,
 ) -> Run {
-    let from = run.place;
-    let g = next_given(room, letter, from);
-    let place = g.place;
-    let lent = run.lent;
-    let before = run.engine;
-    if place.cut {
-        return trace::stated(text, place, run.at, before, run);
-    }
-    let a = answer(bank, ram, rom, lent, letter, g, before);
-    let mut at = cases::called(text, run.at, letter, a.status);
-    at = cases::spaced(text, at, a.count as u64);
-    trace::stated(text, place, at, a.engine, run)
+    let a = answer(bank, ram, rom, run.lent, c, run.engine);
+    let at = cases::counted(text, run.at, c.letter, a.status, a.count);
+    trace::stated(text, at, a.engine, run)
 }

@@ -1,24 +1,8 @@
 // The end of a line of a trace: the state behind a call, or that a command was bad.
 ghost use Prim.Native.Nat.{_<_};
 use crate::Run;
-use cases::Place;
 use engine::Engine;
 use voice::Shown;
-
-// A stage's letter with its level's bits.
-fn level(text: &mut [u8; 65536], at: usize, letter: u8, x: f32) -> usize {
-    let mut to = cases::put(text, at, letter);
-    to = cases::put(text, to, b':');
-    cases::hex(text, to, cases::bits_of(x) as u64, 8)
-}
-
-// Whether the panel refuses.
-pub fn refused(s: Shown) -> bool {
-    match s {
-        Shown::Refused => true,
-        _ => false,
-    }
-}
 
 // A stage, with its level where it carries one.
 pub fn stage(text: &mut [u8; 65536], at: usize, s: Shown) -> usize {
@@ -26,11 +10,11 @@ pub fn stage(text: &mut [u8; 65536], at: usize, s: Shown) -> usize {
         Shown::Refused => at,
         Shown::Free => cases::put(text, at, b'f'),
         Shown::Delay => cases::put(text, at, b'd'),
-        Shown::Attack { level: x } => level(text, at, b'a', x),
+        Shown::Attack { level: x } => cases::level(text, at, b'a', x),
         Shown::Hold => cases::put(text, at, b'h'),
-        Shown::Decay { level: x } => level(text, at, b'y', x),
-        Shown::Sustain { level: x } => level(text, at, b'u', x),
-        Shown::Release { level: x } => level(text, at, b'r', x),
+        Shown::Decay { level: x } => cases::level(text, at, b'y', x),
+        Shown::Sustain { level: x } => cases::level(text, at, b'u', x),
+        Shown::Release { level: x } => cases::level(text, at, b'r', x),
     }
 }
 
@@ -63,13 +47,9 @@ fn state(text: &mut [u8; 65536], at: usize, e: Engine) -> usize {
     cases::put(text, to, b'\n')
 }
 
-// The run behind a call, whose line is written up to the state. Nothing is written where its command was bad.
-pub fn stated(text: &mut [u8; 65536], place: Place, at: usize, e: Engine, run: Run) -> Run {
+// The run behind a call, whose line is written up to the state.
+pub fn stated(text: &mut [u8; 65536], at: usize, e: Engine, run: Run) -> Run {
     let mut next = run;
-    next.place = place;
-    if place.cut {
-        return next;
-    }
     next.at = state(text, at, e);
     next.engine = e;
     next
@@ -81,6 +61,7 @@ pub fn closed(text: &mut [u8; 65536], run: Run) -> Run {
     let mut next = run;
     if place.cut {
         next.at = cases::bad(text, run.at);
+        next.over = true;
     }
     next
 }

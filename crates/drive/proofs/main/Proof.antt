@@ -22,9 +22,6 @@ begin-requires c κs = search needs
 loop-holds : tie.Need-loop-holds Inv-loop μ-loop
 loop-holds c = tt
 
-over-requires : tie.Need-over-requires Inv-loop μ-loop
-over-requires c κs = search needs
-
 step-requires : tie.Need-step-requires Inv-loop μ-loop
 step-requires c κs = search needs
 
@@ -53,7 +50,6 @@ main-spec =
     large-buffer-requires-2
     begin-requires
     loop-holds
-    over-requires
     step-requires
     sub-turns
     loop-less

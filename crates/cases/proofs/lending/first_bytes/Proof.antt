@@ -13,7 +13,7 @@ returns : tie.Need-returns
 returns c = refl
 
 returns-2 : tie.Need-returns-2
-returns-2 c = let a = c .before .args in sym (take-all (a .n) (now (a .whole)) (omega arith))
+returns-2 c = let a = c .before .args in sym (take-all (a .n) (now (a .bytes)) (omega arith))
 
 pub first-bytes-spec : {M : Type 1} → statement M
 first-bytes-spec = tie.close (tie.spec slice-aggregate-result returns returns-2)

@@ -6,8 +6,11 @@ use borrow.Author.Needs.{needs}
 use Rattle.cases.proofs.lending.next_memory.Statement.{statement}
 use Rattle.cases.proofs.lending.next_memory.Tie as tie
 
-next-length-requires : tie.Need-next-length-requires
-next-length-requires c κs = search needs
+spoilt-requires : tie.Need-spoilt-requires
+spoilt-requires c κs = search needs
+
+returns : tie.Need-returns
+returns c = search needs
 
 slice-relend-prefix-next-samples : tie.Need-slice-relend-prefix-next-samples
 slice-relend-prefix-next-samples c = search needs
@@ -21,16 +24,17 @@ next-samples-requires c κs = search needs
 same-length : tie.Need-same-length
 same-length c = search needs
 
-returns : tie.Need-returns
-returns c = search needs
+returns-2 : tie.Need-returns-2
+returns-2 c = search needs
 
 pub next-memory-spec : {M : Type 1} → statement M
 next-memory-spec =
     tie.close
     (tie.spec
-    next-length-requires
+    spoilt-requires
+    returns
     slice-relend-prefix-next-samples
     slice-aggregate-next-samples
     next-samples-requires
     same-length
-    returns)
+    returns-2)

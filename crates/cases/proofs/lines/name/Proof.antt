@@ -6,12 +6,6 @@ use borrow.Author.Needs.{needs}
 use Rattle.cases.proofs.lines.name.Statement.{statement}
 use Rattle.cases.proofs.lines.name.Tie as tie
 
-next-byte-requires : tie.Need-next-byte-requires
-next-byte-requires c κs = search needs
-
-cast-n : tie.Need-cast-n
-cast-n c = search needs
-
 array-borrow-prefix-bytes : tie.Need-array-borrow-prefix-bytes
 array-borrow-prefix-bytes c = search needs
 
@@ -27,10 +21,4 @@ returns c = search needs
 pub name-spec : {M : Type 1} → statement M
 name-spec =
     tie.close
-    (tie.spec
-    next-byte-requires
-    cast-n
-    array-borrow-prefix-bytes
-    slice-aggregate-write-name
-    write-name-requires
-    returns)
+    (tie.spec array-borrow-prefix-bytes slice-aggregate-write-name write-name-requires returns)
