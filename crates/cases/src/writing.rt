@@ -56,7 +56,7 @@ pub fn signed(room: &mut [u8; 65536], at: usize, z: i32) -> usize {
 }
 
 // How far a number is from 0.
-fn magnitude(z: i32) -> u64
+pub fn magnitude(z: i32) -> u64
     ensures { λ r. ⌜ r ≡ natAbs z ⌝ }
 {
     if z < 0 {

@@ -1,47 +1,83 @@
 // Plays a case file from standard input and writes its trace to standard output.
-mod calls; // calls.rt: the commands that are calls
-mod lending; // lending.rt: the commands that say what is lent, a fresh engine
-mod naming; // naming.rt: a case's name
-mod trace; // trace.rt: the lines of a trace
+mod asking; // asking.rt: the calls that leave the state as it is
+mod calls; // calls.rt: the calls that answer a count
+mod rendering; // rendering.rt: render
+mod trace; // trace.rt: the state at a line's end
 
+use cases::Command;
+use cases::Lent;
 use cases::Place;
 use engine::Engine;
-
-// A sample memory: how many samples it has, and how many of them are lent.
-pub struct Memory {
-    pub held: usize,
-    pub lent: usize,
-}
 
 // How far a case is played.
 pub struct Run {
     pub engine: Engine,
+    pub lent: Lent,
     // what is still to be read of the case; cut marks a bad command
     pub place: Place,
     // how much of the trace is to be written yet
     pub at: usize,
-    // how many bytes of the bank are lent
-    pub bank: usize,
-    pub ram: Memory,
-    pub rom: Memory,
     pub over: bool,
 }
 
 // Nothing is read, nothing lent.
 fn begin() -> Run {
-    let none = Memory { held: 0, lent: 0 };
     Run {
         engine: engine::fresh(),
+        lent: cases::nothing(),
         place: cases::start(),
         at: 0,
-        bank: 0,
-        ram: none,
-        rom: none,
         over: false,
     }
 }
 
-// The command behind its letter. A letter that nobody knows is a bad command.
+// A letter that nobody knows, or a command that names more than there is room for.
+pub fn spoilt(run: Run) -> Run {
+    let place = run.place;
+    let mut next = run;
+    next.place = cases::spoilt(place);
+    next
+}
+
+// B, M, O, m, x: what is lent from here on.
+fn lend(
+    bank: &mut [u8; 66000],
+    ram: &mut [i16; 65536],
+    rom: &mut [i16; 65536],
+    room: &mut [u8; 65536],
+    c: Command,
+    run: Run,
+) -> Run {
+    let before = run.lent;
+    let loan = cases::lend(bank, ram, rom, room, c, before);
+    let place = loan.place;
+    let lent = loan.lent;
+    let mut next = run;
+    next.place = place;
+    next.lent = lent;
+    next
+}
+
+// t: the case's name.
+fn name(room: &mut [u8; 65536], text: &mut [u8; 65536], c: Command, run: Run) -> Run {
+    let line = cases::name(room, text, c.place, run.at, c.one);
+    let place = line.place;
+    let mut next = run;
+    next.place = place;
+    next.at = line.at;
+    next
+}
+
+// F: a fresh engine, its clock at a value.
+fn fresh_at(c: Command, run: Run) -> Run {
+    let mut e = engine::fresh();
+    e.clock = c.first;
+    let mut next = run;
+    next.engine = e;
+    next
+}
+
+// A command by its letter. A letter that nobody knows is a bad command.
 fn obey(
     bank: &mut [u8; 66000],
     ram: &mut [i16; 65536],
@@ -49,27 +85,18 @@ fn obey(
     out: &mut [f32; 8448],
     room: &mut [u8; 65536],
     text: &mut [u8; 65536],
-    letter: u8,
+    c: Command,
     run: Run,
 ) -> Run {
+    let letter = c.letter;
     match letter {
-        b'B' => lending::lend_bank(bank, room, run),
-        b'M' => lending::lend_ram(ram, room, run),
-        b'O' => lending::lend_rom(rom, room, run),
-        b'm' => lending::cut_ram(room, run),
-        b'x' => lending::cut_rom(room, run),
-        b'F' => lending::fresh_at(room, run),
-        b't' => naming::name(room, text, run),
-        b'a' => calls::admission(bank, text, run),
-        b'l' => calls::listing(bank, room, text, run),
-        b'n' => calls::note_on(bank, ram, rom, room, text, run),
-        b'o' => calls::note_off(room, text, run),
-        b'c' => calls::control_change(room, text, run),
-        b'p' => calls::program_change(room, text, run),
-        b'b' => calls::pitch_bend(room, text, run),
-        b'r' => calls::render(ram, rom, out, room, text, run),
-        b's' => calls::panel(room, text, run),
-        _ => calls::unknown(run),
+        b'B' | b'M' | b'O' | b'm' | b'x' => lend(bank, ram, rom, room, c, run),
+        b'F' => fresh_at(c, run),
+        b't' => name(room, text, c, run),
+        b'l' | b's' => asking::ask(bank, text, c, run),
+        b'a' | b'n' | b'o' | b'c' | b'p' | b'b' => calls::call(bank, ram, rom, text, c, run),
+        b'r' => rendering::render(ram, rom, out, text, c, run),
+        _ => spoilt(run),
     }
 }
 
@@ -83,21 +110,16 @@ fn step(
     text: &mut [u8; 65536],
     run: Run,
 ) -> Run {
-    let from = run.place;
-    let letter = cases::next_byte(room, from);
-    let place = letter.place;
+    let c = cases::next_command(room, run.place);
+    let place = c.place;
     let mut next = run;
-    if place.cut {
-        next.over = true;
+    next.place = place;
+    next.over = c.over;
+    if c.over {
         return next;
     }
-    next.place = place;
-    let done = obey(bank, ram, rom, out, room, text, letter.value, next);
-    let end = done.place;
-    if end.cut {
-        return trace::bad(text, done);
-    }
-    done
+    let done = obey(bank, ram, rom, out, room, text, c, next);
+    trace::closed(text, done)
 }
 
 // A proved loop has to end, and nothing says that the input does: it counts down from a number that no run uses up.

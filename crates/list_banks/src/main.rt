@@ -1,179 +1,152 @@
 // Opens the banks of a case file (standard input) and lists them by the reader, and writes a line for each call. Of the letters it has B, a, l and t.
 use bank::Listed;
+use cases::Command;
+use cases::Place;
 
-const IN: i32 = 0;
-
-const OUT: i32 = 1;
-
-// What a command leaves: the end of the run, or the length of the bank that is lent from here on.
-enum Turn {
-    Stop,
-    On(usize),
+// How far a case is played.
+struct Run {
+    // what is still to be read; cut marks a bad command
+    place: Place,
+    // how much text is to be written yet
+    at: usize,
+    // how many bytes of the bank are lent
+    bank: usize,
+    over: bool,
 }
 
-// A number that was read.
-enum Number {
-    Cut,
-    Whole(u32),
-}
-
-// A command that is cut off, names more than there is room for, or has another letter ends the run.
-fn bad() -> Turn {
-    io::write_all(OUT, b"bad\n");
-    Turn::Stop
-}
-
-fn read_number() -> Number {
-    let mut four = [0u8; 4];
-    let n = io::read_full(IN, &mut four);
-    if n == 4 {
-        return Number::Whole(arith::u32_at(&four, 0));
+// Nothing is read, nothing lent.
+fn begin() -> Run {
+    Run {
+        place: cases::start(),
+        at: 0,
+        bank: 0,
+        over: false,
     }
-    Number::Cut
-}
-
-// n bytes from the input to the front of the room: whether there is room, and all of them came.
-fn read_front(room: &mut [u8], n: usize) -> bool {
-    if room.len() < n {
-        return false;
-    }
-    io::read_full(IN, &mut room[0..n]) == n
-}
-
-// The first n bytes of the room.
-fn front(room: &[u8], n: usize) -> &[u8] {
-    if room.len() < n {
-        return &room[0..0];
-    }
-    &room[0..n]
-}
-
-fn wide(x: u8) -> usize {
-    x as usize
-}
-
-fn write_number(n: u64) {
-    io::write_all(OUT, b" ");
-    io::print_decimal(OUT, n);
 }
 
 // The state is that of a fresh engine: these calls leave it as it was.
-fn write_state() {
-    io::write_all(OUT, b" | 00000000 00000000\n");
+fn write_state(text: &mut [u8; 65536], at: usize) -> usize {
+    let to = cases::state(text, at, 0, 0);
+    cases::put(text, to, b'\n')
 }
 
-fn admit(b: &[u8]) {
-    io::write_all(OUT, b"a");
-    write_number(reader::opens(b) as u64);
-    write_number(0);
-    write_state();
+// a: the bank is opened.
+fn admit(b: &[u8], text: &mut [u8; 65536], at: usize) -> usize {
+    let to = cases::counted(text, at, b'a', reader::opens(b), 0);
+    write_state(text, to)
 }
 
-fn write_row(program: u16, bank: u16, next: usize) {
-    io::write_all(OUT, b"l 0");
-    write_number(program as u64);
-    write_number(bank as u64);
-    write_number(next as u64);
-    write_state();
-}
-
-// One step of the listing: what the reader's next gives at the place.
-fn list(b: &[u8], place: u32) {
-    match reader::nth(b, place) {
-        Listed::Refused => {
-            io::write_all(OUT, b"l 1");
-            write_state();
-        }
-        Listed::End => {
-            io::write_all(OUT, b"l 0 end");
-            write_state();
-        }
+// What the reader's next gives at a place.
+fn row(text: &mut [u8; 65536], at: usize, l: Listed) -> usize {
+    match l {
+        Listed::Refused => cases::called(text, at, b'l', 1),
+        Listed::End => cases::listed_end(text, at),
         Listed::Row {
             program,
             bank,
             next,
-        } => write_row(program, bank, next),
+        } => cases::listed_row(text, at, program, bank, next),
     }
-}
-
-// B: a bank is lent.
-fn lend(room: &mut [u8]) -> Turn {
-    let Number::Whole(n) = read_number() else {
-        return bad();
-    };
-    let length = n as usize;
-    if read_front(room, length) {
-        return Turn::On(length);
-    }
-    bad()
-}
-
-// t: a case's name.
-fn name(length: usize) -> Turn {
-    let mut one = [0u8; 1];
-    if io::read_full(IN, &mut one) == 0 {
-        return bad();
-    }
-    let n = wide(one[0]);
-    let mut text = [0u8; 256];
-    if read_front(&mut text, n) {
-        io::write_all(OUT, b"t ");
-        io::write_all(OUT, front(&text, n));
-        io::write_all(OUT, b"\n");
-        return Turn::On(length);
-    }
-    bad()
 }
 
 // l: one step of the listing.
-fn step(b: &[u8], length: usize) -> Turn {
-    let Number::Whole(place) = read_number() else {
-        return bad();
-    };
-    list(b, place);
-    Turn::On(length)
+fn list(b: &[u8], text: &mut [u8; 65536], at: usize, place: u32) -> usize {
+    let to = row(text, at, reader::nth(b, place));
+    write_state(text, to)
 }
 
-// A command with the first `length` bytes of the room as its bank.
-fn play(room: &mut [u8], length: usize, letter: u8) -> Turn {
-    if letter == b'B' {
-        return lend(room);
-    }
-    if letter == b't' {
-        return name(length);
-    }
-    if letter == b'a' {
-        admit(front(room, length));
-        return Turn::On(length);
-    }
-    if letter == b'l' {
-        return step(front(room, length), length);
-    }
-    bad()
+// B: a bank is lent.
+fn lend(bank: &mut [u8; 66000], room: &mut [u8; 65536], c: Command, run: Run) -> Run {
+    let held = cases::next_bank(room, c.place, bank, c.first);
+    let place = held.place;
+    let mut next = run;
+    next.place = place;
+    next.bank = held.count;
+    next
 }
 
-fn next(room: &mut [u8], length: usize) -> Turn {
-    let mut one = [0u8; 1];
-    if io::read_full(IN, &mut one) == 0 {
-        return Turn::Stop;
+// t: a case's name.
+fn name(room: &mut [u8; 65536], text: &mut [u8; 65536], c: Command, run: Run) -> Run {
+    let line = cases::name(room, text, c.place, run.at, c.one);
+    let place = line.place;
+    let mut next = run;
+    next.place = place;
+    next.at = line.at;
+    next
+}
+
+// a, l: the call and its line.
+fn call(bank: &[u8; 66000], text: &mut [u8; 65536], c: Command, run: Run) -> Run {
+    let mut next = run;
+    let b = cases::first_bytes(bank, run.bank);
+    if c.letter == b'a' {
+        next.at = admit(b, text, run.at);
+    } else {
+        next.at = list(b, text, run.at, c.first);
     }
-    play(room, length, one[0])
+    next
+}
+
+// A bad command.
+fn spoilt(run: Run) -> Run {
+    let place = run.place;
+    let mut next = run;
+    next.place = cases::spoilt(place);
+    next
+}
+
+// A command by its letter. A letter that nobody knows is a bad command.
+fn obey(
+    bank: &mut [u8; 66000],
+    room: &mut [u8; 65536],
+    text: &mut [u8; 65536],
+    c: Command,
+    run: Run,
+) -> Run {
+    let letter = c.letter;
+    match letter {
+        b'B' => lend(bank, room, c, run),
+        b't' => name(room, text, c, run),
+        b'a' | b'l' => call(bank, text, c, run),
+        _ => spoilt(run),
+    }
+}
+
+// The run behind a command. Behind a bad one nothing is played.
+fn closed(text: &mut [u8; 65536], run: Run) -> Run {
+    let place = run.place;
+    let mut next = run;
+    if place.cut {
+        next.at = cases::bad(text, run.at);
+        next.over = true;
+    }
+    next
+}
+
+// The next command. At the end of the input the run is over; behind a bad command too.
+fn step(bank: &mut [u8; 66000], room: &mut [u8; 65536], text: &mut [u8; 65536], run: Run) -> Run {
+    let c = cases::next_command(room, run.place);
+    let place = c.place;
+    let mut next = run;
+    next.place = place;
+    next.over = c.over;
+    if c.over {
+        return next;
+    }
+    let done = obey(bank, room, text, c, next);
+    closed(text, done)
 }
 
 // A proved loop has to end, and nothing says that the input does: it counts down from a number that no run uses up.
-fn play_all(room: &mut [u8]) {
-    let mut length: usize = 0;
-    let mut turns = u64::MAX;
-    while 0 < turns {
-        let Turn::On(n) = next(room, length) else {
-            return;
-        };
-        length = n;
-        turns = turns - 1;
-    }
-}
-
 fn main() {
-    let mut room = [0u8; 66000];
-    play_all(&mut room);
+    let mut bank = [0u8; 66000];
+    let mut room = io::large_buffer();
+    let mut text = io::large_buffer();
+    let mut run = begin();
+    let mut turns = u64::MAX;
+    while turns > 0 && !run.over {
+        run = step(&mut bank, &mut room, &mut text, run);
+        turns -= 1;
+    }
+    cases::flush(&text, run.at);
 }

@@ -2,14 +2,12 @@
 use io::print_decimal;
 use io::write_all;
 
+// A number that may be below 0.
 pub fn print_signed(n: i32) {
-    let wide = n as i64;
-    if wide < 0 {
+    if n < 0 {
         write_all(1, b"-");
-        print_decimal(1, (0 - wide) as u64);
-        return;
     }
-    print_decimal(1, wide as u64);
+    print_decimal(1, cases::magnitude(n));
 }
 
 pub fn line(name: &[u8], n: i32, value: u32) {

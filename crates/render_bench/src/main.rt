@@ -1,6 +1,5 @@
 // For timing (speed/): a bank and its samples, keys struck, then renders of 4,096 frames; it writes a hash of the last output.
 // Standard input: u32 strikes, u32 renders, u32 and so many bytes of a bank, u32 and so many samples. The last 32 strikes sound.
-use cases::Place;
 use engine::Engine;
 
 // The keys 40 to 71 in turn, as often as asked.
@@ -34,21 +33,6 @@ fn play<'a>(first: Engine, ram: &'a [i16], rom: &'a [i16], out: &mut [f32], rend
     e.sounding
 }
 
-// The first n of what there is, at most all of it.
-fn first_samples(whole: &[i16], n: usize) -> &[i16] {
-    if n < whole.len() {
-        return &whole[..n];
-    }
-    whole
-}
-
-fn first_bytes(whole: &[u8], n: usize) -> &[u8] {
-    if n < whole.len() {
-        return &whole[..n];
-    }
-    whole
-}
-
 fn report(sounding: u32, hash: u64) {
     let mut text = io::large_buffer();
     let mut at = cases::hex(&mut text, 0, sounding as u64, 8);
@@ -64,33 +48,18 @@ fn main() {
     let mut ram = [0i16; 65536];
     let mut out = [0f32; 8192];
     let strikes = cases::next_u32(&mut room, cases::start());
-    let a = strikes.place;
-    let renders = cases::next_u32(&mut room, a);
-    let b = renders.place;
-    let length = cases::next_u32(&mut room, b);
-    let n = length.value as usize;
-    let c = length.place;
-    let p = read_bank(&mut room, c, &mut bank, n);
-    let count = cases::next_u32(&mut room, p);
-    let k = count.value as usize;
-    let d = count.place;
-    read_ram(&mut room, d, &mut ram, k);
-    let lent = first_samples(&ram, k);
-    let e = strike(first_bytes(&bank, n), lent, lent, strikes.value);
+    let renders = cases::next_u32(&mut room, strikes.place);
+    let length = cases::next_u32(&mut room, renders.place);
+    let held = cases::next_bank(&mut room, length.place, &mut bank, length.value);
+    let count = cases::next_u32(&mut room, held.place);
+    let samples = cases::next_memory(&mut room, count.place, &mut ram, count.value);
+    let lent = cases::first_samples(&ram, samples.count);
+    let e = strike(
+        cases::first_bytes(&bank, held.count),
+        lent,
+        lent,
+        strikes.value,
+    );
     let sounding = play(e, lent, lent, &mut out, renders.value);
     report(sounding, cases::fnv(&out));
-}
-
-fn read_bank(room: &mut [u8; 65536], from: Place, bank: &mut [u8], n: usize) -> Place {
-    if bank.len() < n {
-        return from;
-    }
-    cases::next_bytes(room, from, &mut bank[..n])
-}
-
-fn read_ram(room: &mut [u8; 65536], from: Place, ram: &mut [i16], n: usize) -> Place {
-    if ram.len() < n {
-        return from;
-    }
-    cases::next_samples(room, from, &mut ram[..n])
 }

@@ -1,23 +1,15 @@
 // The lines of a strike: how many layers, and each voice's numbers.
-use crate::Run;
 use layers::Struck;
 use records::Found;
 use voice::Stage;
 use voice::Voice;
 
-// Behind a bad command nothing is played.
-pub fn bad(text: &mut [u8; 65536], run: Run) -> Run {
-    let mut next = run;
-    next.at = cases::word(text, run.at, b"bad\n");
-    next.over = true;
-    next
-}
-
+// A number behind a space.
 fn number(text: &mut [u8; 65536], at: usize, n: u32) -> usize {
-    let to = cases::put(text, at, b' ');
-    cases::decimal(text, to, n as u64)
+    cases::spaced(text, at, n as u64)
 }
 
+// A number that may be below 0, behind a space.
 fn signed(text: &mut [u8; 65536], at: usize, z: i32) -> usize {
     let to = cases::put(text, at, b' ');
     cases::signed(text, to, z)

@@ -3,6 +3,7 @@
 mod lines; // lines.rt: the lines of a strike
 mod reading; // reading.rt: the commands
 
+use cases::Command;
 use cases::Place;
 
 // How far a strike file is played.
@@ -28,39 +29,46 @@ fn begin() -> Run {
     }
 }
 
-// The command behind its letter. A letter that nobody knows is a bad command.
+// A command by its letter. A letter that nobody knows is a bad command.
 fn obey(
     bank: &mut [u8; 66000],
     room: &mut [u8; 65536],
     text: &mut [u8; 65536],
-    letter: u8,
+    c: Command,
     run: Run,
 ) -> Run {
+    let letter = c.letter;
     match letter {
-        b'B' => reading::lend_bank(bank, room, run),
-        b't' => reading::name(room, text, run),
-        b'k' => reading::key(bank, room, text, run),
+        b'B' => reading::lend_bank(bank, room, c, run),
+        b't' => reading::name(room, text, c, run),
+        b'k' => reading::key(bank, text, c, run),
         _ => reading::spoilt(run),
     }
 }
 
-// The next command. At the end of the input the run is over; behind a bad command too.
-fn step(bank: &mut [u8; 66000], room: &mut [u8; 65536], text: &mut [u8; 65536], run: Run) -> Run {
-    let from = run.place;
-    let letter = cases::next_byte(room, from);
-    let place = letter.place;
+// The run behind a command. Behind a bad one nothing is played.
+fn closed(text: &mut [u8; 65536], run: Run) -> Run {
+    let place = run.place;
     let mut next = run;
     if place.cut {
+        next.at = cases::bad(text, run.at);
         next.over = true;
+    }
+    next
+}
+
+// The next command. At the end of the input the run is over; behind a bad command too.
+fn step(bank: &mut [u8; 66000], room: &mut [u8; 65536], text: &mut [u8; 65536], run: Run) -> Run {
+    let c = cases::next_command(room, run.place);
+    let place = c.place;
+    let mut next = run;
+    next.place = place;
+    next.over = c.over;
+    if c.over {
         return next;
     }
-    next.place = place;
-    let done = obey(bank, room, text, letter.value, next);
-    let end = done.place;
-    if end.cut {
-        return lines::bad(text, done);
-    }
-    done
+    let done = obey(bank, room, text, c, next);
+    closed(text, done)
 }
 
 // A proved loop has to end, and nothing says that the input does: it counts down from a number that no run uses up.

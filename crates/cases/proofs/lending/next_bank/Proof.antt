@@ -1,0 +1,40 @@
+-- The part that is read into lies within what is lent. Assumes nothing.
+use mathlib.Core.Path.{sym}
+use native.Mathlib.Omega.{arith}
+use lib.Seq.{length-take-le}
+use borrow.Author.Needs.{needs}
+use Rattle.cases.proofs.lending.next_bank.Statement.{statement}
+use Rattle.cases.proofs.lending.next_bank.Tie as tie
+
+spoilt-requires : tie.Need-spoilt-requires
+spoilt-requires c κs = search needs
+
+returns : tie.Need-returns
+returns c = search needs
+
+slice-relend-prefix-next-bytes : tie.Need-slice-relend-prefix-next-bytes
+slice-relend-prefix-next-bytes c = search needs
+
+slice-aggregate-next-bytes : tie.Need-slice-aggregate-next-bytes
+slice-aggregate-next-bytes c = sym (length-take-le _ _ (omega arith))
+
+next-bytes-requires : tie.Need-next-bytes-requires
+next-bytes-requires c κs = search needs
+
+same-length : tie.Need-same-length
+same-length c = search needs
+
+returns-2 : tie.Need-returns-2
+returns-2 c = search needs
+
+pub next-bank-spec : {M : Type 1} → statement M
+next-bank-spec =
+    tie.close
+    (tie.spec
+    spoilt-requires
+    returns
+    slice-relend-prefix-next-bytes
+    slice-aggregate-next-bytes
+    next-bytes-requires
+    same-length
+    returns-2)
