@@ -1,5 +1,5 @@
 -- A whole number as an `f32`, times 2 ^ -t: nothing is rounded, up to 2 ^ 24.
-use mathlib.Core.Path.{_≡_, refl, sym, ap, _∙_}
+use mathlib.Core.Path.{_≡_, refl, sym, ap, subst, _∙_}
 use mathlib.Core.Logic.{_⊎_, inl, inr}
 use mathlib.Core.Bool.{Bool, true, false}
 use Prim.Native.Nat.{ℕ, suc, _+_, _*_, _^_, _≤_, _<_}
@@ -64,6 +64,13 @@ unit-exact k h = record { value = round-down (isNeg k) (natAbs k) 23 126 refl (h
 pub level-exact : (n : ℕ) → n ≤ 16777216 → Over (levelOf n) (pos n) 16777216
 unfolding levelOf
 level-exact n h = record { value = round-down false n 24 125 refl h }
+
+-- a float that is made as the nearest one is the fraction itself
+pub unit-made : (x : Float) (k : ℤ) → Within k 16777216 → x ≡ unitOf k → (x ≡ unitOf k) × Over x k 8388608
+unit-made x k w e = (e, subst (λ (y : Float). Over y k 8388608) (sym e) (unit-exact k w))
+
+pub level-made : (x : Float) (n : ℕ) → n ≤ 16777216 → x ≡ levelOf n → (x ≡ levelOf n) × Over x (pos n) 16777216
+level-made x n h e = (e, subst (λ (y : Float). Over y (pos n) 16777216) (sym e) (level-exact n h))
 
 -- what the cast asks
 pub in-float : (k : ℤ) (n : ℕ) → Within k n → n ≤ 16777216 → T (inFloat binary32 k)

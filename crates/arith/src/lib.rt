@@ -1,12 +1,12 @@
 // What the crates share: the reading between two samples, floors, the exact binary32 of a whole number, the stereo frame, a word as a set of slots, and numbers in bytes.
-ghost use Prim.Native.Nat.{_^_, _-_, _<_, _≤_};
+ghost use Prim.Native.Nat.{_^_, _<_, _≤_};
 ghost use Rattle.arith.specs.Between.{readingOf};
 ghost use Rattle.arith.specs.Bit.{bit, With};
 ghost use Rattle.arith.specs.Floor.{floorZ};
-ghost use Rattle.arith.specs.Over.{heldTo, levelOf, unitOf};
+ghost use Rattle.arith.specs.Over.{Over, heldTo, levelOf, unitOf};
 ghost use Rattle.arith.specs.Within.{Within};
 ghost use Rattle.arith.specs.Word.{lowestClear};
-ghost use lib.Bits.{bitAnd, bitOr};
+ghost use lib.Bits.{bitOr};
 ghost use lib.Count.{ones};
 ghost use lib.Dec.{eqb};
 ghost use lib.IntN.{negsuc, pos, _+ℤ_, _-ℤ_, _*ℤ_};
@@ -45,7 +45,7 @@ pub fn biased_1000(x: i64) -> i64
 // k / 2^23, exactly.
 fn to_unit(k: i32) -> f32
     requires { ⌜ Within k 8388608 ⌝ }
-    ensures { λ r. ⌜ r ≡ unitOf k ⌝ }
+    ensures { λ r. ⌜ (r ≡ unitOf k) × Over r k 8388608 ⌝ }
 {
     (k as f32) * 0.00000011920928955078125
 }
@@ -53,7 +53,7 @@ fn to_unit(k: i32) -> f32
 // n / 2^24, exactly.
 pub fn level_unit(n: u32) -> f32
     requires { ⌜ n ≤ 16777216 ⌝ }
-    ensures { λ r. ⌜ r ≡ levelOf n ⌝ }
+    ensures { λ r. ⌜ (r ≡ levelOf n) × Over r (pos n) 16777216 ⌝ }
 {
     (n as f32) * 0.000000059604644775390625
 }
@@ -78,7 +78,7 @@ pub struct Frame {
 
 // The stereo frame of two sums of voices.
 pub fn mix(l: i32, r: i32) -> Frame
-    ensures { λ f. ⌜ (f .left ≡ unitOf (heldTo (negsuc 8388607) (pos 8388608) l)) × (f .right ≡ unitOf (heldTo (negsuc 8388607) (pos 8388608) r)) ⌝ }
+    ensures { λ f. ⌜ (f .left ≡ unitOf (heldTo (negsuc 8388607) (pos 8388608) l)) × (f .right ≡ unitOf (heldTo (negsuc 8388607) (pos 8388608) r)) × Over (f .left) (heldTo (negsuc 8388607) (pos 8388608) l) 8388608 × Over (f .right) (heldTo (negsuc 8388607) (pos 8388608) r) 8388608 ⌝ }
 {
     Frame {
         left: to_unit(clamp(l)),
@@ -100,14 +100,6 @@ pub fn insert(word: u32, slot: u32) -> u32
     ensures { λ r. ⌜ (r ≡ bitOr word (2 ^ slot)) × With word slot 1 r ⌝ }
 {
     word | (1 << slot)
-}
-
-// The set without a slot, whether it is in it before or not.
-pub fn remove(word: u32, slot: u32) -> u32
-    requires { ⌜ slot < 32 ⌝ }
-    ensures { λ r. ⌜ (r ≡ bitAnd word ((2 ^ 32 - 1) - 2 ^ slot)) × With word slot 0 r ⌝ }
-{
-    word & !(1 << slot)
 }
 
 // The lowest slot that is not in the set, and 32 where all are.

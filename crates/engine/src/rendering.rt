@@ -82,7 +82,7 @@ fn play<'a>(e: Engine, ram: &'a [i16], rom: &'a [i16], out: &mut [f32], n: usize
     let o = octaves();
     let mut acc = [0i32; 8192];
     let x = run_all(e, &g, &o, ram, rom, &mut acc, n);
-    let b = mix_all(&acc, out, n);
+    mix_all(&acc, out, n);
     x
 }
 

@@ -2,8 +2,7 @@
 ghost use mathlib.Core.Path.{_≡_};
 ghost use mathlib.Core.Bool.{cond};
 ghost use mathlib.Core.List.{map};
-ghost use Prim.Native.Nat.{_<_, _≤_, _^_};
-ghost use lib.Bits.{bitOr};
+ghost use Prim.Native.Nat.{_<_, _≤_};
 ghost use lib.Dec.{ltb};
 ghost use lib.ListN.{getD};
 ghost use Rattle.engine.specs.Slots.{orderOf, claim, taken, seat, renewed, startIn};
@@ -11,17 +10,10 @@ ghost use Rattle.engine.specs.SeatLaws.{asSlot, firstAt};
 use crate::Engine;
 use crate::slots::slot_of;
 use arith::has;
+use arith::insert;
 use arith::lowest_clear;
 use voice::Voice;
 use voice::is_released;
-
-// A word with slot i in it.
-pub fn joined(word: u32, i: u32) -> u32
-    requires { ⌜ i < 32 ⌝ }
-    ensures { λ r. ⌜ r ≡ bitOr word (2 ^ i) ⌝ }
-{
-    word | (1 << i)
-}
 
 // How soon slot i is taken, lower first: released voices, then by struck velocity; last those of this note-on.
 fn claim_of(e: Engine, mine: u32, i: usize) -> u32
@@ -134,7 +126,7 @@ pub fn start_in(e: Engine, i: usize, v: Voice) -> Engine
     let new = renewed_order(old, i as u8);
     let mut x = e;
     x.voices[i] = v;
-    x.sounding = joined(e.sounding, i as u32);
+    x.sounding = insert(e.sounding, i as u32);
     x.order = new;
     x
 }

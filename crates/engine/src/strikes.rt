@@ -10,7 +10,6 @@ ghost use Rattle.engine.specs.NoteOn.{endsPast, anyPast, classIn, rival,
 ghost use Rattle.engine.specs.StrikeLaws.{startedOf, begin};
 use crate::Begun;
 use crate::Engine;
-use crate::seats::joined;
 use crate::seats::seat_of;
 use crate::seats::start_in;
 use crate::slots::flag;
@@ -18,6 +17,7 @@ use crate::slots::freed_if;
 use crate::slots::of_channel;
 use crate::slots::slot_of;
 use crate::slots::with_word;
+use arith::insert;
 use voice::Slot;
 use voice::Voice;
 
@@ -119,7 +119,7 @@ fn start_one(b: Begun, v: Voice) -> Begun
     let i = seat_of(e, b.mine);
     Begun {
         engine: start_in(e, i, v),
-        mine: joined(b.mine, i as u32),
+        mine: insert(b.mine, i as u32),
     }
 }
 

@@ -70,7 +70,7 @@ pub fn run_all<'a>(
 }
 
 // The first n frames of the output, each a stereo frame of two sums.
-pub fn mix_all(acc: &[i32], out: &mut [f32], n: usize) -> bool
+pub fn mix_all(acc: &[i32], out: &mut [f32], n: usize)
     requires { ⌜ (2 * n ≤ length (now acc)) × (2 * n ≤ length (now out)) ⌝ }
     ensures { λ _. ⌜ now (out .exit) ≡ mixedTo n (now (acc .entry)) ++ drop (2 * n) (now (out .entry)) ⌝ }
 {
@@ -83,5 +83,4 @@ pub fn mix_all(acc: &[i32], out: &mut [f32], n: usize) -> bool
         out[2 * k + 1] = f.right;
         k = k + 1;
     }
-    true
 }

@@ -6,26 +6,27 @@ use mathlib.Core.Path.{_≡_}
 use lib.Count.{ones}
 use lib.Dec.{eqb, ltb}
 use lib.Ieee.{Float}
-use lib.IntN.{ℤ}
+use lib.IntN.{ℤ, pos, negsuc}
 use lib.ListN.{length, getD, take, drop}
 use Rattle.arith.specs.Bit.{bit}
 use Rattle.arith.specs.Loops.{countIf}
-use Rattle.arith.specs.Over.{Over}
+use Rattle.arith.specs.Over.{Over, heldTo}
 use Rattle.arith.specs.Within.{Within}
 use Rattle.voice.specs.declared.Voice.{Voice}
 use Rattle.voice.specs.declared.Slot.{Slot}
 use Rattle.voice.specs.State.{blank, sounds, free}
 use Rattle.voice.specs.Stages.{released}
 use Rattle.voice.specs.Release.{release}
+use Rattle.voice.specs.Panel.{slotParts}
 use Rattle.engine.specs.declared.Engine.{Engine}
 use Rattle.engine.specs.State.{slotAt, slotsOf, channelAt, fresh}
 use Rattle.engine.specs.NoteOff.{ofChannel, held, heldKey, pedalDown, mark}
 use Rattle.engine.specs.Controls.{pedalHeld}
 use Rattle.engine.specs.Slots.{seat}
 use Rattle.engine.specs.NoteOn.{Started, start, cleared, rival}
-use Rattle.engine.specs.Render.{distance, leftSum, rightSum, mixed}
+use Rattle.engine.specs.Render.{distance, leftSum, rightSum}
 use Rattle.promises.specs.Age.{Ordered, older, startedLast}
-use Rattle.promises.specs.Calls.{Call, noteOn, noteOff, control, program, bend, render, ask, does, written, next, run, voiceIn, frames, framesOf, begun, channelOf, startsIn, among, history}
+use Rattle.promises.specs.Calls.{Call, noteOn, noteOff, control, program, bend, render, ask, does, written, told, next, run, voiceIn, frames, framesOf, begun, channelOf, startsIn, among, history}
 
 -- ---- 1. A note-off reaches all held voices of its channel and key
 
@@ -196,20 +197,22 @@ OtherChannelsStand = (x : Call) (e : Engine) (c : ℕ) → (c ≡ channelOf x �
 
 -- ---- 9. The output
 
--- x is k / 2^23, exactly, with k from -2^23 to 2^23: within -1..1
-pub record Fraction (x : Float) : Type 0 where
-  pub k : ℤ
-  pub exact : Over x k 8388608
-  pub within : Within k 8388608
+-- a sum of voices, held to -2^23..2^23
+abbrev pub heldSum : ℤ → ℤ
+heldSum z = heldTo (negsuc 8388607) (pos 8388608) z
 
--- a done render of n frames: as long as before; number 2j is left of frame j and 2j + 1 right, the sum of voices held and
--- scaled, each such a fraction; behind the first 2n every number is as it was
+-- x is the held sum over 2^23, exactly: within -1..1
+pub record Fraction (x : Float) (sum : ℤ) : Type 0 where
+  pub exact : Over x (heldSum sum) 8388608
+  pub within : Within (heldSum sum) 8388608
+
+-- a done render of n frames: as long as before; number 2j is left of frame j and 2j + 1 right, each exactly the sum of voices,
+-- held, over 2^23; behind the first 2n every number is as it was
 pub record Rendered (to : ℕ) (ram rom : List ℤ) (out : List Float) (e : Engine) (none : Float) : Type 0 where
   pub long : length (written (render to ram rom out) e) ≡ length out
-  pub left : (j : ℕ) → j < distance e to → getD (written (render to ram rom out) e) (2 * j) none ≡ mixed (leftSum ram rom e j)
-  pub right : (j : ℕ) → j < distance e to → getD (written (render to ram rom out) e) (2 * j + 1) none ≡ mixed (rightSum ram rom e j)
+  pub left : (j : ℕ) → j < distance e to → Fraction (getD (written (render to ram rom out) e) (2 * j) none) (leftSum ram rom e j)
+  pub right : (j : ℕ) → j < distance e to → Fraction (getD (written (render to ram rom out) e) (2 * j + 1) none) (rightSum ram rom e j)
   pub behind : drop (2 * distance e to) (written (render to ram rom out) e) ≡ drop (2 * distance e to) out
-  pub fraction : (m : ℕ) → m < 2 * distance e to → Fraction (getD (written (render to ram rom out) e) m none)
 
 abbrev pub OutputIsExact : Type 0
 OutputIsExact =
@@ -231,3 +234,16 @@ CutsDoNotMatter =
     × (written (render to ram rom all) e
     ≡ take (2 * distance e mid) (written (render mid ram rom out) e)
     ++ take (2 * distance (next (render mid ram rom out) e) to) (written (render to ram rom more) (next (render mid ram rom out) e)))
+
+-- ---- 11. The panel's levels
+
+-- each is that many 2^-24 of full, exactly
+abbrev pub Levels : List ℕ → List Float → Type 0
+Levels [] [] = Unit {0}
+Levels [] (x ∷ xs) = ⊥
+Levels (n ∷ ns) [] = ⊥
+Levels (n ∷ ns) (x ∷ xs) = Over x (pos n) 16777216 × Levels ns xs
+
+-- the panel is told the attack's level or the envelope's gain, and no level of other stages
+abbrev pub PanelIsExact : Type 0
+PanelIsExact = (i : ℕ) (e : Engine) → i < 32 → Levels (slotParts (slotAt e i)) (told (ask i) e)

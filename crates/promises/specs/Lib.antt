@@ -16,6 +16,7 @@ pub mod NightProof
 pub mod SeatsProof
 pub mod Cuts
 pub mod OutputProof
+pub mod PanelProof
 pub mod Demand3Proof
 pub mod DeterminedProof
 pub mod Demand3Example

@@ -129,11 +129,11 @@ channels-stand (Calls.ask i) e d h = refl
 -- ---- the output
 
 -- a sum, held and scaled
-pub mixed-fraction : (z : ℤ) → Fraction (mixed z)
+pub mixed-fraction : (z : ℤ) → Fraction (mixed z) z
 mixed-fraction z =
     let h = heldTo (negsuc 8388607) (pos 8388608) z in
     let w : Within h 8388608 = held-in (ltZ z (negsuc 8388607)) refl (ltZ (pos 8388608) z) refl in
-    record { k = h; exact = unit-exact h (w-le w (omega arith)); within = w }
+    record { exact = unit-exact h (w-le w (omega arith)); within = w }
   where
     held-in : (a : Bool) → ltZ z (negsuc 8388607) ≡ a → (b : Bool) → ltZ (pos 8388608) z ≡ b → Within (cond a (negsuc 8388607) (cond b (pos 8388608) z)) 8388608
     held-in true p b q = record { within = omega arith }
@@ -220,27 +220,15 @@ exact to ram rom out e none h =
     let l = out-length ram rom e n in
     record {
       long = ap length w ∙ simp (length-append, length-drop) (omega arith);
-      left = λ j k. ap (λ (x : List Float). getD x (2 * j) none) w ∙ frame-at ram rom e n j (drop (2 * n) out) none k .0;
-      right = λ j k. ap (λ (x : List Float). getD x (2 * j + 1) none) w ∙ frame-at ram rom e n j (drop (2 * n) out) none k .1;
+      left = λ j k. fraction (2 * j) (leftSum ram rom e j) w (frame-at ram rom e n j (drop (2 * n) out) none k .0);
+      right = λ j k. fraction (2 * j + 1) (rightSum ram rom e j) w (frame-at ram rom e n j (drop (2 * n) out) none k .1);
       behind = ap (drop (2 * n)) w ∙ drop-at o (drop (2 * n) out) (2 * n) l;
-      fraction = λ m k. subst (λ (x : List Float). Fraction (getD x m none)) (sym w) (number m (m % 2) refl k);
     }
   where
-    n : ℕ
-    n = distance e to
-
-    all : List Float
-    all = output ram rom e (distance e to) ++ drop (2 * distance e to) out
-
-    number : (m b : ℕ) → m % 2 ≡ b → m < 2 * n → Fraction (getD all m none)
-    number m zero q k =
-        let even : 2 * (m / 2) ≡ m = omega arith in
-        let at = frame-at ram rom e n (m / 2) (drop (2 * n) out) none (omega arith) .0 in
-        subst (λ (x : Float). Fraction x) (sym (ap (λ (y : ℕ). getD all y none) (sym even) ∙ at)) (mixed-fraction (leftSum ram rom e (m / 2)))
-    number m (suc b) q k =
-        let odd : 2 * (m / 2) + 1 ≡ m = omega arith in
-        let at = frame-at ram rom e n (m / 2) (drop (2 * n) out) none (omega arith) .1 in
-        subst (λ (x : Float). Fraction x) (sym (ap (λ (y : ℕ). getD all y none) (sym odd) ∙ at)) (mixed-fraction (rightSum ram rom e (m / 2)))
+    -- number m of what was written, where all of it is known
+    fraction : {all : List Float} (m : ℕ) (z : ℤ) → written (Calls.render to ram rom out) e ≡ all → getD all m none ≡ mixed z
+        → Fraction (getD (written (Calls.render to ram rom out) e) m none) z
+    fraction m z w at = subst (λ (x : Float). Fraction x z) (sym (ap (λ (x : List Float). getD x m none) w ∙ at)) (mixed-fraction z)
 
 -- ---- cuts
 

@@ -43,7 +43,7 @@ gained-in : (x : ℤ) (a : ℕ) → Within x 100000 → Within (gained x a) 2560
 unfolding gained
 gained-in x a h = w-floor-by 25600001 65536 (lit< tt) (lit≤ tt) (w-mul h (w-nat (gain-le a)))
 
-level-le : (n t : ℕ) → levelAt n t ≤ 16777216
+pub level-le : (n t : ℕ) → levelAt n t ≤ 16777216
 unfolding levelAt
 level-le n t = omega arith
 

@@ -1,5 +1,7 @@
 -- 01, "A voice, frame by frame", last paragraph: what the panel is told of a slot.
 use Prim.Native.Nat.{ℕ}
+use mathlib.Core.List.{List, [], _∷_}
+use lib.Ieee.{Float}
 use mathlib.Core.Bool.{Bool, cond}
 use Rattle.arith.specs.Over.{levelOf}
 use Rattle.curves.specs.Decibels.{gainOf}
@@ -34,3 +36,26 @@ numberOf is.Hold = 0
 numberOf (is.Decay x) = 0
 numberOf (is.Sustain x) = 0
 numberOf (is.Release x) = 0
+
+-- 01's values for each answer: the level, where the stage has one
+abbrev pub levelsOf : Shown → List Float
+levelsOf is.Refused = []
+levelsOf is.Free = []
+levelsOf is.Delay = []
+levelsOf (is.Attack x) = x ∷ []
+levelsOf is.Hold = []
+levelsOf (is.Decay x) = x ∷ []
+levelsOf (is.Sustain x) = x ∷ []
+levelsOf (is.Release x) = x ∷ []
+
+-- a slot's level in 2^-24 of full, where its stage has one: the attack's level, else the envelope's gain
+abbrev pub stageParts : Voice → Stage → List ℕ
+stageParts v (Delay left) = []
+stageParts v (Attack t) = levelAt (v .attack) t ∷ []
+stageParts v (Hold t) = []
+stageParts v (Decay t) = gainOf (envelope v (Decay t)) ∷ []
+stageParts v Sustain = gainOf (envelope v Sustain) ∷ []
+stageParts v (Release a t) = gainOf (envelope v (Release a t)) ∷ []
+
+abbrev pub slotParts : Slot → List ℕ
+slotParts s = cond (s .sounding) (stageParts (s .voice) (s .voice .stage)) []

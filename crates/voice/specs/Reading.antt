@@ -3,9 +3,9 @@ use Prim.Native.Nat.{ℕ, _+_, _*_, _/_, _%_}
 use mathlib.Core.Bool.{Bool, cond, _&&_}
 use mathlib.Core.List.{List}
 use lib.Dec.{eqb}
-use lib.IntN.{ℤ, pos, _+ℤ_, _-ℤ_, _*ℤ_}
+use lib.IntN.{ℤ, pos}
 use lib.ListN.{getD}
-use Rattle.arith.specs.Floor.{floorZ}
+use Rattle.arith.specs.Between.{readingOf}
 
 -- the sample at i of the window; behind its last stands 0
 abbrev pub sample : List ℤ → ℕ → ℤ
@@ -17,7 +17,7 @@ behind folding from to i = cond (folding && eqb (i + 1) to) from (i + 1)
 
 -- x0 + floor((x1 - x0) * fraction / 2^24)
 abbrev pub between : ℤ → ℤ → ℕ → ℤ
-between x0 x1 fraction = x0 +ℤ floorZ ((x1 -ℤ x0) *ℤ pos fraction) 16777216
+between = readingOf
 
 -- the reading of window w at a place in 2^-24 samples, with the loop from..to where it folds
 unfoldable pub reading : Bool → ℕ → ℕ → List ℤ → ℕ → ℤ

@@ -4,10 +4,11 @@ use mathlib.Core.Path.{_≡_, refl}
 use mathlib.Core.Bool.{false}
 use lib.IntN.{pos, negsuc}
 use lib.Count.{trailingZeros}
-use lib.Ieee.{fin, binary32, ofBits, ofFields, odd}
+use Prim.Native.Nat.{ℕ, _≤_}
+use lib.Ieee.{fin, binary32, mul, ofInt, ofBits, ofFields, odd}
 use Rattle.arith.specs.Within.{w-nat}
 use Rattle.arith.specs.Over.{levelOf}
-use Rattle.arith.specs.Scaled.{scaled, in-float}
+use Rattle.arith.specs.Scaled.{scaled, in-float, level-made}
 use Rattle.arith.proofs.level_unit.Statement.{statement}
 use Rattle.arith.proofs.level_unit.Tie as tie
 
@@ -19,9 +20,13 @@ step : ofBits binary32 864026624 ≡ fin false 1 (negsuc 23)
 unfolding ofBits ofFields odd trailingZeros
 step = refl
 
-returns : tie.Need-returns
+-- the product is the float nearest to n / 2 ^ 24
+nearest : (n : ℕ) → n ≤ 16777216 → mul binary32 (ofInt binary32 (pos n)) (fin false 1 (negsuc 23)) ≡ levelOf n
 unfolding levelOf
-returns c = rw step (scaled (pos (c .before .args .n)) 23 (c .before .pre))
+nearest n h = scaled (pos n) 23 h
+
+returns : tie.Need-returns
+returns c = level-made _ (c .before .args .n) (c .before .pre) (rw step (nearest (c .before .args .n) (c .before .pre)))
 
 pub level-unit-spec : {M : Type 1} → statement M
 level-unit-spec = tie.close (tie.spec int-to-float-result returns)

@@ -19,10 +19,10 @@ to-unit-requires-2 c κs = search needs
 returns : tie.Need-returns
 returns c =
     let l = c .before .before in
-    let s = l .before .before in (
-      rw (toZ-ofZ (sfits-of (l .before .clamp .ok)), l .before .clamp .ensures .0, toZ-ofZ (s .fits .l)) at (l .to-unit .ensures),
-      rw (toZ-ofZ (sfits-of (c .before .clamp2 .ok)), c .before .clamp2 .ensures .0, toZ-ofZ (s .fits .r)) at (c .to-unit2 .ensures),
-    )
+    let s = l .before .before in
+    let left = rw (toZ-ofZ (sfits-of (l .before .clamp .ok)), l .before .clamp .ensures .0, toZ-ofZ (s .fits .l)) at (l .to-unit .ensures) in
+    let right = rw (toZ-ofZ (sfits-of (c .before .clamp2 .ok)), c .before .clamp2 .ensures .0, toZ-ofZ (s .fits .r)) at (c .to-unit2 .ensures) in
+    (left .0, right .0, left .1, right .1)
 
 pub mix-spec : {M : Type 1} → statement M
 mix-spec =

@@ -2,13 +2,14 @@
 use lib.Dec.{lit≤}
 use mathlib.Core.Path.{_≡_, refl}
 use mathlib.Core.Bool.{false}
-use lib.IntN.{negsuc}
+use lib.IntN.{ℤ, negsuc}
 use lib.Count.{trailingZeros}
-use lib.Ieee.{fin, binary32, ofBits, ofFields, odd}
+use lib.Ieee.{fin, binary32, mul, ofInt, ofBits, ofFields, odd}
 use native.Mathlib.Nat.{le-trans}
 use mir.Facts.{toZ-ofZ}
 use Rattle.arith.specs.Over.{unitOf}
-use Rattle.arith.specs.Scaled.{scaled, in-float}
+use Rattle.arith.specs.Scaled.{scaled, in-float, unit-made}
+use Rattle.arith.specs.Within.{Within, w-le}
 use Rattle.arith.proofs.to_unit.Statement.{statement}
 use Rattle.arith.proofs.to_unit.Tie as tie
 
@@ -20,11 +21,15 @@ step : ofBits binary32 872415232 ≡ fin false 1 (negsuc 22)
 unfolding ofBits ofFields odd trailingZeros
 step = refl
 
-returns : tie.Need-returns
+-- the product is the float nearest to k / 2 ^ 23
+nearest : (k : ℤ) → Within k 8388608 → mul binary32 (ofInt binary32 k) (fin false 1 (negsuc 22)) ≡ unitOf k
 unfolding unitOf
+nearest k w = scaled k 22 (le-trans (w .within) (lit≤ tt))
+
+returns : tie.Need-returns
 returns c =
-    rw (toZ-ofZ (c .before .fits .k), step)
-    (scaled (c .before .args .k) 22 (le-trans (c .before .pre .within) (lit≤ tt)))
+    let k = c .before .args .k in
+    unit-made _ k (w-le (c .before .pre) (lit≤ tt)) (rw (toZ-ofZ (c .before .fits .k), step) (nearest k (c .before .pre)))
 
 pub to-unit-spec : {M : Type 1} → statement M
 to-unit-spec = tie.close (tie.spec int-to-float-result returns)

@@ -24,11 +24,11 @@ mul-v c = search needs
 element-set-from-v : tie.Need-element-set-from-v
 element-set-from-v c = search needs
 
-cast-joined : tie.Need-cast-joined
-cast-joined c = search needs
+cast-insert : tie.Need-cast-insert
+cast-insert c = search needs
 
-joined-requires : tie.Need-joined-requires
-joined-requires c κs = search needs
+insert-requires : tie.Need-insert-requires
+insert-requires c κs = search needs
 
 returns : tie.Need-returns
 unfolding startIn
@@ -38,7 +38,7 @@ returns c =
     let i = s .args .i in
     let n : length (e .voices) ≡ 32 = simp length-map at (s .good .0 .1 .1 .0 .1 .0 .1) in
     let p : 2 ^ length (e .voices) ≡ 4294967296 = ap (λ (k : ℕ). 2 ^ k) n in
-    seated e i (c .joined .result) (s .args .v) (c .before .renewed-order .result) (omega arith) (omega arith) (c .joined .ensures)
+    seated e i (c .insert .result) (s .args .v) (c .before .renewed-order .result) (omega arith) (omega arith) (c .insert .ensures .0)
     ∙ ap (λ (o : List ℕ). withOrder (withSlots e (set (slotsOf e) i (sounds (s .args .v)))) o) (c .before .renewed-order .ensures)
 
 pub start-in-spec : {M : Type 1} → statement M
@@ -49,6 +49,6 @@ start-in-spec =
     renewed-order-requires
     mul-v
     element-set-from-v
-    cast-joined
-    joined-requires
+    cast-insert
+    insert-requires
     returns)

@@ -15,11 +15,11 @@ seat-of-requires c κs = search needs
 start-in-requires : tie.Need-start-in-requires
 start-in-requires c κs = search needs
 
-cast-joined : tie.Need-cast-joined
-cast-joined c = search needs
+cast-insert : tie.Need-cast-insert
+cast-insert c = search needs
 
-joined-requires : tie.Need-joined-requires
-joined-requires c κs = search needs
+insert-requires : tie.Need-insert-requires
+insert-requires c κs = search needs
 
 returns : tie.Need-returns
 unfolding start
@@ -27,7 +27,7 @@ returns c =
     let s = c .before .before in
     let b = s .before .before .args .b in
     let v = s .before .before .args .v in
-    ap₂ made (c .before .start-in .ensures) (c .joined .ensures)
+    ap₂ made (c .before .start-in .ensures) (c .insert .ensures .0)
     ∙ ap (λ (i : ℕ). made (startIn i v (b .engine)) (bitOr (b .mine) (2 ^ i))) (s .seat-of .ensures .0)
   where
     made : Engine → ℕ → Started
@@ -35,4 +35,4 @@ returns c =
 
 pub start-one-spec : {M : Type 1} → statement M
 start-one-spec =
-    tie.close (tie.spec seat-of-requires start-in-requires cast-joined joined-requires returns)
+    tie.close (tie.spec seat-of-requires start-in-requires cast-insert insert-requires returns)

@@ -12,7 +12,7 @@ level-unit-requires : tie.Need-level-unit-requires
 level-unit-requires c κs = search needs
 
 returns : tie.Need-returns
-returns c = c .level-unit .ensures ∙ ap levelOf (c .before .gain .ensures .0)
+returns c = c .level-unit .ensures .0 ∙ ap levelOf (c .before .gain .ensures .0)
 
 pub gain-unit-spec : {M : Type 1} → statement M
 gain-unit-spec = tie.close (tie.spec gain-requires level-unit-requires returns)

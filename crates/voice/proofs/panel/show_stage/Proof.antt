@@ -60,7 +60,7 @@ returns c = sym (ap (stageShown (c .before .before .args .v)) (c .enum-told .giv
 
 returns-2 : tie.Need-returns-2
 returns-2 c = let v = c .before .before .before .before .before .args .v in
-    ap is.Attack (c .level-unit .ensures ∙ ap levelOf (c .before .level-at .ensures .0)) ∙ sym (ap (stageShown v) (c .before .before .before .s .given .1))
+    ap is.Attack (c .level-unit .ensures .0 ∙ ap levelOf (c .before .level-at .ensures .0)) ∙ sym (ap (stageShown v) (c .before .before .before .s .given .1))
 
 returns-3 : tie.Need-returns-3
 returns-3 c = sym (ap (stageShown (c .before .before .args .v)) (c .enum-told2 .given .1))
