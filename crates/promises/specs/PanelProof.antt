@@ -41,7 +41,6 @@ unfolding ask shown
 panel-exact i e h = inside (ltb 31 i) refl
   where
     inside : (b : Bool) → ltb 31 i ≡ b → Levels (slotParts (slotAt e i)) (levelsOf (cond b is.Refused (shown (slotAt e i))))
-    unfolding shown
     inside true q = absurd (no (ltb-true 31 i q))
       where
         no : 31 < i → ⊥
