@@ -1,7 +1,7 @@
 -- Which frames are calm: a hold to its end, a sustain, a decay and a release while their cB stays.
-use Prim.Native.Nat.{ℕ, zero, suc, _+_, _-_, _*_, _/_, _%_, _<_, _≤_, min}
-use mathlib.Core.Path.{_≡_, refl, sym, ap, _∙_, subst}
-use mathlib.Core.Bool.{Bool, true, false, cond}
+use Prim.Native.Nat.{ℕ, _+_, _-_, _*_, _/_, _%_, _<_, _≤_, min}
+use mathlib.Core.Path.{_≡_, refl, ap, _∙_, subst}
+use mathlib.Core.Bool.{Bool, cond}
 use native.Mathlib.Nat.{mod-lt, not-suc-le-zero, div-add-mod', add-mul-div-right, div-eq-of-lt}
 use native.Mathlib.Omega.{arith}
 use borrow.Author.Tests.{lt-leb}
@@ -9,8 +9,8 @@ use lib.Dec.{eqb, leb}
 use Rattle.voice.specs.declared.Stage.{Stage}
 use Rattle.voice.specs.declared.Stage.the-variants.{Delay, Attack, Hold, Decay, Sustain, Release}
 use Rattle.voice.specs.declared.Voice.{Voice}
-use Rattle.voice.specs.Stages.{decayAt, releaseAt, entered, dead, fromHold, fromDecay}
-use Rattle.voice.specs.Stretch.{spentBy, RoomBy, Calm, Calms, Steady}
+use Rattle.voice.specs.Stages.{decayAt, releaseAt, fromHold, fromDecay}
+use Rattle.voice.specs.Stretch.{RoomBy, Calms, Steady}
 
 -- floor(1,000 * t / n) stays while the remainder does not reach n
 pub same-quotient : (n t j : ℕ) → 0 < n → 1000 * t % n + 1000 * j < n → 1000 * (t + j) / n ≡ 1000 * t / n

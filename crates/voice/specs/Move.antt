@@ -1,6 +1,6 @@
 -- 01, "From a key to layers" (pitch total), "Tables and steps" (step), "A voice, frame by frame" (fold, end).
 use Prim.Native.Nat.{ℕ, _+_, _-_, _*_, _%_}
-use mathlib.Core.Bool.{Bool, true, false, cond, not, _&&_, _||_}
+use mathlib.Core.Bool.{Bool, cond, not, _&&_, _||_}
 use lib.Dec.{eqb, leb, ltb}
 use lib.IntN.{ℤ, pos, negsuc, _+ℤ_}
 use Rattle.arith.specs.Over.{heldTo}

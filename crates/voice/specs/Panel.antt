@@ -2,7 +2,7 @@
 use Prim.Native.Nat.{ℕ}
 use mathlib.Core.List.{List, [], _∷_}
 use lib.Ieee.{Float}
-use mathlib.Core.Bool.{Bool, cond}
+use mathlib.Core.Bool.{cond}
 use Rattle.arith.specs.Over.{levelOf}
 use Rattle.curves.specs.Decibels.{gainOf}
 use Rattle.voice.specs.declared.Shown.{Shown}

@@ -1,6 +1,6 @@
 -- Demand 3 for one voice: where it stands after n frames, and how near its advance is to the pitch.
 use Prim.Native.Nat.{ℕ, zero, suc, _+_, _*_, _≤_, _<_}
-use mathlib.Core.Path.{_≡_, refl, sym, ap, _∙_, subst}
+use mathlib.Core.Path.{_≡_, refl, sym, ap, _∙_}
 use mathlib.Core.Bool.{Bool, true, false, cond}
 use mathlib.Core.List.{List}
 use native.Mathlib.Nat.{not-suc-le-zero}
@@ -17,7 +17,7 @@ use Rattle.voice.specs.State.{sounds}
 use Rattle.voice.specs.Stages.{past}
 use Rattle.voice.specs.Move.{pitchTotal, step, folds, folded, settled}
 use Rattle.voice.specs.Sound.{loss}
-use Rattle.voice.specs.Run.{after, afterAt}
+use Rattle.voice.specs.Run.{after}
 use Rattle.voice.specs.RunLaws.{once}
 use Rattle.voice.specs.Advance.{going}
 

@@ -1,19 +1,13 @@
 -- Laws of the sound: what the tests of the code say of a number held to at least 0.
-use Prim.Native.Nat.{ℕ, zero, suc, _≤_, _<_}
-use mathlib.Core.Path.{_≡_, refl, ap, subst}
+use Prim.Native.Nat.{ℕ, suc, _<_}
+use mathlib.Core.Path.{_≡_, refl, subst}
 use mathlib.Core.Bool.{Bool, true, false}
-use mathlib.Core.List.{List, [], _∷_}
-use native.Mathlib.Nat.{not-suc-le-zero, le-of-suc-le-suc}
 use native.Mathlib.Omega.{arith}
 use borrow.Author.Tests.{ltb-true, ltb-false}
-use lib.Dec.{T, leb, leb→le}
+use lib.Dec.{T}
 use lib.IntN.{ℤ, pos, negsuc, natAbs}
-use lib.ListN.{getD}
 use lib.Signed.{ltZ, nonNeg}
-use Rattle.curves.specs.Table.{both, both-left, both-right}
 use Rattle.arith.specs.Within.{Within}
-use Rattle.curves.specs.Gains.{gains}
-use Rattle.curves.specs.Decibels.{gainOf}
 use Rattle.voice.specs.Sound.{least0}
 
 pub least0-below : (z : ℤ) → ltZ z (pos 0) ≡ true → least0 z ≡ 0

@@ -1,13 +1,12 @@
 -- A stretch of calm frames is what the definition of one frame, repeated, gives.
-use Prim.Native.Nat.{ℕ, zero, suc, _+_, _-_, _*_, _/_, _%_, _<_, _≤_}
+use Prim.Native.Nat.{ℕ, zero, suc, _+_, _-_, _*_, _/_, _%_, _<_}
 use mathlib.Core.Path.{_≡_, refl, sym, ap, ap₂, _∙_, subst}
-use mathlib.Core.Bool.{Bool, true, false, cond, _&&_}
+use mathlib.Core.Bool.{Bool, true, false, cond}
 use mathlib.Core.List.{List, [], _∷_, _++_}
 use native.Mathlib.Nat.{not-suc-le-zero, suc-mul, zero-mul, add-zero}
 use native.Mathlib.Numerals.{add-one}
 use native.Mathlib.Omega.{arith}
 use borrow.Author.Tests.{ne-eqb}
-use lib.Dec.{eqb}
 use lib.IntN.{ℤ, pos, _*ℤ_}
 use lib.ListN.{length, length-append}
 use Rattle.arith.specs.Floor.{floorZ}
@@ -18,15 +17,15 @@ use Rattle.voice.specs.declared.Voice.{Voice}
 use Rattle.voice.specs.declared.Slot.{Slot}
 use Rattle.voice.specs.declared.Framed.{Framed}
 use Rattle.voice.specs.State.{withMoved, sounds}
-use Rattle.voice.specs.Stages.{envelope, entered, dead, waiting, released, spent, fromDelay, fromAttack, fromHold, fromDecay}
+use Rattle.voice.specs.Stages.{envelope, entered, dead, released, spent, fromDelay, fromAttack, fromHold, fromDecay}
 use Rattle.voice.specs.Reading.{sample, between, behind, reading}
 use Rattle.voice.specs.Sound.{total, gained, shaped, leftOf, rightOf}
-use Rattle.voice.specs.Move.{folds, fold, folded, span}
+use Rattle.voice.specs.Move.{folds, span}
 use Rattle.voice.specs.MoveLaws.{fold-in}
-use Rattle.voice.specs.Frame.{moved, goOn, loud, played, living, frameAt}
+use Rattle.voice.specs.Frame.{goOn, loud, played, living, frameAt}
 use Rattle.voice.specs.FrameLaws.{go-fold, go-stay, frame-on, living-plays}
 use Rattle.voice.specs.Run.{afterAt, heardAt}
-use Rattle.voice.specs.Stretch.{spentBy, Calm, Calms, top, Clear, plain, plains}
+use Rattle.voice.specs.Stretch.{spentBy, Calm, Calms, Clear, plain, plains}
 
 -- a turn of the stretch's loop
 module _ (gain : ℕ) (pan : ℤ) (w : List ℤ) (st p : ℕ) where

@@ -9,7 +9,6 @@ use lib.IntN.{ℤ, pos, _+ℤ_, +ℤ-idr}
 use lib.ListN.{length, getD, set, replicate, length-append}
 use mir.Syntax.{w32}
 use mir.Val.{SFits, toZ, ofZ}
-use mir.Facts.{toZ-ofZ}
 use Rattle.arith.specs.Within.{Within, w-nat, w-le, w-add, w-fits, w-back}
 
 abbrev pub loudest : ℕ

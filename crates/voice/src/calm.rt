@@ -1,6 +1,6 @@
 // Calm frames: how many from a stage on have the same gain, and the stage after them.
 ghost use mathlib.Core.Path.{_≡_};
-ghost use Prim.Native.Nat.{_+_, _-_, _<_, _≤_};
+ghost use Prim.Native.Nat.{_+_, _-_, _<_};
 ghost use Rattle.voice.specs.Stages.{decayAt};
 ghost use Rattle.voice.specs.Stretch.{spentBy, RoomBy, Steady, Calms};
 use crate::Stage;

@@ -4,8 +4,8 @@ use Rattle.voice.specs.Sound.{leftOf, rightOf}
 use borrow.Author.Needs.{sfits-of}
 use mir.Facts.{toZ-ofZ}
 use mir.Syntax.{w64, w32, w16}
-use Prim.Native.Nat.{ℕ, _+_, _<_}
-use Rattle.voice.specs.StageLaws.{Room, Narrow, alive-room}
+use Prim.Native.Nat.{_+_}
+use Rattle.voice.specs.StageLaws.{Room}
 use Rattle.voice.specs.Frame.{silent, loud, goOn, played}
 use Rattle.voice.specs.State.{withMoved, sounds}
 use Rattle.voice.specs.Stages.{entered, dead, waiting, spent}
@@ -16,9 +16,7 @@ use Rattle.arith.specs.Within.{Within, w-nat, w-back}
 use borrow.Author.Tests.{not-true, not-false}
 use lib.IntN.{ℤ, pos}
 use Rattle.voice.specs.FrameLaws.{frame-free, frame-on, living-dead, living-waits, living-plays}
-use native.Mathlib.Omega.{arith}
-use mathlib.Core.Path.{ap₂}
-use mathlib.Core.Path.{_≡_, refl, sym, ap, _∙_, subst}
+use mathlib.Core.Path.{_≡_, sym, ap, _∙_}
 use borrow.Author.Needs.{needs}
 use Rattle.voice.proofs.frames.frame_at.Statement.{statement}
 use Rattle.voice.proofs.frames.frame_at.Tie as tie

@@ -6,7 +6,7 @@ use Prim.Native.Nat.{ℕ, _+_, _*_}
 use Rattle.voice.specs.FrameLaws.{folds-loop, go-fold, go-end, go-stay}
 use native.Mathlib.Omega.{arith}
 use mathlib.Core.Path.{ap₂}
-use mathlib.Core.Path.{_≡_, refl, sym, ap, _∙_, subst}
+use mathlib.Core.Path.{sym, ap, _∙_}
 use borrow.Author.Needs.{needs}
 use Rattle.voice.proofs.motion.go_on.Statement.{statement}
 use Rattle.voice.proofs.motion.go_on.Tie as tie

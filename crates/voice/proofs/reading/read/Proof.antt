@@ -1,5 +1,5 @@
-use lib.Dec.{lit<, lit≤}
-use lib.IntN.{ℤ, pos}
+use lib.Dec.{lit<}
+use lib.IntN.{ℤ}
 use mir.Syntax.{w64, w16}
 use mir.Facts.{toZ-ofZ}
 use borrow.Author.Needs.{sfits-of}
@@ -7,8 +7,8 @@ use Rattle.arith.specs.Within.{w-back}
 use Prim.Native.Nat.{ℕ, _%_}
 use mathlib.Core.Path.{ap₂}
 use Rattle.voice.specs.Reading.{between}
-use Rattle.voice.specs.Reading.{reading, sample, behind}
-use mathlib.Core.Path.{_≡_, refl, sym, ap, _∙_, subst}
+use Rattle.voice.specs.Reading.{reading, sample}
+use mathlib.Core.Path.{ap, _∙_}
 use borrow.Author.Needs.{needs}
 use Rattle.voice.proofs.reading.read.Statement.{statement}
 use Rattle.voice.proofs.reading.read.Tie as tie

@@ -10,9 +10,9 @@ use mathlib.Core.Bool.{Bool}
 use Prim.Native.Nat.{ℕ}
 use mir.Syntax.{w64}
 use lib.IntN.{ℤ, pos, _*ℤ_}
-use lib.Dec.{lit<, lit≤}
+use lib.Dec.{lit<}
 use mathlib.Core.Path.{ap₂}
-use mathlib.Core.Path.{_≡_, refl, sym, ap, _∙_, subst}
+use mathlib.Core.Path.{_≡_, ap, _∙_}
 use borrow.Author.Needs.{needs}
 use Rattle.voice.proofs.sound.loud_of.Statement.{statement}
 use Rattle.voice.proofs.sound.loud_of.Tie as tie

@@ -1,6 +1,6 @@
-use Rattle.voice.specs.Stages.{envelope, dead, decayAt, releaseAt}
+use Rattle.voice.specs.Stages.{envelope}
 use native.Mathlib.Omega.{arith}
-use mathlib.Core.Path.{_≡_, refl, sym, ap, _∙_}
+use mathlib.Core.Path.{sym, ap, _∙_}
 use borrow.Author.Needs.{needs}
 use Rattle.voice.proofs.stages.envelope_of.Statement.{statement}
 use Rattle.voice.proofs.stages.envelope_of.Tie as tie
