@@ -8,6 +8,7 @@ use native.Mathlib.Omega.{arith}
 use lib.Dec.{lit<, lit≤}
 use lib.IntN.{ℤ, pos, negsuc}
 use lib.Signed.{ltZ}
+use Rattle.arith.specs.Clamp.{amid}
 use Rattle.arith.specs.Within.{Within, w-nat, w-le, w-lit, w-add, w-sub, w-mul, w-floor-by}
 use Rattle.curves.specs.BoundLaws.{gain-le}
 use Rattle.voice.specs.declared.Stage.{Stage}
@@ -20,7 +21,6 @@ use Rattle.voice.specs.State.{sounds, free}
 use Rattle.voice.specs.Stages.{levelAt, entered, dead, waiting}
 use Rattle.voice.specs.Reading.{sample, between, reading}
 use Rattle.voice.specs.Sound.{gained, shaped, panOf, leftOf, rightOf}
-use Rattle.voice.specs.SoundLaws.{amid}
 use Rattle.voice.specs.Frame.{silent, moved, loud, played, living, frameAt, frame}
 use Rattle.voice.specs.Run.{after, heard}
 use Rattle.voice.specs.Sums.{loudest, Small, small-none, small-two}

@@ -57,5 +57,6 @@ stageParts v (Decay t) = gainOf (envelope v (Decay t)) ∷ []
 stageParts v Sustain = gainOf (envelope v Sustain) ∷ []
 stageParts v (Release a t) = gainOf (envelope v (Release a t)) ∷ []
 
+-- of a slot; a free one has none
 abbrev pub slotParts : Slot → List ℕ
 slotParts s = cond (s .sounding) (stageParts (s .voice) (s .voice .stage)) []

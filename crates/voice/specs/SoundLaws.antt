@@ -1,13 +1,12 @@
 -- Laws of the sound: what the tests of the code say of a number held to at least 0.
-use Prim.Native.Nat.{ℕ, suc, _<_}
+use Prim.Native.Nat.{ℕ, _<_}
 use mathlib.Core.Path.{_≡_, refl, subst}
 use mathlib.Core.Bool.{Bool, true, false}
 use native.Mathlib.Omega.{arith}
-use borrow.Author.Tests.{ltb-true, ltb-false}
+use borrow.Author.Tests.{ltb-true}
 use lib.Dec.{T}
 use lib.IntN.{ℤ, pos, negsuc, natAbs}
 use lib.Signed.{ltZ, nonNeg}
-use Rattle.arith.specs.Within.{Within}
 use Rattle.voice.specs.Sound.{least0}
 
 pub least0-below : (z : ℤ) → ltZ z (pos 0) ≡ true → least0 z ≡ 0
@@ -24,8 +23,3 @@ least0-above (negsuc n) t = absurd (subst (λ (b : Bool). T b) t tt)
 pub nonNeg-above : (z : ℤ) → ltZ z (pos 0) ≡ false → T (nonNeg z)
 nonNeg-above (pos n) t = tt
 nonNeg-above (negsuc n) t = absurd (subst (λ (b : Bool). T b) t tt)
-
--- between -(n + 1) and n + 1
-pub amid : (k : ℤ) (n : ℕ) → ltZ k (negsuc n) ≡ false → ltZ (pos (suc n)) k ≡ false → Within k (suc n)
-amid (pos a) n t u = record { within = ltb-false (suc n) a u }
-amid (negsuc a) n t u = record { within = omega (arith, ltb-false n a t) }

@@ -1,16 +1,17 @@
 -- Numbers added into a list of sums, and the bounds of the sums. `loudest` bounds what one voice adds.
 use Prim.Native.Nat.{ℕ, zero, suc, _+_, _*_, _≤_, _<_}
 use mathlib.Core.Path.{_≡_, refl, ap, ap₂, sym, _∙_}
-use mathlib.Core.List.{List, [], _∷_, _++_, append-assoc}
+use mathlib.Core.List.{List, [], _∷_, _++_}
 use native.Mathlib.Nat.{suc-ne-zero, suc-inj, not-suc-le-zero, le-of-suc-le-suc, add-zero, zero-add}
 use native.Mathlib.Omega.{arith}
 use lib.Dec.{lit<, lit≤}
 use lib.IntN.{ℤ, pos, _+ℤ_, +ℤ-idr}
-use lib.ListN.{length, getD, set, replicate, length-append}
+use lib.ListN.{length, getD, set, replicate}
 use mir.Syntax.{w32}
 use mir.Val.{SFits, toZ, ofZ}
 use Rattle.arith.specs.Within.{Within, w-nat, w-le, w-add, w-fits, w-back}
 
+-- the most that one voice adds to a sum, up or down
 abbrev pub loudest : ℕ
 loudest = 25600003
 
@@ -38,43 +39,11 @@ pub addTo-none : (ys : List ℤ) → addTo [] ys ≡ ys
 unfolding addTo
 addTo-none ys = refl
 
-pub addTo-at : (xs ys : List ℤ) (k : ℕ) → length xs ≡ k → getD (addTo xs ys) k (pos 0) ≡ getD ys k (pos 0)
-unfolding addTo
-addTo-at [] ys k e = refl
-addTo-at (x ∷ xs) [] k e = refl
-addTo-at (x ∷ xs) (y ∷ ys) zero e = absurd (suc-ne-zero _ e)
-addTo-at (x ∷ xs) (y ∷ ys) (suc k) e = addTo-at xs ys k (suc-inj e)
-
-pub addTo-set : (xs ys : List ℤ) (k : ℕ) (a : ℤ) → length xs ≡ k → k < length ys → set (addTo xs ys) k (getD ys k (pos 0) +ℤ a) ≡ addTo (xs ++ (a ∷ [])) ys
-unfolding addTo
-addTo-set [] [] k a e h = absurd (not-suc-le-zero h)
-addTo-set [] (y ∷ ys) zero a e h = refl
-addTo-set [] (y ∷ ys) (suc k) a e h = absurd (suc-ne-zero _ (sym e))
-addTo-set (x ∷ xs) [] k a e h = absurd (not-suc-le-zero h)
-addTo-set (x ∷ xs) (y ∷ ys) zero a e h = absurd (suc-ne-zero _ e)
-addTo-set (x ∷ xs) (y ∷ ys) (suc k) a e h = ap (_∷_ (y +ℤ x)) (addTo-set xs ys k a (suc-inj e) (le-of-suc-le-suc h))
-
 pub addTo-length : (xs ys : List ℤ) → length (addTo xs ys) ≡ length ys
 unfolding addTo
 addTo-length [] ys = refl
 addTo-length (x ∷ xs) [] = refl
 addTo-length (x ∷ xs) (y ∷ ys) = ap suc (addTo-length xs ys)
-
--- two numbers behind the ones that are added: two stores
-pub add-two : (xs ys : List ℤ) (k : ℕ) (a b : ℤ) → length xs ≡ k → k + 1 < length ys
-    → set (set (addTo xs ys) k (getD ys k (pos 0) +ℤ a)) (k + 1) (getD ys (k + 1) (pos 0) +ℤ b) ≡ addTo (xs ++ (a ∷ b ∷ [])) ys
-add-two xs ys k a b e h =
-    let l : length (xs ++ (a ∷ [])) ≡ k + 1 = simp length-append (omega arith) in
-    ap (λ (z : List ℤ). set z (k + 1) (getD ys (k + 1) (pos 0) +ℤ b)) (addTo-set xs ys k a e (omega arith))
-    ∙ addTo-set (xs ++ (a ∷ [])) ys (k + 1) b l h
-    ∙ ap (λ (z : List ℤ). addTo z ys) (append-assoc xs (a ∷ []) (b ∷ []))
-
--- the second element, read after the first store
-pub second : (xs ys : List ℤ) (k : ℕ) (a : ℤ) → length xs ≡ k → k + 1 < length ys
-    → getD (set (addTo xs ys) k (getD ys k (pos 0) +ℤ a)) (k + 1) (pos 0) ≡ getD ys (k + 1) (pos 0)
-second xs ys k a e h =
-    let l : length (xs ++ (a ∷ [])) ≡ k + 1 = simp length-append (omega arith) in
-    ap (λ (z : List ℤ). getD z (k + 1) (pos 0)) (addTo-set xs ys k a e (omega arith)) ∙ addTo-at (xs ++ (a ∷ [])) ys (k + 1) l
 
 -- two zeros behind the numbers that are added change nothing
 pub add-nothing : (xs ys : List ℤ) → addTo (xs ++ (pos 0 ∷ pos 0 ∷ [])) ys ≡ addTo xs ys

@@ -1,7 +1,8 @@
+-- One frame of a slot, by the branch that is taken (free, dead, in delay, played): each return by its law of FrameLaws.
 use Rattle.voice.specs.declared.Framed.{Framed}
 use Rattle.voice.specs.declared.Slot.{Slot}
 use Rattle.voice.specs.Sound.{leftOf, rightOf}
-use borrow.Author.Needs.{sfits-of}
+use borrow.Author.Needs.{sfits-of, needs}
 use mir.Facts.{toZ-ofZ}
 use mir.Syntax.{w64, w32, w16}
 use Prim.Native.Nat.{_+_}
@@ -17,7 +18,6 @@ use borrow.Author.Tests.{not-true, not-false}
 use lib.IntN.{ℤ, pos}
 use Rattle.voice.specs.FrameLaws.{frame-free, frame-on, living-dead, living-waits, living-plays}
 use mathlib.Core.Path.{_≡_, sym, ap, _∙_}
-use borrow.Author.Needs.{needs}
 use Rattle.voice.proofs.frames.frame_at.Statement.{statement}
 use Rattle.voice.proofs.frames.frame_at.Tie as tie
 

@@ -4,7 +4,7 @@ use Prim.Native.Nat.{ℕ, _+_, _*_, _<_}
 use mathlib.Core.Bool.{Bool, false}
 use mathlib.Core.List.{List}
 use native.Mathlib.Omega.{arith}
-use borrow.Author.Needs.{sfits-of}
+use borrow.Author.Needs.{sfits-of, needs}
 use lib.Dec.{lit<}
 use lib.IntN.{ℤ}
 use mir.Facts.{toZ-ofZ}
@@ -23,7 +23,6 @@ use Rattle.voice.specs.Stretch.{Calms, Clear, plains}
 use Rattle.voice.specs.StretchLaws.{stretch-slot, stretch-sums}
 use Rattle.voice.specs.CalmLaws.{room-le}
 use Rattle.voice.specs.Sums.{Small, addAt}
-use borrow.Author.Needs.{needs}
 use Rattle.voice.proofs.frames.go.Statement.{statement}
 use Rattle.voice.proofs.frames.go.Tie as tie
 

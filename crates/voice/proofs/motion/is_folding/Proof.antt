@@ -1,3 +1,4 @@
+-- Whether a voice folds: each return by what the tests before it say of `folds`.
 use Rattle.voice.specs.Move.{folds}
 use mathlib.Core.Bool.{not}
 use borrow.Author.Tests.{eq-eqb, ne-eqb, le-ltb, lt-ltb}

@@ -1,3 +1,4 @@
+-- The sample behind sample i: each return by what the tests before it say of `behind`.
 use Rattle.voice.specs.Reading.{behind}
 use borrow.Author.Tests.{eq-eqb, ne-eqb, not-true, not-false}
 use borrow.Author.Needs.{needs}

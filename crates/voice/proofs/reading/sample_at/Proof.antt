@@ -1,3 +1,4 @@
+-- The sample at i, by the read; behind the last, by the default of a read past a list.
 use lib.IntN.{pos}
 use lib.ListN.{List·getD-eq-default}
 use mathlib.Core.Path.{sym}

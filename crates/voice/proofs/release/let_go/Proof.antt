@@ -1,3 +1,4 @@
+-- The stage at release, by the stage before it: each return by that case of `letGo`.
 use Rattle.voice.specs.Release.{letGo}
 use Rattle.curves.specs.Decibels.{leastCb}
 use Prim.Native.Nat.{ℕ}

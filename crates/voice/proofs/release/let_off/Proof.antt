@@ -1,3 +1,4 @@
+-- The voice released, by the contracts of the stage at release and of the move.
 use Rattle.voice.specs.Release.{release}
 use Rattle.voice.specs.State.{withMoved}
 use Rattle.voice.specs.declared.Stage.{Stage}

@@ -1,3 +1,4 @@
+-- floor(u * level / 2^24) and its bound, by the signed expression.
 use lib.Dec.{lit≤}
 use mir.Syntax.{w64}
 use Rattle.arith.specs.Within.{w-nat, w-le}

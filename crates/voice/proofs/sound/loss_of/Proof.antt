@@ -5,9 +5,8 @@ use lib.Dec.{lit<}
 use lib.IntN.{pos, _+ℤ_}
 use mir.Facts.{toZ-ofZ}
 use mir.Syntax.{w32, w64}
-use borrow.Author.Needs.{sfits-of}
+use borrow.Author.Needs.{sfits-of, needs}
 use Rattle.arith.specs.Within.{w-back}
-use borrow.Author.Needs.{needs}
 use Rattle.voice.proofs.sound.loss_of.Statement.{statement}
 use Rattle.voice.proofs.sound.loss_of.Tie as tie
 

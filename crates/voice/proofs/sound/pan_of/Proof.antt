@@ -1,10 +1,10 @@
+-- The pan held to -500..500: each return by its case of `heldTo`.
 use lib.Dec.{lit<}
 use lib.IntN.{pos, negsuc}
 use mir.Syntax.{w64, w16}
 use mir.Facts.{toZ-ofZ}
 use Rattle.arith.specs.Within.{w-back, w-lit, w-of, w-fits}
-use Rattle.arith.specs.Clamp.{clamp-low, clamp-high, clamp-in}
-use Rattle.voice.specs.SoundLaws.{amid}
+use Rattle.arith.specs.Clamp.{clamp-low, clamp-high, clamp-in, amid}
 use mathlib.Core.Path.{sym}
 use Rattle.voice.proofs.sound.pan_of.Statement.{statement}
 use Rattle.voice.proofs.sound.pan_of.Tie as tie

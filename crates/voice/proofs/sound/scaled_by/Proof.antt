@@ -1,3 +1,4 @@
+-- floor(x * gain / 2^16) and its bound, by the signed expression.
 use lib.Dec.{lit≤}
 use mir.Syntax.{w64}
 use Rattle.arith.specs.Within.{w-nat, w-le}

@@ -1,3 +1,4 @@
+-- The level put in, by the stage: in attack by the contract of `at_level`, else as it is.
 use Rattle.voice.specs.Sound.{shaped}
 use Rattle.voice.specs.declared.Stage.{Stage}
 use Rattle.arith.specs.Floor.{floorZ}

@@ -1,11 +1,10 @@
-use Rattle.arith.specs.Expr.{val}
-use native.Mathlib.Nat.{lt-of-le-of-lt}
+-- The attenuation, at least 0: the sum by the signed expression, each return by its law of `least0`.
+use Rattle.arith.specs.Expr.{val, E, Var, var, add, given, fits, back, within}
+use native.Mathlib.Nat.{lt-of-le-of-lt, le-of-lt}
 use Rattle.voice.specs.SoundLaws.{least0-below, least0-above, nonNeg-above}
-use native.Mathlib.Nat.{le-of-lt}
 use lib.Dec.{lit<}
 use mir.Syntax.{w64}
 use Rattle.arith.specs.Within.{w-nat}
-use Rattle.arith.specs.Expr.{E, Var, var, add, given, fits, back, within}
 use mathlib.Core.List.{List, [], _∷_}
 use mathlib.Core.Path.{sym}
 use borrow.Author.Needs.{needs}

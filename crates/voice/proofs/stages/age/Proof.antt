@@ -1,3 +1,4 @@
+-- One frame more spent, by the stage: each return by that case of `spent`, and the count fits by `Room`.
 use Rattle.voice.specs.StageLaws.{Room}
 use Rattle.voice.specs.Stages.{spent}
 use Rattle.voice.specs.declared.Stage.the-variants.{Delay}

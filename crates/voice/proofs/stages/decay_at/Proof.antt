@@ -1,3 +1,4 @@
+-- The decay's cB: each return by what the tests before it say of `decayAt` and of the lesser of two numbers.
 use Rattle.voice.specs.Stages.{decayAt}
 use Prim.Native.Nat.{_≤_, _*_, _/_}
 use native.Mathlib.Nat.{min-eq-left, min-eq-right}

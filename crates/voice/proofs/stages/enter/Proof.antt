@@ -1,3 +1,4 @@
+-- Spent stages left, by the stage: each return by that case of `entered`, and its room by `entered-roomy`.
 use native.Mathlib.Omega.{arith}
 use Rattle.voice.specs.declared.Stage.{Stage}
 use Rattle.voice.specs.StageLaws.{Narrow, Roomy, entered-roomy}

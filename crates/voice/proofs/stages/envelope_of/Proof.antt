@@ -1,3 +1,4 @@
+-- The envelope's cB, by the stage: each return by that case of `envelope`.
 use Rattle.voice.specs.Stages.{envelope}
 use native.Mathlib.Omega.{arith}
 use mathlib.Core.Path.{sym, ap, _∙_}

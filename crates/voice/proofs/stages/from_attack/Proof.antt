@@ -1,3 +1,4 @@
+-- Attack or what follows: each return by what the test says of `fromAttack`.
 use Rattle.voice.specs.Stages.{fromAttack}
 use borrow.Author.Tests.{le-leb, lt-leb}
 use borrow.Author.Needs.{needs}

@@ -1,3 +1,4 @@
+-- Decay or what follows: each return by what the test says of `fromDecay`.
 use Rattle.voice.specs.Stages.{fromDecay}
 use mathlib.Core.Path.{sym}
 use borrow.Author.Tests.{le-leb, lt-leb}

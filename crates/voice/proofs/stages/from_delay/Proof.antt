@@ -1,3 +1,4 @@
+-- Delay or what follows: each return by what the test says of `fromDelay`.
 use Rattle.voice.specs.Stages.{fromDelay}
 use borrow.Author.Tests.{eq-eqb, ne-eqb}
 use borrow.Author.Needs.{needs}

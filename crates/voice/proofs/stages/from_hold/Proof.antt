@@ -1,3 +1,4 @@
+-- Hold or what follows: each return by what the test says of `fromHold`.
 use Rattle.voice.specs.Stages.{fromHold}
 use borrow.Author.Tests.{le-leb, lt-leb}
 use borrow.Author.Needs.{needs}

@@ -1,3 +1,4 @@
+-- Whether the envelope has died away, by the stage: each return by that case of `dead`.
 use lib.Dec.{leb}
 use Rattle.voice.specs.Stages.{dead}
 use mathlib.Core.Path.{sym, ap, _∙_}

@@ -1,3 +1,4 @@
+-- The release's cB: each return by what the test says of `releaseAt`, and it fits because a quotient is at most what is divided.
 use Rattle.voice.specs.Stages.{releaseAt}
 use Prim.Native.Nat.{_*_}
 use native.Mathlib.Nat.{div-le-self}
