@@ -23,21 +23,26 @@ same-quotient n t j h k =
     zero-plus : (q : ℕ) → 0 + q ≡ q
     zero-plus q = omega arith
 
+-- the frames until it changes are steady
 pub until-steady : (n t : ℕ) → 0 < n → Steady n t ((n - 1000 * t % n + 999) / 1000)
 until-steady n t h j k = same-quotient n t j h (omega (arith, mod-lt (1000 * t) h))
 
+-- then the decay's cB stays
 pub decay-same : (n z t j : ℕ) → 1000 * (t + j) / n ≡ 1000 * t / n → decayAt n z (t + j) ≡ decayAt n z t
 unfolding decayAt
 decay-same n z t j e = ap (λ (q : ℕ). cond (eqb n 0) z (min q z)) e
 
+-- and the release's
 pub release-same : (n a t j : ℕ) → 1000 * (t + j) / n ≡ 1000 * t / n → releaseAt n a (t + j) ≡ releaseAt n a t
 unfolding releaseAt
 release-same n a t j e = ap (λ (q : ℕ). cond (eqb n 0) 1000 (a + q)) e
 
 module _ (v : Voice) where
+  -- no frames are calm, whatever the stage
   pub none-calm : (g : Stage) (m : ℕ) → m ≡ 0 → Calms v g m
   none-calm g m e j k = absurd (not-suc-le-zero (subst (λ (x : ℕ). j < x) e k))
 
+  -- a hold, to its end
   pub hold-calm : (t m : ℕ) → (0 < m → t + m ≤ v .hold) → Calms v (Hold t) m
   unfolding fromHold
   hold-calm t m h j k =
@@ -50,9 +55,11 @@ module _ (v : Voice) where
         full = λ u. refl;
       }
 
+  -- a sustain, always
   pub sustain-calm : (m : ℕ) → Calms v Sustain m
   sustain-calm m j k = record { enters = refl; waits = refl; dies = refl; frees = refl; cb = refl; full = λ u. refl }
 
+  -- a decay that is not spent, while its cB stays
   pub decay-calm : (t m : ℕ) → (0 < m → decayAt (v .decay) (v .sustain) t < v .sustain) → Steady (v .decay) t m → Calms v (Decay t) m
   unfolding fromDecay
   decay-calm t m h s j k =
@@ -68,6 +75,7 @@ module _ (v : Voice) where
         full = λ u. refl;
       }
 
+  -- a release, while its cB stays
   pub release-calm : (a t m : ℕ) → Steady (v .release) t m → Calms v (Release a t) m
   release-calm a t m s j k =
       let e = release-same (v .release) a t j (s j k) in

@@ -37,6 +37,7 @@ module _ (st : ℕ) (l : ℤ) (w : List ℤ) (k : ℕ) (s : Slot) (free : afterA
   adds-nothing ys (suc m) =
       ap (λ (xs : List ℤ). addTo xs ys) (zeros m) ∙ add-nothing (heardAt st l w (k + m) s) ys ∙ adds-nothing ys m
 
+  -- and stay within one voice's bound
   pub stays-small : (m : ℕ) → Small 1 (heardAt st l w k s) → Small 1 (heardAt st l w (k + m) s)
   stays-small zero h = rw add-zero h
   stays-small (suc m) h =

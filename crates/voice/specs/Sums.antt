@@ -35,10 +35,12 @@ Small b xs = (j : ℕ) → Within (getD xs j (pos 0)) (b * loudest)
 abbrev pub From : ℕ → List ℤ → Type 0
 From k xs = (j : ℕ) → k ≤ j → Within (getD xs j (pos 0)) (31 * loudest)
 
+-- no numbers change nothing
 pub addTo-none : (ys : List ℤ) → addTo [] ys ≡ ys
 unfolding addTo
 addTo-none ys = refl
 
+-- there are as many sums as before
 pub addTo-length : (xs ys : List ℤ) → length (addTo xs ys) ≡ length ys
 unfolding addTo
 addTo-length [] ys = refl
@@ -54,6 +56,7 @@ add-nothing [] (y ∷ z ∷ ys) = ap₂ (λ (a b : ℤ). a ∷ b ∷ ys) (+ℤ-i
 add-nothing (x ∷ xs) [] = refl
 add-nothing (x ∷ xs) (y ∷ ys) = ap (_∷_ (y +ℤ x)) (add-nothing xs ys)
 
+-- no numbers
 pub small-none : Small 1 []
 small-none j = w-nat (lit≤ tt)
 
@@ -63,6 +66,7 @@ zeros-small zero j = w-nat (lit≤ tt)
 zeros-small (suc n) zero = w-nat (lit≤ tt)
 zeros-small (suc n) (suc j) = zeros-small n j
 
+-- a frame's two numbers more
 pub small-two : (xs : List ℤ) (a b : ℤ) → Small 1 xs → Within a (1 * loudest) → Within b (1 * loudest) → Small 1 (xs ++ (a ∷ b ∷ []))
 small-two [] a b h p q zero = p
 small-two [] a b h p q (suc zero) = q
@@ -70,11 +74,13 @@ small-two [] a b h p q (suc (suc j)) = w-nat (lit≤ tt)
 small-two (x ∷ xs) a b h p q zero = h zero
 small-two (x ∷ xs) a b h p q (suc j) = small-two xs a b (λ i. h (suc i)) p q j
 
+-- numbers and more numbers
 pub small-append : (xs zs : List ℤ) → Small 1 xs → Small 1 zs → Small 1 (xs ++ zs)
 small-append [] zs h k j = k j
 small-append (x ∷ xs) zs h k zero = h zero
 small-append (x ∷ xs) zs h k (suc j) = small-append xs zs (λ i. h (suc i)) k j
 
+-- one voice more
 pub addTo-small : (xs ys : List ℤ) (b : ℕ) → Small 1 xs → Small b ys → Small (b + 1) (addTo xs ys)
 unfolding addTo
 addTo-small [] ys b h k j = w-le (k j) (omega arith)
@@ -105,6 +111,7 @@ add-after (suc k) zero xs zs ys e = absurd (no (length xs) e)
 add-after (suc k) (suc n) xs zs [] e = refl
 add-after (suc k) (suc n) xs zs (y ∷ ys) e = ap (_∷_ y) (add-after k n xs zs ys (omega arith))
 
+-- the same where the first are added from the start
 pub add-next : (xs zs ys : List ℤ) (n : ℕ) → length xs ≡ n → addAt n zs (addTo xs ys) ≡ addTo (xs ++ zs) ys
 unfolding addAt
 add-next xs zs ys n e = add-after 0 n xs zs ys (omega arith)
@@ -126,16 +133,19 @@ add-beyond (suc k) xs (y ∷ ys) zero h = absurd (no (length xs) h)
     no n e = omega arith
 add-beyond (suc k) xs (y ∷ ys) (suc j) h = add-beyond k xs ys j (omega arith)
 
+-- the same from the start
 pub to-beyond : (xs ys : List ℤ) (j : ℕ) → length xs ≤ j → getD (addTo xs ys) j (pos 0) ≡ getD ys j (pos 0)
 unfolding addAt
 to-beyond xs ys j h = add-beyond 0 xs ys j (omega arith)
 
+-- there are as many sums as before
 pub addAt-length : (k : ℕ) (xs ys : List ℤ) → length (addAt k xs ys) ≡ length ys
 unfolding addAt
 addAt-length zero xs ys = addTo-length xs ys
 addAt-length (suc k) xs [] = refl
 addAt-length (suc k) xs (y ∷ ys) = ap suc (addAt-length k xs ys)
 
+-- no numbers change nothing
 pub addAt-none : (k : ℕ) (ys : List ℤ) → addAt k [] ys ≡ ys
 unfolding addAt addTo
 addAt-none zero ys = refl
