@@ -15,7 +15,7 @@ use Rattle.voice.specs.declared.Stage.{Stage}
 use lib.Dec.{lit<, lit≤}
 use Rattle.arith.specs.Within.{Within, w-nat, w-back}
 use borrow.Author.Tests.{not-true, not-false}
-use lib.IntN.{ℤ, pos}
+use lib.IntN.{ℤ}
 use Rattle.voice.specs.FrameLaws.{frame-free, frame-on, living-dead, living-waits, living-plays}
 use mathlib.Core.Path.{_≡_, sym, ap, _∙_}
 use Rattle.voice.proofs.frames.frame_at.Statement.{statement}
