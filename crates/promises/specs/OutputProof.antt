@@ -20,7 +20,7 @@ use Rattle.arith.specs.Within.{Within, w-le}
 use Rattle.voice.specs.declared.Voice.{Voice}
 use Rattle.voice.specs.declared.Channel.{Channel}
 use Rattle.voice.specs.declared.Slot.{Slot}
-use Rattle.voice.specs.SoundLaws.{amid}
+use Rattle.arith.specs.Clamp.{amid}
 use Rattle.voice.specs.Run.{after}
 use Rattle.engine.specs.declared.Engine.{Engine}
 use Rattle.engine.specs.declared.Answered.{Answered}

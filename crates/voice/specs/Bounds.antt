@@ -1,16 +1,15 @@
 -- What a voice adds is within `loudest`, whatever its record says, and 32 times that fits the sums.
-use Prim.Native.Nat.{ℕ, zero, suc, _+_, _*_, _^_, _%_, _≤_, _<_}
-use mathlib.Core.Path.{_≡_, refl, sym, ap, subst}
+use Prim.Native.Nat.{ℕ, zero, suc, _*_, _%_, _≤_, _<_}
+use mathlib.Core.Path.{_≡_, refl}
 use mathlib.Core.Bool.{Bool, true, false, cond}
 use mathlib.Core.List.{List}
 use native.Mathlib.Nat.{mod-lt, le-of-lt}
 use native.Mathlib.Omega.{arith}
 use lib.Dec.{lit<, lit≤}
-use lib.IntN.{ℤ, pos, negsuc, _+ℤ_, _-ℤ_, _*ℤ_}
+use lib.IntN.{ℤ, pos, negsuc}
 use lib.Signed.{ltZ}
+use Rattle.arith.specs.Clamp.{amid}
 use Rattle.arith.specs.Within.{Within, w-nat, w-le, w-lit, w-add, w-sub, w-mul, w-floor-by}
-use Rattle.arith.specs.Floor.{floorZ}
-use Rattle.arith.specs.Over.{heldTo}
 use Rattle.curves.specs.BoundLaws.{gain-le}
 use Rattle.voice.specs.declared.Stage.{Stage}
 use Rattle.voice.specs.declared.Stage.the-variants.{Delay, Attack, Hold, Decay, Sustain, Release}
@@ -22,7 +21,6 @@ use Rattle.voice.specs.State.{sounds, free}
 use Rattle.voice.specs.Stages.{levelAt, entered, dead, waiting}
 use Rattle.voice.specs.Reading.{sample, between, reading}
 use Rattle.voice.specs.Sound.{gained, shaped, panOf, leftOf, rightOf}
-use Rattle.voice.specs.SoundLaws.{amid}
 use Rattle.voice.specs.Frame.{silent, moved, loud, played, living, frameAt, frame}
 use Rattle.voice.specs.Run.{after, heard}
 use Rattle.voice.specs.Sums.{loudest, Small, small-none, small-two}
@@ -31,22 +29,27 @@ use Rattle.voice.specs.Sums.{loudest, Small, small-none, small-two}
 abbrev pub Samples : List ℤ → Type 0
 Samples w = (i : ℕ) → Within (sample w i) 32768
 
+-- between two such samples
 between-in : (a b : ℤ) (f : ℕ) → Within a 32768 → Within b 32768 → f ≤ 16777216 → Within (between a b f) 100000
 between-in a b f p q h =
     w-le (w-add p (w-floor-by 65536 16777216 (lit< tt) (lit≤ tt) (w-mul (w-sub q p) (w-nat h)))) (lit≤ tt)
 
+-- the reading of a window of such samples
 pub reading-in : (b : Bool) (from to : ℕ) (w : List ℤ) (p : ℕ) → Samples w → Within (reading b from to w p) 100000
 unfolding reading
 reading-in b from to w p h = between-in _ _ (p % 16777216) (h _) (h _) (le-of-lt (mod-lt p (lit< tt)))
 
+-- at its gain, which is at most 2^24
 gained-in : (x : ℤ) (a : ℕ) → Within x 100000 → Within (gained x a) 25600001
 unfolding gained
 gained-in x a h = w-floor-by 25600001 65536 (lit< tt) (lit≤ tt) (w-mul h (w-nat (gain-le a)))
 
+-- a level is at most full
 pub level-le : (n t : ℕ) → levelAt n t ≤ 16777216
 unfolding levelAt
 level-le n t = omega arith
 
+-- at its level
 shaped-in : (v : Voice) (s : Stage) (u : ℤ) → Within u 25600001 → Within (shaped v s u) 25600002
 shaped-in v (Delay left) u h = w-le h (lit≤ tt)
 shaped-in v (Attack t) u h = w-floor-by 25600002 16777216 (lit< tt) (lit≤ tt) (w-mul h (w-nat (level-le (v .attack) t)))
@@ -55,10 +58,12 @@ shaped-in v (Decay t) u h = w-le h (lit≤ tt)
 shaped-in v Sustain u h = w-le h (lit≤ tt)
 shaped-in v (Release a t) u h = w-le h (lit≤ tt)
 
+-- what a frame gives before its pan
 loud-in : (l : ℤ) (w : List ℤ) (v : Voice) (s : Stage) → Samples w → Within (loud l w v s) 25600002
 unfolding loud
 loud-in l w v s h = shaped-in v s _ (gained-in _ _ (reading-in _ (v .loopfrom) (v .loopto) w (v .place) h))
 
+-- the pan's total is held to -500..500
 pan-in : (p : ℤ) → Within (panOf p) 500
 pan-in p = by (ltZ p (negsuc 499)) refl (ltZ (pos 500) p) refl
   where
@@ -67,10 +72,12 @@ pan-in p = by (ltZ p (negsuc 499)) refl (ltZ (pos 500) p) refl
     by false e true f = w-lit (pos 500)
     by false e false f = amid p 499 e f
 
+-- the left share
 left-in : (u p : ℤ) → Within u 25600002 → Within (leftOf u p) loudest
 unfolding leftOf
 left-in u p h = w-floor-by 25600003 1000 (lit< tt) (lit≤ tt) (w-mul h (w-sub (w-lit (pos 500)) (pan-in p)))
 
+-- the right share
 right-in : (u p : ℤ) → Within u 25600002 → Within (rightOf u p) loudest
 unfolding rightOf
 right-in u p h = w-floor-by 25600003 1000 (lit< tt) (lit≤ tt) (w-mul h (w-add (w-lit (pos 500)) (pan-in p)))
@@ -79,6 +86,7 @@ right-in u p h = w-floor-by 25600003 1000 (lit< tt) (lit≤ tt) (w-mul h (w-add 
 abbrev pub Quiet : Framed → Type 0
 Quiet f = Within (f .left) loudest × Within (f .right) loudest
 
+-- no sound
 none : Within (pos 0) loudest
 none = w-nat (lit≤ tt)
 
@@ -107,5 +115,6 @@ heard-in c w (suc n) s h =
     let f = frame-in _ _ w (after c w n s) h in
     small-two (heard c w n s) _ _ (heard-in c w n s h) (f .0) (f .1)
 
+-- 32 voices together
 pub thirty-two : 32 * loudest < 2147483648
 thirty-two = lit< tt

@@ -1,6 +1,6 @@
 -- A voice never reads outside its window: it reads samples of the window, and the 0 that stands behind its last.
 use Prim.Native.Nat.{ℕ, zero, suc, _+_, _*_, _/_, _≤_, _<_}
-use mathlib.Core.Path.{_≡_, refl, sym, ap, _∙_, subst}
+use mathlib.Core.Path.{_≡_, refl, _∙_}
 use mathlib.Core.Bool.{Bool, true, false, cond, not, _&&_}
 use mathlib.Core.List.{List}
 use mathlib.Core.Logic.{_⊎_, ⊎-elim, inl, inr}
@@ -45,6 +45,7 @@ next w i h =
     (λ (g : length w ≤ i + 1). inr ((omega arith), List·getD-eq-default w (pos 0) {n = i + 1} g))
     (split (i + 1) (length w))
 
+-- a voice inside its window reads samples of it, or the 0 behind its last
 pub inside-reads : (w : List ℤ) (v : Voice) (s : Stage) → Inside w v → Reads w v s
 unfolding behind
 inside-reads w v s h = record { first = at; second = by (folds v s) refl }
@@ -100,6 +101,7 @@ frame-inside st l w s h = by (s .sounding) (dead v g) (waiting g) (ended v g (v 
     by true false false false e = moved-in w v (spent g) _ h (settled-in v g (v .place + st) (h .loop g) e)
     by false b c d e = h
 
+-- and so do n frames
 pub after-inside : (c : Channel) (w : List ℤ) (n : ℕ) (s : Slot) → Inside w (s .voice) → Inside w (after c w n s .voice)
 unfolding after frame
 after-inside c w zero s h = h

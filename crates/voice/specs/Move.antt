@@ -1,12 +1,12 @@
 -- 01, "From a key to layers" (pitch total), "Tables and steps" (step), "A voice, frame by frame" (fold, end).
 use Prim.Native.Nat.{ℕ, _+_, _-_, _*_, _%_}
-use mathlib.Core.Bool.{Bool, true, false, cond, not, _&&_, _||_}
+use mathlib.Core.Bool.{Bool, cond, not, _&&_, _||_}
 use lib.Dec.{eqb, leb, ltb}
-use lib.IntN.{ℤ, pos, negsuc, _+ℤ_}
-use Rattle.arith.specs.Over.{heldTo}
+use lib.IntN.{ℤ, _+ℤ_}
 use Rattle.curves.specs.Step.{stepOf}
 unfoldable pub use Rattle.curves.specs.Pitch.{bendCents}
 pub use Rattle.curves.specs.Pitch.{lifted}
+use Rattle.curves.specs.Pitch.{pitchHeld}
 use Rattle.voice.specs.declared.Stage.{Stage}
 use Rattle.voice.specs.declared.Voice.{Voice}
 use Rattle.voice.specs.declared.Channel.{Channel}
@@ -14,7 +14,7 @@ use Rattle.voice.specs.Stages.{released}
 
 -- the pitch total, held to -9,600..4,800
 unfoldable pub pitchTotal : Channel → Voice → ℤ
-pitchTotal c v = heldTo (negsuc 9599) (pos 4800) (v .pitch +ℤ bendCents (c .bend))
+pitchTotal c v = pitchHeld (v .pitch +ℤ bendCents (c .bend))
 
 -- the voice's step, in 2^-24 samples
 unfoldable pub step : Channel → Voice → ℕ

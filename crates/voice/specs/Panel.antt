@@ -2,7 +2,7 @@
 use Prim.Native.Nat.{ℕ}
 use mathlib.Core.List.{List, [], _∷_}
 use lib.Ieee.{Float}
-use mathlib.Core.Bool.{Bool, cond}
+use mathlib.Core.Bool.{cond}
 use Rattle.arith.specs.Over.{levelOf}
 use Rattle.curves.specs.Decibels.{gainOf}
 use Rattle.voice.specs.declared.Shown.{Shown}
@@ -57,5 +57,6 @@ stageParts v (Decay t) = gainOf (envelope v (Decay t)) ∷ []
 stageParts v Sustain = gainOf (envelope v Sustain) ∷ []
 stageParts v (Release a t) = gainOf (envelope v (Release a t)) ∷ []
 
+-- of a slot; a free one has none
 abbrev pub slotParts : Slot → List ℕ
 slotParts s = cond (s .sounding) (stageParts (s .voice) (s .voice .stage)) []

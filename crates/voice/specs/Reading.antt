@@ -1,5 +1,5 @@
--- 01, "A voice, frame by frame": the reading. Nothing outside this file says how many samples it takes (M-100 replaces it).
-use Prim.Native.Nat.{ℕ, _+_, _*_, _/_, _%_}
+-- 01, "A voice, frame by frame": the reading between two samples of the window.
+use Prim.Native.Nat.{ℕ, _+_, _/_, _%_}
 use mathlib.Core.Bool.{Bool, cond, _&&_}
 use mathlib.Core.List.{List}
 use lib.Dec.{eqb}

@@ -1,7 +1,7 @@
 -- A slot that is free stays as it is, and its frames add nothing: a run may end where its voice is freed.
 use Prim.Native.Nat.{ℕ, zero, suc, _+_}
-use mathlib.Core.Path.{_≡_, refl, ap, sym, _∙_, subst}
-use mathlib.Core.Bool.{Bool, false}
+use mathlib.Core.Path.{_≡_, ap, sym, _∙_, subst}
+use mathlib.Core.Bool.{false}
 use mathlib.Core.List.{List, [], _∷_, _++_}
 use native.Mathlib.Nat.{add-zero, add-suc}
 use lib.Dec.{lit≤}
@@ -37,6 +37,7 @@ module _ (st : ℕ) (l : ℤ) (w : List ℤ) (k : ℕ) (s : Slot) (free : afterA
   adds-nothing ys (suc m) =
       ap (λ (xs : List ℤ). addTo xs ys) (zeros m) ∙ add-nothing (heardAt st l w (k + m) s) ys ∙ adds-nothing ys m
 
+  -- and stay within one voice's bound
   pub stays-small : (m : ℕ) → Small 1 (heardAt st l w k s) → Small 1 (heardAt st l w (k + m) s)
   stays-small zero h = rw add-zero h
   stays-small (suc m) h =

@@ -1,7 +1,6 @@
 -- 01, "A voice, frame by frame": attenuation, gain, level, pan.
 use Prim.Native.Nat.{ℕ}
-use mathlib.Core.Bool.{Bool, cond}
-use lib.IntN.{ℤ, pos, negsuc, natAbs, _+ℤ_, _-ℤ_, _*ℤ_}
+use lib.IntN.{ℤ, pos, negsuc, _+ℤ_, _-ℤ_, _*ℤ_}
 use Rattle.arith.specs.Floor.{floorZ}
 use Rattle.arith.specs.Over.{heldTo}
 use Rattle.curves.specs.Decibels.{gainOf, cbOf}

@@ -1,21 +1,15 @@
 -- Laws of the sound: what the tests of the code say of a number held to at least 0.
-use Prim.Native.Nat.{ℕ, zero, suc, _≤_, _<_}
-use mathlib.Core.Path.{_≡_, refl, ap, subst}
+use Prim.Native.Nat.{ℕ, _<_}
+use mathlib.Core.Path.{_≡_, refl, subst}
 use mathlib.Core.Bool.{Bool, true, false}
-use mathlib.Core.List.{List, [], _∷_}
-use native.Mathlib.Nat.{not-suc-le-zero, le-of-suc-le-suc}
 use native.Mathlib.Omega.{arith}
-use borrow.Author.Tests.{ltb-true, ltb-false}
-use lib.Dec.{T, leb, leb→le}
+use borrow.Author.Tests.{ltb-true}
+use lib.Dec.{T}
 use lib.IntN.{ℤ, pos, negsuc, natAbs}
-use lib.ListN.{getD}
 use lib.Signed.{ltZ, nonNeg}
-use Rattle.curves.specs.Table.{both, both-left, both-right}
-use Rattle.arith.specs.Within.{Within}
-use Rattle.curves.specs.Gains.{gains}
-use Rattle.curves.specs.Decibels.{gainOf}
 use Rattle.voice.specs.Sound.{least0}
 
+-- below 0 it counts as 0
 pub least0-below : (z : ℤ) → ltZ z (pos 0) ≡ true → least0 z ≡ 0
 least0-below (pos n) t = absurd (no n (ltb-true n 0 t))
   where
@@ -23,15 +17,12 @@ least0-below (pos n) t = absurd (no n (ltb-true n 0 t))
     no n h = omega arith
 least0-below (negsuc n) t = refl
 
+-- else as it is
 pub least0-above : (z : ℤ) → ltZ z (pos 0) ≡ false → natAbs z ≡ least0 z
 least0-above (pos n) t = refl
 least0-above (negsuc n) t = absurd (subst (λ (b : Bool). T b) t tt)
 
+-- and then it is a number without sign
 pub nonNeg-above : (z : ℤ) → ltZ z (pos 0) ≡ false → T (nonNeg z)
 nonNeg-above (pos n) t = tt
 nonNeg-above (negsuc n) t = absurd (subst (λ (b : Bool). T b) t tt)
-
--- between -(n + 1) and n + 1
-pub amid : (k : ℤ) (n : ℕ) → ltZ k (negsuc n) ≡ false → ltZ (pos (suc n)) k ≡ false → Within k (suc n)
-amid (pos a) n t u = record { within = ltb-false (suc n) a u }
-amid (negsuc a) n t u = record { within = omega (arith, ltb-false n a t) }

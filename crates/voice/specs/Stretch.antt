@@ -1,7 +1,7 @@
 -- How a run goes on in stretches: frames in which the gain stays, and which differ in their place and their count alone.
 use Prim.Native.Nat.{ℕ, zero, suc, _+_, _-_, _*_, _/_, _%_, _<_}
 use mathlib.Core.Path.{_≡_}
-use mathlib.Core.Bool.{Bool, false, cond}
+use mathlib.Core.Bool.{false, cond}
 use mathlib.Core.List.{List, [], _∷_, _++_}
 use lib.IntN.{ℤ, pos, _*ℤ_}
 use lib.ListN.{length}

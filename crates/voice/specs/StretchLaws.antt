@@ -1,13 +1,12 @@
 -- A stretch of calm frames is what the definition of one frame, repeated, gives.
-use Prim.Native.Nat.{ℕ, zero, suc, _+_, _-_, _*_, _/_, _%_, _<_, _≤_}
+use Prim.Native.Nat.{ℕ, zero, suc, _+_, _-_, _*_, _/_, _%_, _<_}
 use mathlib.Core.Path.{_≡_, refl, sym, ap, ap₂, _∙_, subst}
-use mathlib.Core.Bool.{Bool, true, false, cond, _&&_}
+use mathlib.Core.Bool.{Bool, true, false, cond}
 use mathlib.Core.List.{List, [], _∷_, _++_}
 use native.Mathlib.Nat.{not-suc-le-zero, suc-mul, zero-mul, add-zero}
 use native.Mathlib.Numerals.{add-one}
 use native.Mathlib.Omega.{arith}
 use borrow.Author.Tests.{ne-eqb}
-use lib.Dec.{eqb}
 use lib.IntN.{ℤ, pos, _*ℤ_}
 use lib.ListN.{length, length-append}
 use Rattle.arith.specs.Floor.{floorZ}
@@ -18,15 +17,15 @@ use Rattle.voice.specs.declared.Voice.{Voice}
 use Rattle.voice.specs.declared.Slot.{Slot}
 use Rattle.voice.specs.declared.Framed.{Framed}
 use Rattle.voice.specs.State.{withMoved, sounds}
-use Rattle.voice.specs.Stages.{envelope, entered, dead, waiting, released, spent, fromDelay, fromAttack, fromHold, fromDecay}
+use Rattle.voice.specs.Stages.{envelope, entered, dead, released, spent, fromDelay, fromAttack, fromHold, fromDecay}
 use Rattle.voice.specs.Reading.{sample, between, behind, reading}
 use Rattle.voice.specs.Sound.{total, gained, shaped, leftOf, rightOf}
-use Rattle.voice.specs.Move.{folds, fold, folded, span}
+use Rattle.voice.specs.Move.{folds, span}
 use Rattle.voice.specs.MoveLaws.{fold-in}
-use Rattle.voice.specs.Frame.{moved, goOn, loud, played, living, frameAt}
+use Rattle.voice.specs.Frame.{goOn, loud, played, living, frameAt}
 use Rattle.voice.specs.FrameLaws.{go-fold, go-stay, frame-on, living-plays}
 use Rattle.voice.specs.Run.{afterAt, heardAt}
-use Rattle.voice.specs.Stretch.{spentBy, Calm, Calms, top, Clear, plain, plains}
+use Rattle.voice.specs.Stretch.{spentBy, Calm, Calms, Clear, plain, plains}
 
 -- a turn of the stretch's loop
 module _ (gain : ℕ) (pan : ℤ) (w : List ℤ) (st p : ℕ) where
@@ -35,6 +34,7 @@ module _ (gain : ℕ) (pan : ℤ) (w : List ℤ) (st p : ℕ) where
   unfolding plains
   plains-turn m = rw add-one
 
+  -- two numbers a frame
   pub plains-length : (m : ℕ) → length (plains gain pan w st p m) ≡ 2 * m
   unfolding plains
   plains-length zero = refl
@@ -42,6 +42,7 @@ module _ (gain : ℕ) (pan : ℤ) (w : List ℤ) (st p : ℕ) where
 
 -- what a voice says of a stage, it says wherever it stands
 module _ (v : Voice) (x : Stage) (p : ℕ) (m : Bool) where
+  -- the voice, elsewhere
   abbrev u : Voice
   u = withMoved v x p m
 
@@ -82,9 +83,11 @@ module _ (v : Voice) (x : Stage) (p : ℕ) (m : Bool) where
   unfolding folds
   folds-same g h e = rw e
 
+-- one frame more of a count
 more : (t j : ℕ) → t + j + 1 ≡ t + suc j
 more t j = omega arith
 
+-- one frame fewer of a delay
 less : (n j : ℕ) → n - j - 1 ≡ n - suc j
 less n j = omega arith
 
@@ -97,6 +100,7 @@ spent-by j (Decay t) = ap Decay (more t j)
 spent-by j Sustain = refl
 spent-by j (Release a t) = ap (Release a) (more t j)
 
+-- and no frame
 spent-none : (g : Stage) → spentBy 0 g ≡ g
 spent-none (Delay left) = ap Delay (omega arith)
 spent-none (Attack t) = ap Attack (add-zero t)
@@ -116,6 +120,7 @@ next-behind true from to w p h =
 next-behind false from to w p h = refl
 
 module _ (st : ℕ) (l : ℤ) (w : List ℤ) (v : Voice) (g : Stage) (alive : dead v g ≡ false) where
+  -- the gain, which stays
   abbrev pub gainAt : ℕ
   gainAt = gainOf (total l (envelope v g))
 
@@ -128,13 +133,16 @@ module _ (st : ℕ) (l : ℤ) (w : List ℤ) (v : Voice) (g : Stage) (alive : de
         right = rightOf (plain gainAt w p) (v .pan);
       }
 
+  -- a frame with u = z, before its pan
   abbrev framed : Slot → ℤ → Framed
   framed s z = record { slot = s; left = leftOf z (v .pan); right = rightOf z (v .pan) }
 
   module _ (x h : Stage) (p : ℕ) (c : Calm v g h) (k : Clear w v g st p) where
+    -- the voice before the frame
     abbrev at : Voice
     at = withMoved v x p (v .marked)
 
+    -- it folds as the stretch does
     folding : folds at h ≡ folds v g
     folding = folds-same v x p (v .marked) g h (c .frees)
 
@@ -156,6 +164,7 @@ module _ (st : ℕ) (l : ℤ) (w : List ℤ) (v : Voice) (g : Stage) (alive : de
         next-behind (folds at h) (v .loopfrom) (v .loopto) w p
         (λ (e : folds at h ≡ true). subst (λ (f : Bool). p / 16777216 + 1 < cond f (v .loopto) (span v)) (sym folding ∙ e) (k .before))
 
+    -- what it gives, before its pan
     louds : loud l w at h ≡ plain gainAt w p
     unfolding loud gained plain
     louds =
@@ -163,6 +172,7 @@ module _ (st : ℕ) (l : ℤ) (w : List ℤ) (v : Voice) (g : Stage) (alive : de
         ∙ c .full _
         ∙ ap₂ (λ (z : ℤ) (a : ℕ). floorZ (z *ℤ pos (gainOf (total l a))) 65536) reads (envelope-same v x p (v .marked) h ∙ c .cb)
 
+    -- the whole frame
     calm-frame : entered v x ≡ h → frameAt st l w (sounds at) ≡ calmly h p
     unfolding played
     calm-frame e =
@@ -177,11 +187,13 @@ module _ (st : ℕ) (l : ℤ) (w : List ℤ) (v : Voice) (g : Stage) (alive : de
   stageAt zero = v .stage
   stageAt (suc j) = spentBy (suc j) g
 
+  -- what m frames lead to
   pub record Stretched (m : ℕ) (s : Slot) (xs : List ℤ) : Type 0 where
     pub slot : s ≡ sounds (withMoved v (stageAt m) (v .place + m * st) (v .marked))
     pub sums : xs ≡ plains gainAt (v .pan) w st (v .place) m
 
   module _ (enters : entered v (v .stage) ≡ g) where
+    -- each frame enters its stage of the stretch
     stage-in : (j m : ℕ) → j < m → Calms v g m → entered v (stageAt j) ≡ spentBy j g
     stage-in zero m h c = enters ∙ sym (spent-none g)
     stage-in (suc j) m h c = c (suc j) h .enters
@@ -211,11 +223,13 @@ module _ (st : ℕ) (l : ℤ) (w : List ℤ) (v : Voice) (g : Stage) (alive : de
         there : (p m : ℕ) → p + m * st + st ≡ p + suc m * st
         there p m = omega (arith, suc-mul m st)
 
+    -- the slot after them
     pub stretch-slot : (m : ℕ) → 0 < m → Calms v g m → ((j : ℕ) → j < m → Clear w v g st (v .place + j * st))
         → afterAt st l w m (sounds v) ≡ sounds (withMoved v (spentBy m g) (v .place + m * st) (v .marked))
     stretch-slot zero h c k = absurd (not-suc-le-zero h)
     stretch-slot (suc m) h c k = stretched (suc m) c k .slot
 
+    -- what is heard in them
     pub stretch-sums : (m : ℕ) → Calms v g m → ((j : ℕ) → j < m → Clear w v g st (v .place + j * st))
         → heardAt st l w m (sounds v) ≡ plains (gainOf (total l (envelope v g))) (v .pan) w st (v .place) m
     stretch-sums m c k = stretched m c k .sums

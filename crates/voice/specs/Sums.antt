@@ -1,17 +1,17 @@
 -- Numbers added into a list of sums, and the bounds of the sums. `loudest` bounds what one voice adds.
 use Prim.Native.Nat.{ℕ, zero, suc, _+_, _*_, _≤_, _<_}
 use mathlib.Core.Path.{_≡_, refl, ap, ap₂, sym, _∙_}
-use mathlib.Core.List.{List, [], _∷_, _++_, append-assoc}
+use mathlib.Core.List.{List, [], _∷_, _++_}
 use native.Mathlib.Nat.{suc-ne-zero, suc-inj, not-suc-le-zero, le-of-suc-le-suc, add-zero, zero-add}
 use native.Mathlib.Omega.{arith}
 use lib.Dec.{lit<, lit≤}
 use lib.IntN.{ℤ, pos, _+ℤ_, +ℤ-idr}
-use lib.ListN.{length, getD, set, replicate, length-append}
+use lib.ListN.{length, getD, set, replicate}
 use mir.Syntax.{w32}
 use mir.Val.{SFits, toZ, ofZ}
-use mir.Facts.{toZ-ofZ}
 use Rattle.arith.specs.Within.{Within, w-nat, w-le, w-add, w-fits, w-back}
 
+-- the most that one voice adds to a sum, up or down
 abbrev pub loudest : ℕ
 loudest = 25600003
 
@@ -35,47 +35,17 @@ Small b xs = (j : ℕ) → Within (getD xs j (pos 0)) (b * loudest)
 abbrev pub From : ℕ → List ℤ → Type 0
 From k xs = (j : ℕ) → k ≤ j → Within (getD xs j (pos 0)) (31 * loudest)
 
+-- no numbers change nothing
 pub addTo-none : (ys : List ℤ) → addTo [] ys ≡ ys
 unfolding addTo
 addTo-none ys = refl
 
-pub addTo-at : (xs ys : List ℤ) (k : ℕ) → length xs ≡ k → getD (addTo xs ys) k (pos 0) ≡ getD ys k (pos 0)
-unfolding addTo
-addTo-at [] ys k e = refl
-addTo-at (x ∷ xs) [] k e = refl
-addTo-at (x ∷ xs) (y ∷ ys) zero e = absurd (suc-ne-zero _ e)
-addTo-at (x ∷ xs) (y ∷ ys) (suc k) e = addTo-at xs ys k (suc-inj e)
-
-pub addTo-set : (xs ys : List ℤ) (k : ℕ) (a : ℤ) → length xs ≡ k → k < length ys → set (addTo xs ys) k (getD ys k (pos 0) +ℤ a) ≡ addTo (xs ++ (a ∷ [])) ys
-unfolding addTo
-addTo-set [] [] k a e h = absurd (not-suc-le-zero h)
-addTo-set [] (y ∷ ys) zero a e h = refl
-addTo-set [] (y ∷ ys) (suc k) a e h = absurd (suc-ne-zero _ (sym e))
-addTo-set (x ∷ xs) [] k a e h = absurd (not-suc-le-zero h)
-addTo-set (x ∷ xs) (y ∷ ys) zero a e h = absurd (suc-ne-zero _ e)
-addTo-set (x ∷ xs) (y ∷ ys) (suc k) a e h = ap (_∷_ (y +ℤ x)) (addTo-set xs ys k a (suc-inj e) (le-of-suc-le-suc h))
-
+-- there are as many sums as before
 pub addTo-length : (xs ys : List ℤ) → length (addTo xs ys) ≡ length ys
 unfolding addTo
 addTo-length [] ys = refl
 addTo-length (x ∷ xs) [] = refl
 addTo-length (x ∷ xs) (y ∷ ys) = ap suc (addTo-length xs ys)
-
--- two numbers behind the ones that are added: two stores
-pub add-two : (xs ys : List ℤ) (k : ℕ) (a b : ℤ) → length xs ≡ k → k + 1 < length ys
-    → set (set (addTo xs ys) k (getD ys k (pos 0) +ℤ a)) (k + 1) (getD ys (k + 1) (pos 0) +ℤ b) ≡ addTo (xs ++ (a ∷ b ∷ [])) ys
-add-two xs ys k a b e h =
-    let l : length (xs ++ (a ∷ [])) ≡ k + 1 = simp length-append (omega arith) in
-    ap (λ (z : List ℤ). set z (k + 1) (getD ys (k + 1) (pos 0) +ℤ b)) (addTo-set xs ys k a e (omega arith))
-    ∙ addTo-set (xs ++ (a ∷ [])) ys (k + 1) b l h
-    ∙ ap (λ (z : List ℤ). addTo z ys) (append-assoc xs (a ∷ []) (b ∷ []))
-
--- the second element, read after the first store
-pub second : (xs ys : List ℤ) (k : ℕ) (a : ℤ) → length xs ≡ k → k + 1 < length ys
-    → getD (set (addTo xs ys) k (getD ys k (pos 0) +ℤ a)) (k + 1) (pos 0) ≡ getD ys (k + 1) (pos 0)
-second xs ys k a e h =
-    let l : length (xs ++ (a ∷ [])) ≡ k + 1 = simp length-append (omega arith) in
-    ap (λ (z : List ℤ). getD z (k + 1) (pos 0)) (addTo-set xs ys k a e (omega arith)) ∙ addTo-at (xs ++ (a ∷ [])) ys (k + 1) l
 
 -- two zeros behind the numbers that are added change nothing
 pub add-nothing : (xs ys : List ℤ) → addTo (xs ++ (pos 0 ∷ pos 0 ∷ [])) ys ≡ addTo xs ys
@@ -86,6 +56,7 @@ add-nothing [] (y ∷ z ∷ ys) = ap₂ (λ (a b : ℤ). a ∷ b ∷ ys) (+ℤ-i
 add-nothing (x ∷ xs) [] = refl
 add-nothing (x ∷ xs) (y ∷ ys) = ap (_∷_ (y +ℤ x)) (add-nothing xs ys)
 
+-- no numbers
 pub small-none : Small 1 []
 small-none j = w-nat (lit≤ tt)
 
@@ -95,6 +66,7 @@ zeros-small zero j = w-nat (lit≤ tt)
 zeros-small (suc n) zero = w-nat (lit≤ tt)
 zeros-small (suc n) (suc j) = zeros-small n j
 
+-- a frame's two numbers more
 pub small-two : (xs : List ℤ) (a b : ℤ) → Small 1 xs → Within a (1 * loudest) → Within b (1 * loudest) → Small 1 (xs ++ (a ∷ b ∷ []))
 small-two [] a b h p q zero = p
 small-two [] a b h p q (suc zero) = q
@@ -102,11 +74,13 @@ small-two [] a b h p q (suc (suc j)) = w-nat (lit≤ tt)
 small-two (x ∷ xs) a b h p q zero = h zero
 small-two (x ∷ xs) a b h p q (suc j) = small-two xs a b (λ i. h (suc i)) p q j
 
+-- numbers and more numbers
 pub small-append : (xs zs : List ℤ) → Small 1 xs → Small 1 zs → Small 1 (xs ++ zs)
 small-append [] zs h k j = k j
 small-append (x ∷ xs) zs h k zero = h zero
 small-append (x ∷ xs) zs h k (suc j) = small-append xs zs (λ i. h (suc i)) k j
 
+-- one voice more
 pub addTo-small : (xs ys : List ℤ) (b : ℕ) → Small 1 xs → Small b ys → Small (b + 1) (addTo xs ys)
 unfolding addTo
 addTo-small [] ys b h k j = w-le (k j) (omega arith)
@@ -137,6 +111,7 @@ add-after (suc k) zero xs zs ys e = absurd (no (length xs) e)
 add-after (suc k) (suc n) xs zs [] e = refl
 add-after (suc k) (suc n) xs zs (y ∷ ys) e = ap (_∷_ y) (add-after k n xs zs ys (omega arith))
 
+-- the same where the first are added from the start
 pub add-next : (xs zs ys : List ℤ) (n : ℕ) → length xs ≡ n → addAt n zs (addTo xs ys) ≡ addTo (xs ++ zs) ys
 unfolding addAt
 add-next xs zs ys n e = add-after 0 n xs zs ys (omega arith)
@@ -158,16 +133,19 @@ add-beyond (suc k) xs (y ∷ ys) zero h = absurd (no (length xs) h)
     no n e = omega arith
 add-beyond (suc k) xs (y ∷ ys) (suc j) h = add-beyond k xs ys j (omega arith)
 
+-- the same from the start
 pub to-beyond : (xs ys : List ℤ) (j : ℕ) → length xs ≤ j → getD (addTo xs ys) j (pos 0) ≡ getD ys j (pos 0)
 unfolding addAt
 to-beyond xs ys j h = add-beyond 0 xs ys j (omega arith)
 
+-- there are as many sums as before
 pub addAt-length : (k : ℕ) (xs ys : List ℤ) → length (addAt k xs ys) ≡ length ys
 unfolding addAt
 addAt-length zero xs ys = addTo-length xs ys
 addAt-length (suc k) xs [] = refl
 addAt-length (suc k) xs (y ∷ ys) = ap suc (addAt-length k xs ys)
 
+-- no numbers change nothing
 pub addAt-none : (k : ℕ) (ys : List ℤ) → addAt k [] ys ≡ ys
 unfolding addAt addTo
 addAt-none zero ys = refl

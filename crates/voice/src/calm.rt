@@ -1,6 +1,6 @@
 // Calm frames: how many from a stage on have the same gain, and the stage after them.
 ghost use mathlib.Core.Path.{_≡_};
-ghost use Prim.Native.Nat.{_+_, _-_, _<_, _≤_};
+ghost use Prim.Native.Nat.{_+_, _-_, _<_};
 ghost use Rattle.voice.specs.Stages.{decayAt};
 ghost use Rattle.voice.specs.Stretch.{spentBy, RoomBy, Steady, Calms};
 use crate::Stage;
@@ -27,18 +27,21 @@ fn calm_count(n: u32, t: u32) -> u32
     if m < room { m } else { room }
 }
 
+// What is left of n frames after t.
 fn calm_hold(n: u32, t: u32) -> u32
     ensures { λ r. ⌜ (r ≡ n - t) × (t + r < 4294967296) ⌝ }
 {
     if n <= t { 0 } else { n - t }
 }
 
+// No frame of an attack is calm: its level moves.
 fn calm_attack(t: u32) -> u32
     ensures { λ r. ⌜ (r ≡ 0) × (t + r < 4294967296) ⌝ }
 {
     0
 }
 
+// Frames in which a decay's cB stays; none where it has reached the sustain value.
 fn calm_decay(n: u32, z: u16, t: u32) -> u32
     ensures { λ r. ⌜ Steady n t r × (t + r < 4294967296) × (0 < r → decayAt n z t < z) ⌝ }
 {

@@ -10,7 +10,7 @@ ghost use mathlib.Core.Bool.{true, false};
 ghost use Rattle.voice.specs.Stages.{dead};
 ghost use Rattle.voice.specs.Stretch.{RoomBy, Calms};
 ghost use Rattle.voice.specs.Sums.{addTo, addAt, Small, From};
-ghost use Rattle.voice.specs.Frame.{frameAt};
+ghost use Rattle.voice.specs.Frame.{silent, frameAt};
 use crate::Channel;
 use crate::Framed;
 use crate::Slot;
@@ -36,41 +36,40 @@ use crate::stretch::limit_of;
 use crate::with_moved;
 use curves::gain;
 
+// A slot that adds nothing.
+fn silent_at(s: Slot) -> Framed
+    ensures { λ r. ⌜ r ≡ silent s ⌝ }
+{
+    Framed {
+        slot: s,
+        left: 0,
+        right: 0,
+    }
+}
+
 // One frame of a slot whose step is st and whose loss is l.
 pub fn frame_at(st: u32, l: i64, g: &[u32; 1441], w: &[i16], s: Slot) -> Framed
     requires { ⌜ (now g ≡ gains) × Within l 1099511627776 ⌝ }
     ensures { λ r. ⌜ (r ≡ frameAt st l (now (w .entry)) s) × Within (r .left) 25600003 × Within (r .right) 25600003 ⌝ }
 {
     if !s.sounding {
-        return Framed {
-            slot: s,
-            left: 0,
-            right: 0,
-        };
+        return silent_at(s);
     }
     let v = s.voice;
     let old = v.stage;
     let e = enter(v, old);
     if is_dead(v, e) {
-        return Framed {
-            slot: Slot {
-                sounding: false,
-                voice: v,
-            },
-            left: 0,
-            right: 0,
-        };
+        return silent_at(Slot {
+            sounding: false,
+            voice: v,
+        });
     }
     if is_waiting(e) {
         let y = age(e);
-        return Framed {
-            slot: Slot {
-                sounding: true,
-                voice: with_moved(v, y, v.place, v.marked),
-            },
-            left: 0,
-            right: 0,
-        };
+        return silent_at(Slot {
+            sounding: true,
+            voice: with_moved(v, y, v.place, v.marked),
+        });
     }
     let u = loud_of(l, g, w, v, e);
     let a = to_left(u, v.pan);

@@ -72,6 +72,7 @@ pub struct Voice {
     pub release: u32,
 }
 
+// A channel, as the messages left it.
 pub struct Channel {
     pub program: u8,
     // the bank that control 0 stored, and the one that the last program change took

@@ -28,6 +28,7 @@ fn hold_pitch(p: i64) -> i32
     p as i32
 }
 
+// The pitch total at a bend, held.
 fn tuned(pitch: i32, bend: u16) -> i32
     ensures { λ r. ⌜ r ≡ pitchHeld (pitch +ℤ bendCents bend) ⌝ }
 {

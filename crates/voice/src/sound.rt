@@ -18,6 +18,7 @@ use arith::biased_1000;
 use curves::cb_of;
 use curves::gain;
 
+// A signed attenuation and two more, in cB.
 fn added(a: i32, x: u16, y: u16) -> i64
     ensures { λ r. ⌜ (r ≡ a +ℤ pos x +ℤ pos y) × Within r 1099511627776 ⌝ }
 {

@@ -38,6 +38,7 @@ pub fn release_at(n: u32, a: u16, t: u32) -> u64
     (a as u64) + 1000 * (t as u64) / (n as u64)
 }
 
+// A cB as a wider number, as the table of gains takes it.
 pub fn wide(x: u16) -> u64
     ensures { λ r. ⌜ r ≡ x ⌝ }
 {
@@ -58,6 +59,7 @@ pub fn envelope_of(v: Voice, s: Stage) -> u64
     }
 }
 
+// Frame t of decay, or what follows.
 fn from_decay(v: Voice, t: u32) -> Stage
     ensures { λ r. ⌜ r ≡ fromDecay v t ⌝ }
 {
@@ -68,6 +70,7 @@ fn from_decay(v: Voice, t: u32) -> Stage
     }
 }
 
+// Frame t of hold, or what follows.
 fn from_hold(v: Voice, t: u32) -> Stage
     ensures { λ r. ⌜ r ≡ fromHold v t ⌝ }
 {
@@ -78,6 +81,7 @@ fn from_hold(v: Voice, t: u32) -> Stage
     }
 }
 
+// Frame t of attack, or what follows.
 fn from_attack(v: Voice, t: u32) -> Stage
     ensures { λ r. ⌜ r ≡ fromAttack v t ⌝ }
 {
@@ -88,6 +92,7 @@ fn from_attack(v: Voice, t: u32) -> Stage
     }
 }
 
+// A delay, or what follows.
 fn from_delay(v: Voice, left: u32) -> Stage
     ensures { λ r. ⌜ r ≡ fromDelay v left ⌝ }
 {
@@ -126,6 +131,7 @@ pub fn is_dead(v: Voice, s: Stage) -> bool
     }
 }
 
+// In delay.
 pub fn is_waiting(s: Stage) -> bool
     ensures { λ r. ⌜ r ≡ waiting s ⌝ }
 {
@@ -139,6 +145,7 @@ pub fn is_waiting(s: Stage) -> bool
     }
 }
 
+// Released: a loop of mode 3 folds no longer.
 pub fn is_released(s: Stage) -> bool
     ensures { λ r. ⌜ r ≡ released s ⌝ }
 {
@@ -152,6 +159,7 @@ pub fn is_released(s: Stage) -> bool
     }
 }
 
+// One frame fewer of a delay.
 fn less_one(n: u32) -> u32
     ensures { λ r. ⌜ r ≡ n - 1 ⌝ }
 {

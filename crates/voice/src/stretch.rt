@@ -22,6 +22,7 @@ pub struct Reached {
     pub place: u64,
 }
 
+// At most both.
 fn least(a: u64, b: u64) -> u64
     ensures { λ r. ⌜ (r ≤ a) × (r ≤ b) ⌝ }
 {
@@ -54,6 +55,7 @@ fn end_of(v: Voice, s: Stage) -> u64
     span_of(v)
 }
 
+// The place from which on a stretch may not go.
 pub fn limit_of(v: Voice, s: Stage, st: u32, w: &[i16]) -> u64
     ensures { λ r. ⌜ ((p : ℕ) → p < r → Clear (now (w .entry)) v s st p) × (r ≤ 72057594037927936) ⌝ }
 {

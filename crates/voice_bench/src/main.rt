@@ -44,6 +44,7 @@ fn length_of(i: u8) -> u32
     3000 + 100 * (i as u32)
 }
 
+// The pitch by the voice's number.
 fn cents_of(i: u8) -> i32 {
     match i % 5 {
         0 => -2400,
@@ -54,6 +55,7 @@ fn cents_of(i: u8) -> i32 {
     }
 }
 
+// Left, about the middle, and right.
 fn pan_of(i: u8) -> i16 {
     match i % 3 {
         0 => -490,
@@ -95,6 +97,7 @@ fn struck(i: u8, r: u64) -> Slot {
     }
 }
 
+// A sample of the noise.
 fn sample_of(x: u32) -> i16
     requires { ⌜ x < 20000 ⌝ }
 {
@@ -164,6 +167,7 @@ fn round(g: &[u32; 1441], o: &[u32; 1200], w: &[i16], acc: &mut [i32], r: u64) -
     std::num::wrapping_add_u64(h, weigh(acc))
 }
 
+// One round, from sums of zeros.
 fn one(g: &[u32; 1441], o: &[u32; 1200], w: &[i16], r: u64) -> u64
     requires { ⌜ (now g ≡ gains) × (now o ≡ octaves) ⌝ }
 {
@@ -171,6 +175,7 @@ fn one(g: &[u32; 1441], o: &[u32; 1200], w: &[i16], r: u64) -> u64
     round(g, o, w, &mut acc, r)
 }
 
+// All rounds, each with its number.
 fn play(rounds: u64) -> u64 {
     let g = curves::gains();
     let o = curves::octaves();
@@ -184,6 +189,7 @@ fn play(rounds: u64) -> u64 {
     h
 }
 
+// As many rounds as there are bytes on standard input.
 fn main() {
     let mut input = io::large_buffer();
     let n = io::read_full(0, &mut input);

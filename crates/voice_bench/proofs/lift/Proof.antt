@@ -1,5 +1,4 @@
 -- A sum that is not below the lower end stands above it.
-use mathlib.Core.Path.{_≡_}
 use mathlib.Core.List.{List, [], _∷_}
 use native.Mathlib.Nat.{lt-of-le-of-lt, le-trans}
 use lib.Dec.{lit<, lit≤}

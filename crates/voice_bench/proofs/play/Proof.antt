@@ -1,8 +1,7 @@
 -- The tables are made once.
-use mathlib.Core.Path.{_≡_, sym}
+use mathlib.Core.Path.{_≡_}
 use Prim.Native.Nat.{_-_, _≤_}
 use lib.ListN.{length}
-use native.Mathlib.Omega.{arith}
 use Rattle.curves.specs.Gains.{gains}
 use Rattle.curves.specs.Octaves.{octaves}
 use borrow.Author.Needs.{needs}

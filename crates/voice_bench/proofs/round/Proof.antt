@@ -1,12 +1,11 @@
 -- Each voice adds at most `loudest`, so 32 of them fit.
-use Prim.Native.Nat.{_≤_, _-_, _+_, _*_}
+use Prim.Native.Nat.{_≤_, _-_, _+_}
 use mathlib.Core.Path.{_≡_, refl, sym, ap, _∙_, subst}
 use native.Mathlib.Omega.{arith}
 use lib.ListN.{length}
 use Rattle.arith.specs.Within.{w-le}
 use Rattle.curves.specs.Gains.{gains}
 use Rattle.curves.specs.Octaves.{octaves}
-use Rattle.voice.specs.Run.{heard}
 use Rattle.voice.specs.Sums.{Small, addTo-small, addTo-length}
 use borrow.Author.Needs.{needs}
 use Rattle.voice_bench.proofs.round.Statement.{statement}

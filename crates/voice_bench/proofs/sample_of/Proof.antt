@@ -1,9 +1,8 @@
 -- A number below 20,000 less 10,000 is a signed 16-bit number.
 use mathlib.Core.List.{List, [], _∷_}
-use native.Mathlib.Nat.{lt-of-le-of-lt}
 use native.Mathlib.Omega.{arith}
 use lib.Dec.{lit<}
-use lib.IntN.{pos, negsuc}
+use lib.IntN.{pos}
 use mir.Syntax.{w16, w32}
 use Rattle.arith.specs.Within.{w-nat, w-fits}
 use Rattle.arith.specs.Expr.{E, Var, var, lit, sub, given, fits, back, within}

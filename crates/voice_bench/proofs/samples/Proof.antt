@@ -1,8 +1,7 @@
 -- The list keeps its length.
 use Prim.Native.Nat.{_≤_, _<_, _-_}
 use mathlib.Core.Path.{_≡_}
-use native.Mathlib.Omega.{arith}
-use lib.ListN.{length, length-set}
+use lib.ListN.{length}
 use borrow.Author.Needs.{needs}
 use Rattle.voice_bench.proofs.samples.Statement.{statement}
 use Rattle.voice_bench.proofs.samples.Tie as tie

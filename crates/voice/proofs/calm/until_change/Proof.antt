@@ -1,5 +1,4 @@
 -- The remainder grows by 1,000 a frame.
-use mathlib.Core.Path.{_≡_, refl, sym, ap, ap₂, _∙_, subst}
 use Prim.Native.Nat.{_<_, _*_}
 use native.Mathlib.Nat.{mod-lt}
 use native.Mathlib.Omega.{arith}

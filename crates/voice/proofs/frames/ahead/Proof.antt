@@ -1,5 +1,5 @@
 -- As many as are calm, and no more than asked.
-use mathlib.Core.Path.{_≡_, refl, sym, ap, ap₂, _∙_, subst}
+use mathlib.Core.Path.{refl, sym, _∙_}
 use native.Mathlib.Nat.{not-suc-le-zero}
 use native.Mathlib.Omega.{arith}
 use Rattle.voice.specs.CalmLaws.{none-calm, room-le}

@@ -1,11 +1,12 @@
+-- One frame of a slot, by the branch that is taken (free, dead, in delay, played): each return by its law of FrameLaws.
 use Rattle.voice.specs.declared.Framed.{Framed}
 use Rattle.voice.specs.declared.Slot.{Slot}
 use Rattle.voice.specs.Sound.{leftOf, rightOf}
-use borrow.Author.Needs.{sfits-of}
+use borrow.Author.Needs.{sfits-of, needs}
 use mir.Facts.{toZ-ofZ}
 use mir.Syntax.{w64, w32, w16}
-use Prim.Native.Nat.{ℕ, _+_, _<_}
-use Rattle.voice.specs.StageLaws.{Room, Narrow, alive-room}
+use Prim.Native.Nat.{_+_}
+use Rattle.voice.specs.StageLaws.{Room}
 use Rattle.voice.specs.Frame.{silent, loud, goOn, played}
 use Rattle.voice.specs.State.{withMoved, sounds}
 use Rattle.voice.specs.Stages.{entered, dead, waiting, spent}
@@ -14,17 +15,15 @@ use Rattle.voice.specs.declared.Stage.{Stage}
 use lib.Dec.{lit<, lit≤}
 use Rattle.arith.specs.Within.{Within, w-nat, w-back}
 use borrow.Author.Tests.{not-true, not-false}
-use lib.IntN.{ℤ, pos}
+use lib.IntN.{ℤ}
 use Rattle.voice.specs.FrameLaws.{frame-free, frame-on, living-dead, living-waits, living-plays}
-use native.Mathlib.Omega.{arith}
-use mathlib.Core.Path.{ap₂}
-use mathlib.Core.Path.{_≡_, refl, sym, ap, _∙_, subst}
-use borrow.Author.Needs.{needs}
+use mathlib.Core.Path.{_≡_, sym, ap, _∙_}
 use Rattle.voice.proofs.frames.frame_at.Statement.{statement}
 use Rattle.voice.proofs.frames.frame_at.Tie as tie
 
-zero-in : Within (pos 0) 25600003
-zero-in = w-nat (lit≤ tt)
+-- a frame that adds nothing is the one that is asked for, and within the bound
+quiet : {f g : Framed} {s : Slot} → f ≡ silent s → silent s ≡ g → (f ≡ g) × Within (f .left) 25600003 × Within (f .right) 25600003
+quiet e h = (e ∙ h, rw e (w-nat (lit≤ tt)), rw e (w-nat (lit≤ tt)))
 
 -- the stage that is entered alive has room
 room : (c : tie.Else2) → Room (c .before .before .enter .result)
@@ -34,9 +33,13 @@ framed : {s s′ : Slot} {l l′ r r′ : ℤ} → s ≡ s′ → l ≡ l′ →
     _≡_ {A = Framed} (record { slot = s; left = l; right = r }) (record { slot = s′; left = l′; right = r′ })
 framed p q r = cc
 
+silent-at-requires : tie.Need-silent-at-requires
+silent-at-requires c κs = search needs
+
 returns : tie.Need-returns
-returns c = let k = c .before .before in
-    (sym (frame-free (k .args .st) (k .args .l) (k .args .w .now) (k .args .s) (not-true (k .args .s .sounding) (c .if1 .taken))), zero-in, zero-in)
+returns c = let k = c .before .before .before in
+    quiet (c .silent-at .ensures)
+    (sym (frame-free (k .args .st) (k .args .l) (k .args .w .now) (k .args .s) (not-true (k .args .s .sounding) (c .before .if1 .taken))))
 
 enter-requires : tie.Need-enter-requires
 enter-requires c κs = search needs
@@ -44,8 +47,11 @@ enter-requires c κs = search needs
 is-dead-requires : tie.Need-is-dead-requires
 is-dead-requires c κs = search needs
 
+silent-at-requires-2 : tie.Need-silent-at-requires-2
+silent-at-requires-2 c κs = search needs
+
 returns-2 : tie.Need-returns-2
-returns-2 c = let d = c .before in
+returns-2 c = let d = c .before .before in
     let k = d .before .before .before .before .before in
     let w = k .args .w .now in
     let st = k .args .st in
@@ -54,8 +60,8 @@ returns-2 c = let d = c .before in
     let v = s .voice in
     let on = frame-on st l w s (not-false (s .sounding) (d .before .before .before .if1 .left)) in
     let e = d .before .enter .ensures .0 in
-    let t = sym (ap (dead v) e) ∙ sym (d .is-dead .ensures) ∙ c .if2 .taken in
-    (sym (on ∙ living-dead st l w v (entered v (v .stage)) t), zero-in, zero-in)
+    let t = sym (ap (dead v) e) ∙ sym (d .is-dead .ensures) ∙ c .before .if2 .taken in
+    quiet (c .silent-at2 .ensures) (sym (on ∙ living-dead st l w v (entered v (v .stage)) t))
 
 is-waiting-requires : tie.Need-is-waiting-requires
 is-waiting-requires c κs = search needs
@@ -66,8 +72,11 @@ age-requires c κs = room (c .before .before)
 with-moved-requires : tie.Need-with-moved-requires
 with-moved-requires c κs = search needs
 
+silent-at-requires-3 : tie.Need-silent-at-requires-3
+silent-at-requires-3 c κs = search needs
+
 returns-3 : tie.Need-returns-3
-returns-3 c = let d = c .before .before .before .before .before in
+returns-3 c = let d = c .before .before .before .before .before .before in
     let k = d .before .before .before .before .before in
     let w = k .args .w .now in
     let st = k .args .st in
@@ -76,10 +85,10 @@ returns-3 c = let d = c .before .before .before .before .before in
     let v = s .voice in
     let on = frame-on st l w s (not-false (s .sounding) (d .before .before .before .if1 .left)) in
     let e = d .before .enter .ensures .0 in
-    let t = sym (ap (dead v) e) ∙ sym (d .is-dead .ensures) ∙ c .before .before .before .before .if2 .left in
-    let u = sym (ap waiting e) ∙ sym (c .before .before .before .is-waiting .ensures) ∙ c .before .before .if3 .taken in
-    let m = c .with-moved .ensures ∙ ap (λ (x : Stage). withMoved v x (v .place) (v .marked)) (c .before .age .ensures ∙ ap spent e) in
-    (ap (λ (x : Voice). silent (sounds x)) m ∙ sym (on ∙ living-waits st l w v (entered v (v .stage)) t u), zero-in, zero-in)
+    let t = sym (ap (dead v) e) ∙ sym (d .is-dead .ensures) ∙ c .before .before .before .before .before .if2 .left in
+    let u = sym (ap waiting e) ∙ sym (c .before .before .before .before .is-waiting .ensures) ∙ c .before .before .before .if3 .taken in
+    let m = c .before .with-moved .ensures ∙ ap (λ (x : Stage). withMoved v x (v .place) (v .marked)) (c .before .before .age .ensures ∙ ap spent e) in
+    quiet (c .silent-at3 .ensures) (ap (λ (x : Voice). silent (sounds x)) m ∙ sym (on ∙ living-waits st l w v (entered v (v .stage)) t u))
 
 loud-of-requires : tie.Need-loud-of-requires
 loud-of-requires c κs = search needs
@@ -124,13 +133,16 @@ pub frame-at-spec : {M : Type 1} → statement M
 frame-at-spec =
     tie.close
     (tie.spec
+    silent-at-requires
     returns
     enter-requires
     is-dead-requires
+    silent-at-requires-2
     returns-2
     is-waiting-requires
     age-requires
     with-moved-requires
+    silent-at-requires-3
     returns-3
     loud-of-requires
     to-left-requires

@@ -1,10 +1,10 @@
 -- One frame where the next is not calm or not clear, and a stretch else.
-use mathlib.Core.Path.{_≡_, refl, sym, ap, ap₂, _∙_, subst}
+use mathlib.Core.Path.{_≡_, sym, ap, ap₂, _∙_, subst}
 use Prim.Native.Nat.{ℕ, _+_, _*_, _<_}
 use mathlib.Core.Bool.{Bool, false}
 use mathlib.Core.List.{List}
 use native.Mathlib.Omega.{arith}
-use borrow.Author.Needs.{sfits-of}
+use borrow.Author.Needs.{sfits-of, needs}
 use lib.Dec.{lit<}
 use lib.IntN.{ℤ}
 use mir.Facts.{toZ-ofZ}
@@ -16,14 +16,13 @@ use Rattle.voice.specs.declared.Slot.{Slot}
 use Rattle.voice.specs.declared.Stage.{Stage}
 use Rattle.voice.specs.declared.Voice.{Voice}
 use Rattle.voice.specs.State.{withMoved, sounds}
-use Rattle.voice.specs.Stages.{entered, dead, envelope}
+use Rattle.voice.specs.Stages.{entered, dead}
 use Rattle.voice.specs.Sound.{total}
 use Rattle.voice.specs.Run.{afterAt, heardAt}
-use Rattle.voice.specs.Stretch.{spentBy, Calms, Clear, plains}
+use Rattle.voice.specs.Stretch.{Calms, Clear, plains}
 use Rattle.voice.specs.StretchLaws.{stretch-slot, stretch-sums}
 use Rattle.voice.specs.CalmLaws.{room-le}
 use Rattle.voice.specs.Sums.{Small, addAt}
-use borrow.Author.Needs.{needs}
 use Rattle.voice.proofs.frames.go.Statement.{statement}
 use Rattle.voice.proofs.frames.go.Tie as tie
 

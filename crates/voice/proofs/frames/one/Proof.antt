@@ -1,5 +1,5 @@
 -- One frame is a run of one.
-use mathlib.Core.Path.{_≡_, refl, sym, ap, ap₂, _∙_, subst}
+use mathlib.Core.Path.{refl, ap, _∙_, subst}
 use Prim.Native.Nat.{_*_}
 use mathlib.Core.List.{[], _∷_}
 use lib.Dec.{lit<}

@@ -1,7 +1,7 @@
 -- A turn adds the next frames behind those that are added; where the voice is freed those that are left add nothing.
 use mathlib.Core.Path.{_≡_, refl, sym, ap, ap₂, _∙_, subst}
-use Prim.Native.Nat.{ℕ, _+_, _-_, _*_, _<_, _≤_}
-use mathlib.Core.Bool.{true, false}
+use Prim.Native.Nat.{_+_, _-_, _*_, _<_, _≤_}
+use mathlib.Core.Bool.{false}
 use mathlib.Core.List.{List, _++_}
 use native.Mathlib.Omega.{arith}
 use borrow.Author.Tests.{not-true, not-false}
@@ -15,7 +15,7 @@ use Rattle.voice.specs.declared.Slot.{Slot}
 use Rattle.voice.specs.Run.{afterAt, heardAt}
 use Rattle.voice.specs.RunLaws.{heard-length, at-cut, heardAt-cut}
 use Rattle.voice.specs.Silence.{stays, adds-nothing, stays-small}
-use Rattle.voice.specs.Sums.{addTo, addAt, Small, loudest, addTo-none, addTo-length, addAt-length, add-next, to-beyond, small-none, small-append}
+use Rattle.voice.specs.Sums.{addTo, addAt, Small, loudest, addTo-none, addTo-length, add-next, to-beyond, small-none, small-append}
 use borrow.Author.Needs.{needs}
 use Rattle.voice.proofs.frames.run_at.Statement.{statement}
 use Rattle.voice.proofs.frames.run_at.Tie as tie

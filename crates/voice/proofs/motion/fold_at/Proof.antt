@@ -1,6 +1,6 @@
 -- Inside the loop, one length past it, or further.
 use Prim.Native.Nat.{_<_, _-_}
-use mathlib.Core.Path.{_≡_, sym}
+use mathlib.Core.Path.{sym}
 use native.Mathlib.Nat.{mod-lt}
 use native.Mathlib.Omega.{arith}
 use Rattle.voice.specs.MoveLaws.{fold-in, fold-once, fold-past, fold-lt}

@@ -1,3 +1,4 @@
+-- The move by the step, by the branch that is taken (folded, ended, staying): each return by its law of FrameLaws, the fold by `fold-add`.
 use Rattle.voice.specs.MoveLaws.{fold-add}
 use Rattle.voice.specs.Move.{fold}
 use Rattle.voice.specs.State.{withMoved, sounds}
@@ -5,8 +6,7 @@ use Rattle.voice.specs.declared.Stage.{Stage}
 use Prim.Native.Nat.{ℕ, _+_, _*_}
 use Rattle.voice.specs.FrameLaws.{folds-loop, go-fold, go-end, go-stay}
 use native.Mathlib.Omega.{arith}
-use mathlib.Core.Path.{ap₂}
-use mathlib.Core.Path.{_≡_, refl, sym, ap, _∙_, subst}
+use mathlib.Core.Path.{ap₂, sym, ap, _∙_}
 use borrow.Author.Needs.{needs}
 use Rattle.voice.proofs.motion.go_on.Statement.{statement}
 use Rattle.voice.proofs.motion.go_on.Tie as tie

@@ -1,5 +1,5 @@
 -- Below, above, or in between.
-use mathlib.Core.Path.{_≡_, sym}
+use mathlib.Core.Path.{sym}
 use lib.Dec.{lit<}
 use lib.IntN.{pos, negsuc}
 use mir.Facts.{toZ-ofZ}

@@ -1,8 +1,8 @@
+-- Whether a voice folds: each return by what the tests before it say of `folds`.
 use Rattle.voice.specs.Move.{folds}
 use mathlib.Core.Bool.{not}
-use borrow.Author.Tests.{eq-eqb, ne-eqb, le-leb, lt-leb, le-ltb, lt-ltb, not-true, not-false}
-use native.Mathlib.Omega.{arith}
-use mathlib.Core.Path.{_≡_, refl, sym, ap, _∙_, subst}
+use borrow.Author.Tests.{eq-eqb, ne-eqb, le-ltb, lt-ltb}
+use mathlib.Core.Path.{ap}
 use borrow.Author.Needs.{needs}
 use Rattle.voice.proofs.motion.is_folding.Statement.{statement}
 use Rattle.voice.proofs.motion.is_folding.Tie as tie

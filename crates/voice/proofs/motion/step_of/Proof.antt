@@ -1,12 +1,11 @@
 -- A total held here is held again by the table's step, which changes nothing.
-use mathlib.Core.Path.{_≡_, sym, ap, _∙_}
+use mathlib.Core.Path.{ap, _∙_}
 use lib.IntN.{ℤ, _+ℤ_}
 use mir.Facts.{toZ-ofZ}
 use mir.Syntax.{w32}
-use borrow.Author.Needs.{sfits-of}
+use borrow.Author.Needs.{sfits-of, needs}
 use Rattle.curves.specs.Pitch.{bendCents, stepAt}
 use Rattle.voice.specs.MoveLaws.{step-held}
-use borrow.Author.Needs.{needs}
 use Rattle.voice.proofs.motion.step_of.Statement.{statement}
 use Rattle.voice.proofs.motion.step_of.Tie as tie
 

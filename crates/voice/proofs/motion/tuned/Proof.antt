@@ -1,16 +1,15 @@
 -- The sum of two 32-bit numbers fits 64 bits.
-use mathlib.Core.Path.{_≡_, sym, ap, _∙_}
+use mathlib.Core.Path.{ap, _∙_}
 use mathlib.Core.List.{List, [], _∷_}
 use lib.Dec.{lit<}
-use lib.IntN.{ℤ, pos, _+ℤ_}
+use lib.IntN.{ℤ, _+ℤ_}
 use mir.Facts.{toZ-ofZ}
 use mir.Syntax.{w32, w64}
 use mir.Val.{SFits}
-use borrow.Author.Needs.{sfits-of}
-use Rattle.arith.specs.Within.{w-of, w-back, w-fits}
+use borrow.Author.Needs.{sfits-of, needs}
+use Rattle.arith.specs.Within.{w-of, w-fits}
 use Rattle.arith.specs.Expr.{E, Var, var, add, given, fits, back}
 use Rattle.curves.specs.Pitch.{pitchHeld}
-use borrow.Author.Needs.{needs}
 use Rattle.voice.proofs.motion.tuned.Statement.{statement}
 use Rattle.voice.proofs.motion.tuned.Tie as tie
 

@@ -1,5 +1,5 @@
 -- The gain is at most full, so its fraction is exact.
-use mathlib.Core.Path.{_≡_, ap, _∙_}
+use mathlib.Core.Path.{ap, _∙_}
 use Rattle.arith.specs.Over.{levelOf}
 use borrow.Author.Needs.{needs}
 use Rattle.voice.proofs.panel.gain_unit.Statement.{statement}

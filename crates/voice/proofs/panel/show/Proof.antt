@@ -1,5 +1,4 @@
 -- A free slot, or its stage.
-use mathlib.Core.Path.{_≡_, sym, ap, _∙_}
 use borrow.Author.Tests.{not-true, not-false}
 use Rattle.voice.specs.Panel.{shown}
 use borrow.Author.Needs.{needs}

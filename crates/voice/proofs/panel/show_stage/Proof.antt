@@ -1,6 +1,5 @@
 -- Each stage is shown as its line of the definition says.
-use mathlib.Core.Path.{_≡_, sym, ap, _∙_}
-use lib.Ieee.{Float}
+use mathlib.Core.Path.{sym, ap, _∙_}
 use Prim.Native.Nat.{ℕ}
 use Rattle.arith.specs.Over.{levelOf}
 use Rattle.curves.specs.Decibels.{gainOf}

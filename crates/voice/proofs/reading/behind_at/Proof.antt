@@ -1,7 +1,6 @@
+-- The sample behind sample i: each return by what the tests before it say of `behind`.
 use Rattle.voice.specs.Reading.{behind}
-use borrow.Author.Tests.{eq-eqb, ne-eqb, le-leb, lt-leb, le-ltb, lt-ltb, not-true, not-false}
-use native.Mathlib.Omega.{arith}
-use mathlib.Core.Path.{_≡_, refl, sym, ap, _∙_, subst}
+use borrow.Author.Tests.{eq-eqb, ne-eqb, not-true, not-false}
 use borrow.Author.Needs.{needs}
 use Rattle.voice.proofs.reading.behind_at.Statement.{statement}
 use Rattle.voice.proofs.reading.behind_at.Tie as tie

@@ -1,15 +1,13 @@
-use lib.Dec.{lit<, lit≤}
-use lib.IntN.{ℤ, pos}
+-- The reading, by the contracts of the two samples and of the reading between them.
+use lib.Dec.{lit<}
+use lib.IntN.{ℤ}
 use mir.Syntax.{w64, w16}
 use mir.Facts.{toZ-ofZ}
-use borrow.Author.Needs.{sfits-of}
+use borrow.Author.Needs.{sfits-of, needs}
 use Rattle.arith.specs.Within.{w-back}
 use Prim.Native.Nat.{ℕ, _%_}
-use mathlib.Core.Path.{ap₂}
-use Rattle.voice.specs.Reading.{between}
-use Rattle.voice.specs.Reading.{reading, sample, behind}
-use mathlib.Core.Path.{_≡_, refl, sym, ap, _∙_, subst}
-use borrow.Author.Needs.{needs}
+use mathlib.Core.Path.{ap₂, ap, _∙_}
+use Rattle.voice.specs.Reading.{between, reading, sample}
 use Rattle.voice.proofs.reading.read.Statement.{statement}
 use Rattle.voice.proofs.reading.read.Tie as tie
 

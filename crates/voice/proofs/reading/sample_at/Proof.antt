@@ -1,7 +1,7 @@
+-- The sample at i, by the read; behind the last, by the default of a read past a list.
 use lib.IntN.{pos}
 use lib.ListN.{List·getD-eq-default}
-use native.Mathlib.Omega.{arith}
-use mathlib.Core.Path.{_≡_, refl, sym, ap, _∙_, subst}
+use mathlib.Core.Path.{sym}
 use borrow.Author.Needs.{needs}
 use Rattle.voice.proofs.reading.sample_at.Statement.{statement}
 use Rattle.voice.proofs.reading.sample_at.Tie as tie

@@ -1,9 +1,8 @@
 -- By the signed expression.
-use mathlib.Core.Path.{_≡_, refl}
+use mathlib.Core.Path.{refl}
 use mathlib.Core.List.{List, [], _∷_}
 use native.Mathlib.Omega.{arith}
 use lib.Dec.{lit<, lit≤}
-use lib.IntN.{pos}
 use mir.Facts.{toZ-ofZ}
 use mir.Syntax.{w32, w64}
 use Rattle.arith.specs.Within.{w-nat, w-le, w-of, w-fits}

@@ -1,10 +1,9 @@
-use lib.Dec.{lit<, lit≤}
-use lib.IntN.{ℤ, pos}
+-- floor(u * level / 2^24) and its bound, by the signed expression.
+use lib.Dec.{lit≤}
 use mir.Syntax.{w64}
-use Rattle.arith.specs.Within.{Within, w-nat, w-le}
-use Rattle.arith.specs.Expr.{E, Var, var, lit, add, sub, mul, shr, given, fits, back, within}
+use Rattle.arith.specs.Within.{w-nat, w-le}
+use Rattle.arith.specs.Expr.{E, Var, var, mul, shr, given, fits, back, within}
 use mathlib.Core.List.{List, [], _∷_}
-use mathlib.Core.Path.{_≡_, refl, sym, ap, _∙_, subst}
 use borrow.Author.Needs.{needs}
 use Rattle.voice.proofs.sound.at_level.Statement.{statement}
 use Rattle.voice.proofs.sound.at_level.Tie as tie

@@ -1,13 +1,12 @@
 -- The attenuations of the two controls, put in.
-use mathlib.Core.Path.{_≡_, ap₂, _∙_}
+use mathlib.Core.Path.{ap₂, _∙_}
 use Prim.Native.Nat.{ℕ}
 use lib.Dec.{lit<}
-use lib.IntN.{ℤ, pos, _+ℤ_}
+use lib.IntN.{pos, _+ℤ_}
 use mir.Facts.{toZ-ofZ}
 use mir.Syntax.{w32, w64}
-use borrow.Author.Needs.{sfits-of}
+use borrow.Author.Needs.{sfits-of, needs}
 use Rattle.arith.specs.Within.{w-back}
-use borrow.Author.Needs.{needs}
 use Rattle.voice.proofs.sound.loss_of.Statement.{statement}
 use Rattle.voice.proofs.sound.loss_of.Tie as tie
 

@@ -1,3 +1,4 @@
+-- What a frame reads, at its gain and level, by the contracts of its parts one after another.
 use Rattle.voice.specs.Frame.{loud}
 use Rattle.voice.specs.Move.{folds}
 use Rattle.voice.specs.Sound.{total, gained, shaped}
@@ -10,9 +11,8 @@ use mathlib.Core.Bool.{Bool}
 use Prim.Native.Nat.{ℕ}
 use mir.Syntax.{w64}
 use lib.IntN.{ℤ, pos, _*ℤ_}
-use lib.Dec.{lit<, lit≤}
-use mathlib.Core.Path.{ap₂}
-use mathlib.Core.Path.{_≡_, refl, sym, ap, _∙_, subst}
+use lib.Dec.{lit<}
+use mathlib.Core.Path.{ap₂, _≡_, ap, _∙_}
 use borrow.Author.Needs.{needs}
 use Rattle.voice.proofs.sound.loud_of.Statement.{statement}
 use Rattle.voice.proofs.sound.loud_of.Tie as tie

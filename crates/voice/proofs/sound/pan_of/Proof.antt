@@ -1,13 +1,11 @@
-use lib.Dec.{lit<, lit≤}
-use lib.IntN.{ℤ, pos, negsuc}
-use mir.Syntax.{w64, w32, w16}
+-- The pan held to -500..500: each return by its case of `heldTo`.
+use lib.Dec.{lit<}
+use lib.IntN.{pos, negsuc}
+use mir.Syntax.{w64, w16}
 use mir.Facts.{toZ-ofZ}
-use borrow.Author.Needs.{sfits-of}
-use Rattle.arith.specs.Within.{Within, w-nat, w-le, w-back, w-lit, w-of, w-fits, w-floor-by}
-use Rattle.arith.specs.Clamp.{clamp-low, clamp-high, clamp-in}
-use Rattle.voice.specs.SoundLaws.{amid}
-use native.Mathlib.Omega.{arith}
-use mathlib.Core.Path.{_≡_, refl, sym, ap, _∙_, subst}
+use Rattle.arith.specs.Within.{w-back, w-lit, w-of, w-fits}
+use Rattle.arith.specs.Clamp.{clamp-low, clamp-high, clamp-in, amid}
+use mathlib.Core.Path.{sym}
 use Rattle.voice.proofs.sound.pan_of.Statement.{statement}
 use Rattle.voice.proofs.sound.pan_of.Tie as tie
 

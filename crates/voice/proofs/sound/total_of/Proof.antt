@@ -1,16 +1,12 @@
-use Rattle.arith.specs.Expr.{val}
-use native.Mathlib.Nat.{lt-of-le-of-lt}
+-- The attenuation, at least 0: the sum by the signed expression, each return by its law of `least0`.
+use Rattle.arith.specs.Expr.{val, E, Var, var, add, given, fits, back, within}
+use native.Mathlib.Nat.{lt-of-le-of-lt, le-of-lt}
 use Rattle.voice.specs.SoundLaws.{least0-below, least0-above, nonNeg-above}
-use Rattle.voice.specs.Sound.{least0}
-use native.Mathlib.Nat.{le-of-lt}
-use native.Mathlib.Omega.{arith}
-use lib.Dec.{lit<, lit≤}
-use lib.IntN.{ℤ, pos}
+use lib.Dec.{lit<}
 use mir.Syntax.{w64}
-use Rattle.arith.specs.Within.{Within, w-nat, w-le}
-use Rattle.arith.specs.Expr.{E, Var, var, lit, add, sub, mul, shr, given, fits, back, within}
+use Rattle.arith.specs.Within.{w-nat}
 use mathlib.Core.List.{List, [], _∷_}
-use mathlib.Core.Path.{_≡_, refl, sym, ap, _∙_, subst}
+use mathlib.Core.Path.{sym}
 use borrow.Author.Needs.{needs}
 use Rattle.voice.proofs.sound.total_of.Statement.{statement}
 use Rattle.voice.proofs.sound.total_of.Tie as tie

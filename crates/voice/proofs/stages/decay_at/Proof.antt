@@ -1,9 +1,9 @@
+-- The decay's cB: each return by what the tests before it say of `decayAt` and of the lesser of two numbers.
 use Rattle.voice.specs.Stages.{decayAt}
-use Prim.Native.Nat.{ℕ, _≤_, _<_, _*_, _/_}
-use mathlib.Core.Path.{_≡_, refl, sym, ap, _∙_}
-use native.Mathlib.Nat.{min-eq-left, min-eq-right, div-le-self, div-zero, mul-zero}
+use Prim.Native.Nat.{_≤_, _*_, _/_}
+use native.Mathlib.Nat.{min-eq-left, min-eq-right}
 use native.Mathlib.Omega.{arith}
-use borrow.Author.Tests.{eq-eqb, ne-eqb, le-leb, lt-leb, le-ltb, lt-ltb}
+use borrow.Author.Tests.{eq-eqb, ne-eqb}
 use borrow.Author.Needs.{needs}
 use Rattle.voice.proofs.stages.decay_at.Statement.{statement}
 use Rattle.voice.proofs.stages.decay_at.Tie as tie

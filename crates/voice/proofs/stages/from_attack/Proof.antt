@@ -1,5 +1,6 @@
+-- Attack or what follows: each return by what the test says of `fromAttack`.
 use Rattle.voice.specs.Stages.{fromAttack}
-use borrow.Author.Tests.{eq-eqb, ne-eqb, le-leb, lt-leb, le-ltb, lt-ltb}
+use borrow.Author.Tests.{le-leb, lt-leb}
 use borrow.Author.Needs.{needs}
 use Rattle.voice.proofs.stages.from_attack.Statement.{statement}
 use Rattle.voice.proofs.stages.from_attack.Tie as tie

@@ -1,8 +1,7 @@
+-- Decay or what follows: each return by what the test says of `fromDecay`.
 use Rattle.voice.specs.Stages.{fromDecay}
-use mathlib.Core.Path.{_≡_, refl, sym, ap, _∙_}
-use native.Mathlib.Nat.{min-eq-left, min-eq-right, div-le-self, div-zero, mul-zero}
-use native.Mathlib.Omega.{arith}
-use borrow.Author.Tests.{eq-eqb, ne-eqb, le-leb, lt-leb, le-ltb, lt-ltb}
+use mathlib.Core.Path.{sym}
+use borrow.Author.Tests.{le-leb, lt-leb}
 use borrow.Author.Needs.{needs}
 use Rattle.voice.proofs.stages.from_decay.Statement.{statement}
 use Rattle.voice.proofs.stages.from_decay.Tie as tie

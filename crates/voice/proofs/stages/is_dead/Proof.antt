@@ -1,7 +1,7 @@
+-- Whether the envelope has died away, by the stage: each return by that case of `dead`.
 use lib.Dec.{leb}
-use Rattle.voice.specs.Stages.{envelope, dead, decayAt, releaseAt}
-use native.Mathlib.Omega.{arith}
-use mathlib.Core.Path.{_≡_, refl, sym, ap, _∙_}
+use Rattle.voice.specs.Stages.{dead}
+use mathlib.Core.Path.{sym, ap, _∙_}
 use borrow.Author.Needs.{needs}
 use Rattle.voice.proofs.stages.is_dead.Statement.{statement}
 use Rattle.voice.proofs.stages.is_dead.Tie as tie

@@ -1,10 +1,9 @@
-use Prim.Native.Nat.{min}
+-- The attack's level: each return by the lesser of two numbers; with no frames, by a division by 0.
+use Prim.Native.Nat.{min, ℕ, _≤_, _*_, _/_}
 use Rattle.voice.specs.Stages.{levelAt}
-use Prim.Native.Nat.{ℕ, _≤_, _<_, _*_, _/_}
-use mathlib.Core.Path.{_≡_, refl, sym, ap, _∙_}
-use native.Mathlib.Nat.{min-eq-left, min-eq-right, div-le-self, div-zero, mul-zero}
+use mathlib.Core.Path.{sym, ap, _∙_}
+use native.Mathlib.Nat.{min-eq-left, min-eq-right, div-zero}
 use native.Mathlib.Omega.{arith}
-use borrow.Author.Tests.{eq-eqb, ne-eqb, le-leb, lt-leb, le-ltb, lt-ltb}
 use borrow.Author.Needs.{needs}
 use Rattle.voice.proofs.stages.level_at.Statement.{statement}
 use Rattle.voice.proofs.stages.level_at.Tie as tie

@@ -1,5 +1,5 @@
 -- By whether it folds.
-use mathlib.Core.Path.{_≡_, refl, sym, ap, ap₂, _∙_, subst}
+use mathlib.Core.Path.{sym, ap, _∙_}
 use mathlib.Core.Bool.{Bool, cond}
 use Rattle.voice.specs.Move.{span}
 use borrow.Author.Needs.{needs}

@@ -3,7 +3,7 @@ use mathlib.Core.Path.{_≡_, refl, sym, ap, ap₂, _∙_, subst}
 use Prim.Native.Nat.{ℕ, zero, suc, _+_, _-_, _*_, _/_, _%_, _<_, _≤_}
 use mathlib.Core.List.{List, [], _∷_, _++_}
 use mathlib.Core.Logic.{⊎-elim}
-use native.Mathlib.Nat.{zero-lt-suc, zero-mul, suc-mul, le-of-eq}
+use native.Mathlib.Nat.{zero-lt-suc, zero-mul, suc-mul}
 use native.Mathlib.Numerals.{add-one}
 use native.Mathlib.Omega.{arith}
 use lib.Dec.{lit<, lit≤}
@@ -19,7 +19,7 @@ use Rattle.voice.specs.Reading.{sample, between}
 use Rattle.voice.specs.Sound.{leftOf, rightOf}
 use Rattle.voice.specs.Stretch.{plain, plains}
 use Rattle.voice.specs.StretchLaws.{plains-turn, plains-length}
-use Rattle.voice.specs.Sums.{addAt, From, Small, loudest, small-none, small-two, add-after, add-beyond, addAt-length, addAt-none}
+use Rattle.voice.specs.Sums.{addAt, Small, loudest, small-none, small-two, add-after, add-beyond, addAt-length, addAt-none}
 use borrow.Author.Needs.{needs}
 use Rattle.voice.proofs.stretch.glide.Statement.{statement}
 use Rattle.voice.proofs.stretch.glide.Tie as tie

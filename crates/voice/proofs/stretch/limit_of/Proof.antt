@@ -1,5 +1,5 @@
 -- The bound at the end that the voice has.
-use mathlib.Core.Path.{_≡_, refl, sym, ap, ap₂, _∙_, subst}
+use mathlib.Core.Path.{subst}
 use Prim.Native.Nat.{ℕ, _+_, _*_, _/_, _<_}
 use borrow.Author.Needs.{needs}
 use Rattle.voice.proofs.stretch.limit_of.Statement.{statement}

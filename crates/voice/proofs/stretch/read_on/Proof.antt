@@ -1,11 +1,9 @@
 -- Two samples of the window.
-use mathlib.Core.Path.{_≡_, refl, sym, ap, ap₂, _∙_, subst}
 use lib.Dec.{lit<}
 use mir.Facts.{toZ-ofZ}
 use mir.Syntax.{w16, w64}
-use borrow.Author.Needs.{sfits-of}
+use borrow.Author.Needs.{sfits-of, needs}
 use Rattle.arith.specs.Within.{w-back}
-use borrow.Author.Needs.{needs}
 use Rattle.voice.proofs.stretch.read_on.Statement.{statement}
 use Rattle.voice.proofs.stretch.read_on.Tie as tie
 
