@@ -14,6 +14,7 @@ use mir.Syntax.{Width}
 use mir.Val.{SFits, hbits, toZ, ofZ}
 use Rattle.arith.specs.Within.{Within, w-lit, w-add, w-sub, w-mul, w-shr, w-quot, w-fits}
 
+-- an expression: variables and whole numbers under the operations of signed code
 pub data E : Type 0 where
   var : ℕ → E
   from : Width → ℕ → E  -- a variable of another width, cast to this one
@@ -27,12 +28,15 @@ pub record Var : Type 0 where
   pub size : ℕ
   pub held : Within value size
 
+-- a variable of a bound that is at hand
 abbrev pub given : {z : ℤ} {n : ℕ} → Within z n → Var
 given {z} {n} h = record { value = z; size = n; held = h }
 
+-- the variable past the end of the list: 0
 abbrev none : Var
 none = given (w-lit (pos 0))
 
+-- the whole number that an expression says
 abbrev pub val : E → List Var → ℤ
 val (var i) ρ = getD ρ i none .value
 val (from v i) ρ = getD ρ i none .value
@@ -43,6 +47,7 @@ val (mul a b) ρ = val a ρ *ℤ val b ρ
 val (shr a k) ρ = shrZ (val a ρ) (2 ^ k)
 val (quot a d) ρ = quotZ (val a ρ) (pos d)
 
+-- a bound on its magnitude, from the bounds of its variables
 abbrev pub bound : E → List Var → ℕ
 bound (var i) ρ = getD ρ i none .size
 bound (from v i) ρ = getD ρ i none .size
@@ -65,6 +70,7 @@ module _ (w : Width) where
   raw (shr a k) ρ = shrZ (toZ w (ofZ w (raw a ρ))) (2 ^ k)
   raw (quot a d) ρ = quotZ (toZ w (ofZ w (raw a ρ))) (pos d)
 
+  -- the test: the bound of each part is below half the width's power
   abbrev pub ok : E → List Var → Bool
   ok (var i) ρ = ltb (bound (var i) ρ) (2 ^ hbits w)
   ok (from v i) ρ = ltb (bound (from v i) ρ) (2 ^ hbits v) && ltb (bound (from v i) ρ) (2 ^ hbits w)

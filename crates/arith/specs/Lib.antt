@@ -1,4 +1,4 @@
--- Definitions (Floor, Between, Over, Word, and `bit` of Bit) and laws that the crates share.
+-- Definitions (Floor, Between, Over, Word, Bytes, `Within`, `bit` and `With` of Bit, `countIf` and `sumOf` of Loops) and laws that the crates share.
 pub mod Floor
 pub mod Within
 pub mod Rounding

@@ -6,10 +6,12 @@ use lib.Signed.{ltZ}
 use lib.Ieee.{Float, binary32, round}
 use lib.Ieee.Exact.{HasValue}
 
+-- the sign of a whole number: whether it is below 0
 abbrev pub isNeg : ℤ → Bool
 isNeg (pos n) = false
 isNeg (negsuc n) = true
 
+-- x is k / d with nothing rounded
 pub record Over (x : Float) (k : ℤ) (d : ℕ) : Type 0 where
   pub value : HasValue x (isNeg k) (natAbs k) d
 

@@ -2,7 +2,7 @@
 use mathlib.Core.Path.{_≡_, refl}
 use mathlib.Core.Bool.{Bool, true, false, cond}
 use Prim.Native.Nat.{ℕ, zero, suc, _+_, _-_, _*_, _/_, _≤_, _<_, _^_, zero-le}
-use native.Mathlib.Nat.{le-suc, zero-lt-suc, div-zero, div-mul-le-self, le-div-iff-mul-le, le-refl, le-of-eq, le-trans, mul-le-mul, mul-comm, div-le-self, div-le-of-le-mul, div-lt-iff-lt-mul, lt-of-le-of-lt, le-of-lt}
+use native.Mathlib.Nat.{le-suc, zero-lt-suc, div-zero, div-mul-le-self, le-div-iff-mul-le, le-refl, le-of-eq, le-trans, mul-le-mul, mul-comm, div-le-of-le-mul, div-lt-iff-lt-mul, lt-of-le-of-lt, le-of-lt}
 use native.Mathlib.Omega.{arith}
 use lib.IntN.{ℤ, pos, negsuc, negℤ, natAbs, subℕ, _+ℤ_, _-ℤ_, _*ℤ_}
 use lib.Signed.{mag, shrZ, quotZ}
@@ -12,6 +12,7 @@ use mir.Val.{SFits, hbits, toZ, ofZ}
 use mir.Facts.{toZ-ofZ}
 use Rattle.arith.specs.Floor.{floorZ}
 
+-- the bound itself: the magnitude of z is at most n
 pub record Within (z : ℤ) (n : ℕ) : Type 0 where
   pub within : natAbs z ≤ n
 
@@ -64,11 +65,6 @@ w-sub h k = w-add h (w-neg k)
 
 pub w-mul : {a b : ℤ} {m n : ℕ} → Within a m → Within b n → Within (a *ℤ b) (m * n)
 w-mul {a} {b} h k = record { within = le-trans (le-of-eq (abs-mul a b)) (mul-le-mul (h .within) (k .within)) }
-
--- |floor(z / d)| is at most |z| / d rounded up
-pub w-floor : {z : ℤ} {n : ℕ} (d : ℕ) → Within z n → Within (floorZ z d) n
-w-floor {z = pos a} d h = record { within = le-trans (div-le-self a d) (h .within) }
-w-floor {z = negsuc a} d h = record { within = omega (arith, div-le-self a d, h .within) }
 
 -- floor(z / d) is from -b to b where b * d is at least |z|
 pub w-floor-by : {z : ℤ} {n : ℕ} (b d : ℕ) → zero < d → n ≤ b * d → Within z n → Within (floorZ z d) b

@@ -1,8 +1,8 @@
--- 01, "Bank admission", as seven tests in the order of request M-102. Each gives the first byte place at fault, or nothing.
-use mathlib.Core.Bool.{Bool, true, false, cond, not, _&&_, _||_}
+-- 01, "Bank admission", as seven tests, of which the first at fault counts. Each gives the first byte place at fault, or nothing.
+use mathlib.Core.Bool.{Bool, not, _&&_, _||_}
 use mathlib.Core.List.{List}
 use Prim.Native.Nat.{ℕ, _+_, _-_, _%_}
-use lib.Dec.{eqb, leb, ltb}
+use lib.Dec.{eqb, ltb}
 use lib.ListN.{length, getD}
 use Rattle.records.specs.Chunks.{names, sizes, leasts, chunkAt, nameAt, bytesIn, records}
 use Rattle.records.specs.Search.{orElse, isAt, placed, given, first}
@@ -16,7 +16,6 @@ use Rattle.records.specs.declared.Found.{Found}
 use Rattle.records.specs.declared.Found.the-variants.{Nothing, At}
 use Rattle.records.specs.declared.Parts.{Parts}
 use Rattle.records.specs.declared.Side.{Side}
-use Rattle.records.specs.declared.Zone.{Zone}
 
 -- 1. too long
 unfoldable pub longFault : List ℕ → Found
@@ -46,23 +45,27 @@ fallsAt before here i = ltb 0 i && ltb here before
 unfoldable pub endsWrong : ℕ → ℕ → ℕ → ℕ → Bool
 endsWrong here i n m = eqb (i + 1) n && not (eqb (here + 1) m)
 
+-- index i falls or ends wrong
 unfoldable pub badAt : ℕ → ℕ → ℕ → ℕ → ℕ → Bool
 badAt before here i n m = fallsAt before here i || endsWrong here i n m
 
+-- the same of an index of n records into m, at place i
 abbrev badIndex : (ℕ → ℕ) → ℕ → ℕ → ℕ → Bool
 badIndex index n m i = badAt (index (i - 1)) (index i) i n m
 
--- head h has a bad bag index; bag z has a bad generator or modulator index
+-- head h has a bad bag index
 unfoldable pub badHead : List ℕ → Side → ℕ → Bool
 badHead b s h = badIndex (bagOf b s) (s .nheads) (s .nbags) h
 
+-- bag z has a bad generator or modulator index
 unfoldable pub badBag : List ℕ → Side → ℕ → Bool
 badBag b s z = badIndex (genOf b s) (s .nbags) (s .ngens) z || badIndex (modOf b s) (s .nbags) (s .nmods) z
 
--- the record, which is the later one where an index falls and the terminal one where it ends wrong
+-- the first bad head, which is the later one where an index falls and the terminal one where it ends wrong
 unfoldable pub headFault : List ℕ → Side → Found
 headFault b s = placed (headAt s) (first (badHead b s) 0 (s .nheads))
 
+-- the first bad bag, in the same way
 unfoldable pub bagFault : List ℕ → Side → Found
 bagFault b s = placed (bagAt s) (first (badBag b s) 0 (s .nbags))
 
@@ -79,9 +82,11 @@ badNumber b s h z = zoneAt b s z .sounding && not (ltb (zoneAt b s z .link) (s .
 unfoldable pub zoneLinkAt : List ℕ → Side → ℕ → ℕ
 zoneLinkAt b s z = linkAt s (zoneAt b s z)
 
+-- the record of a side's first zone with a number too high
 unfoldable pub linkFault : List ℕ → Side → Found
 linkFault b s = placed (zoneLinkAt b s) (firstZone b s (badNumber b s))
 
+-- presets stand before instruments
 unfoldable pub numberFault : List ℕ → Parts → Found
 numberFault b m = orElse (linkFault b (m .presets)) (linkFault b (m .instruments))
 
@@ -137,7 +142,7 @@ faultOf b =
           ]
     ]
 
--- 01's number for each: 1 where the bank is not admitted. (M-102 makes these 21 to 27, and lets the place out.)
+-- 01's number for each: 1 where the bank is not admitted
 abbrev pub numberOf : Fault → ℕ
 numberOf Fine = 0
 numberOf (Long p) = 1
@@ -148,5 +153,6 @@ numberOf (Number p) = 1
 numberOf (Rate p) = 1
 numberOf (Window p) = 1
 
+-- a bank is admitted where nothing is at fault
 unfoldable pub admitted : List ℕ → Bool
 admitted b = eqb (numberOf (faultOf b)) 0

@@ -8,7 +8,6 @@ use native.Mathlib.Omega.{arith}
 use borrow.Author.Tests.{eqb-true, eq-eqb, le-leb}
 use lib.Dec.{ltb→lt, leb→le, lt→ltb, le→leb}
 use lib.IntN.{ℤ, pos, negsuc}
-use lib.ListN.{length}
 use lib.Signed.{_≤ℤ_, _<ℤ_}
 use Rattle.bank.specs.Admission.{faultOf, numberOf, admitted}
 use Rattle.bank.specs.Rules.{Rising, Sounding, GoodSide, GoodWindow, Admitted}

@@ -1,3 +1,4 @@
+-- Admission, its faults and the listing of presets: definitions (Admission, OnePass, Rules, Listing) and their laws.
 pub mod Admission
 pub mod AdmissionLaws
 pub mod IndexLaws

@@ -70,7 +70,7 @@ fn bad_bag(b: &[u8], s: Side, z: u32) -> bool
 }
 
 // Where the first head stands whose bag index falls or ends wrong.
-pub fn head_fault(b: &[u8], s: Side) -> Found
+fn head_fault(b: &[u8], s: Side) -> Found
     ensures { λ r. ⌜ r ≡ headFault (now (b .entry)) s ⌝ }
 {
     let n = s.nheads;
@@ -85,7 +85,7 @@ pub fn head_fault(b: &[u8], s: Side) -> Found
 }
 
 // Where the first bag stands whose generator or modulator index falls or ends wrong.
-pub fn bag_fault(b: &[u8], s: Side) -> Found
+fn bag_fault(b: &[u8], s: Side) -> Found
     ensures { λ r. ⌜ r ≡ bagFault (now (b .entry)) s ⌝ }
 {
     let n = s.nbags;

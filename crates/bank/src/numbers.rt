@@ -39,7 +39,7 @@ fn number_in(b: &[u8], s: Side, h: u32) -> Found
 }
 
 // The same over all heads of a side, in file order.
-pub fn link_fault(b: &[u8], s: Side) -> Found
+fn link_fault(b: &[u8], s: Side) -> Found
     ensures { λ r. ⌜ r ≡ linkFault (now (b .entry)) s ⌝ }
 {
     let heads = less_one(s.nheads) as u32;

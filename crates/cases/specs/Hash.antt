@@ -1,5 +1,5 @@
--- CASES.md: the FNV-1a hash of 64 bits over binary32 numbers, each number's 32 bits as four bytes, the low byte first. Assumes nothing.
-use Prim.Native.Nat.{ℕ, _+_, _*_, _/_, _%_, _^_}
+-- The case files' form: the FNV-1a hash of 64 bits over binary32 numbers, each number's 32 bits as four bytes, the low byte first.
+use Prim.Native.Nat.{ℕ, _*_, _/_, _%_, _^_}
 use mathlib.Core.Bool.{cond}
 use mathlib.Core.List.{List, [], _∷_}
 use lib.Bits.{bitXor}

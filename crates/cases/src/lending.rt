@@ -91,7 +91,9 @@ pub fn next_memory(room: &mut [u8; 65536], from: Place, into: &mut [i16], n: u32
 }
 
 // Nothing is lent.
-pub fn nothing() -> Lent {
+pub fn nothing() -> Lent
+    ensures { λ r. ⌜ (r .bank ≡ 0) × (r .ram ≡ 0) × (r .rom ≡ 0) × (r .«ram_held» ≡ 0) × (r .«rom_held» ≡ 0) ⌝ }
+{
     Lent {
         bank: 0,
         ram: 0,

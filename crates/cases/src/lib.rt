@@ -1,10 +1,10 @@
 // Case files and traces: what the programs that play cases share. They lend a room to read into and one to write from.
-mod hash; // hash.rt: the hash over a render's output
-mod commands; // commands.rt: a letter and the numbers behind it
-mod lending; // lending.rt: what a case lends, and parts of it
-mod lines; // lines.rt: lines that more than one program writes, a case's name
-mod reading; // reading.rt: bytes and little-endian numbers of standard input
-mod writing; // writing.rt: text to standard output
+mod commands;
+mod hash;
+mod lending;
+mod lines;
+mod reading;
+mod writing;
 
 pub use commands::Command;
 pub use commands::next_command;

@@ -1,5 +1,6 @@
 // Reading standard input as it comes, through a lent room: bytes, little-endian numbers, samples.
 ghost use mathlib.Core.Path.{_≡_};
+ghost use mathlib.Core.Bool.{false};
 ghost use Prim.Native.Nat.{_+_, _*_};
 use libc::STDIN_FILENO;
 
@@ -27,7 +28,9 @@ pub struct Long {
 }
 
 // Nothing is read yet.
-pub fn start() -> Place {
+pub fn start() -> Place
+    ensures { λ r. ⌜ (r .at ≡ 0) × (r .end ≡ 0) × (r .cut ≡ false) ⌝ }
+{
     Place {
         at: 0,
         end: 0,

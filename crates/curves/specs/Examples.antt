@@ -14,6 +14,7 @@ pub data Row : Type 0 where
   gain : ℕ → ℕ → Row  -- cB
   velocity : ℕ → ℕ → Row
 
+-- the examples, in 01's order
 abbrev pub table : List Row
 table =
     step (pos 0) 44100 16777216 ∷

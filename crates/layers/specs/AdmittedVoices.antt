@@ -1,17 +1,17 @@
 -- What is true of every voice that an admitted bank starts.
 use mathlib.Core.Bool.{Bool, true, false, cond, _&&_}
 use mathlib.Core.List.{List, [], _∷_, _++_, map}
-use mathlib.Core.Path.{_≡_, refl, sym, ap, subst, _∙_}
-use Prim.Native.Nat.{ℕ, zero, suc, _+_, _-_, _≤_, _<_, min}
+use mathlib.Core.Path.{_≡_, refl, subst}
+use Prim.Native.Nat.{ℕ, zero, suc, _+_, _-_, _≤_, _<_}
 use native.Mathlib.Nat.{le-refl}
 use native.Mathlib.Omega.{arith}
-use borrow.Author.Tests.{eqb-true, eqb-false}
+use borrow.Author.Tests.{eqb-false}
 use lib.Dec.{eqb}
 use lib.ListN.{take}
 use Rattle.bank.specs.Admission.{admitted}
 use Rattle.bank.specs.AdmittedLaws.{admitted-rules, rate-in, window-in, instrument-in}
 use Rattle.bank.specs.Rules.{Sounding, Admitted}
-use Rattle.records.specs.SearchLaws.{first-is, Hit}
+use Rattle.records.specs.SearchLaws.{first-is}
 use Rattle.records.specs.Sides.{partsOf, presets, instruments, bagOf}
 use Rattle.records.specs.Window.{modeOf, loops}
 use Rattle.records.specs.Zones.{zoneAt, zoneCount}

@@ -1,8 +1,8 @@
 -- Laws of the layers, as the search's loops want them.
-use mathlib.Core.Bool.{Bool, true, false, cond}
+use mathlib.Core.Bool.{Bool, true, false}
 use mathlib.Core.List.{List, [], _∷_, _++_, append-assoc, append-nil}
 use mathlib.Core.Path.{_≡_, refl, sym, ap, ap₂, _∙_}
-use Prim.Native.Nat.{ℕ, zero, suc, _+_, _-_, _≤_, _<_, min}
+use Prim.Native.Nat.{ℕ, zero, suc, _+_, _-_, _<_, min}
 use native.Mathlib.Nat.{add-zero, add-suc}
 use native.Mathlib.Numerals.{add-one}
 use native.Mathlib.Omega.{arith}
@@ -23,6 +23,7 @@ use Rattle.layers.specs.declared.Pair.{Pair}
 unfoldable pub padded : List Pair → List Pair
 padded l = l ++ replicate (33 - length l) noPair
 
+-- a count of layers and the array that holds them
 abbrev pub made : ℕ → List Pair → Layers
 made n ps = record { count = n; pairs = ps }
 

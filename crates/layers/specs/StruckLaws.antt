@@ -20,6 +20,7 @@ use Rattle.layers.specs.declared.Layers.{Layers}
 use Rattle.layers.specs.declared.Pair.{Pair}
 use Rattle.layers.specs.declared.Struck.{Struck}
 
+-- a count of voices and the array that holds them
 abbrev pub struckBy : ℕ → List Voice → Struck
 struckBy n vs = record { count = n; voices = vs }
 
@@ -71,11 +72,7 @@ module _ (f : Pair → Voice) (l : List Pair) where
       let len : length (map f (take 33 l)) ≡ n = length-map (take 33 l) f ∙ length-take 33 l ∙ sym e in
       rw (len, lt-leb n 32 many) refl
 
--- what stands in the array: as many as there are, and they, where they are at most 32
-pub struck-count : (vs : List Voice) → struckOf vs .count ≡ length vs
-unfolding struckOf
-struck-count vs = refl
-
+-- what stands in the array, where there are at most 32: the voices themselves
 pub struck-voices : (vs : List Voice) → length vs ≤ 32 → take (struckOf vs .count) (struckOf vs .voices) ≡ vs
 unfolding struckOf
 struck-voices vs few = rw (le-leb (length vs) 32 few) (take-at vs (replicate (32 - length vs) blank) (length vs) refl)

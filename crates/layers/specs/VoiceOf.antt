@@ -1,8 +1,8 @@
 -- 01, "From a key to layers" and "A voice, frame by frame": the voice that a layer starts, and all that a key starts.
-use mathlib.Core.Bool.{Bool, true, false, cond}
+use mathlib.Core.Bool.{Bool, false, cond}
 use mathlib.Core.List.{List, [], map, _++_}
 use Prim.Native.Nat.{ℕ, _+_, _-_, min}
-use lib.IntN.{ℤ, pos, natAbs}
+use lib.IntN.{pos, natAbs}
 use lib.Dec.{leb}
 use lib.ListN.{take, length, replicate}
 use Rattle.arith.specs.Bytes.{u8At, i8At}

@@ -36,10 +36,7 @@ pub fn place_of(
     requires { ⌜ (fine < 61) × (coarse < 61) ⌝ }
     ensures { λ r. ⌜ r ≡ word32 (shifted (u32At (now (b .entry)) (sampleAt m k + offset)) (at (now (own .entry)) fine) (at (now (own .entry)) coarse)) ⌝ }
 {
-    let place = arith::u32_at(
-        b,
-        (m.samples as usize) + 46 * (k as usize) + (offset as usize),
-    );
+    let place = records::place_of(b, m, k, offset);
     held32(records::shifted(place, own[fine], own[coarse]))
 }
 

@@ -41,11 +41,13 @@ module _ (b : List ℕ) where
       omega (arith, first, up, admitted-room b well)
 
 -- ---- a row's next place
+-- the next place that a row says, else 0
 abbrev nextIn : Listed → ℕ
 nextIn Refused = 0
 nextIn End = 0
 nextIn (Row program bank next) = next
 
+-- 1 for a row, else 0
 abbrev isRow : Listed → ℕ
 isRow Refused = 0
 isRow End = 0

@@ -11,11 +11,9 @@ use lib.IntN.{ℤ, pos}
 use lib.ListN.{length, getD, set, length-set}
 use lib.Seq.{getD-set-same, getD-set-other, ext-getD, set-out}
 use Rattle.records.specs.Amounts.{pouredFrom, poured}
-use Rattle.records.specs.Search.{last}
 use Rattle.records.specs.SearchLaws.{last-none, last-hit, last-miss}
 use Rattle.records.specs.Sides.{operator, signed}
 use Rattle.records.specs.Zones.{has, lastOf, amountIn, value}
-use Rattle.records.specs.declared.Found.the-variants.{Nothing, At}
 use Rattle.records.specs.declared.Side.{Side}
 use Rattle.records.specs.declared.Zone.{Zone}
 

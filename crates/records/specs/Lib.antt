@@ -1,3 +1,4 @@
+-- The bank as records: definitions (Whole, Search, Chunks, Sides, Zones, Window, Amounts, Memory) and their laws.
 pub mod Whole
 pub mod WholeLaws
 pub mod Search

@@ -1,7 +1,7 @@
 -- Laws of `first` and `last`, as loops want them: one number more, and a first that stays the first.
 use mathlib.Core.Bool.{Bool, true, false}
 use mathlib.Core.Logic.{_⊎_, inl, inr, ⊎-elim}
-use mathlib.Core.Path.{_≡_, refl, ap, sym, _∙_, subst}
+use mathlib.Core.Path.{_≡_, refl, _∙_, subst}
 use Prim.Native.Nat.{ℕ, zero, suc, _+_, _-_, _≤_, _<_}
 use native.Mathlib.Nat.{add-zero, zero-add, add-suc, not-suc-le-zero, le-of-suc-le-suc, eq-or-lt-of-le}
 use native.Mathlib.Numerals.{add-one}
@@ -68,20 +68,6 @@ first-is p from zero x e = let z : _≡_ {A = ℕ} 0 1 = cc in absurd (omega ari
 first-is p from (suc n) x e =
     ⊎-elim (λ f. more (first-is p from n x f)) (λ h. record { low = omega arith; high = omega arith; holds = subst (λ (k : ℕ). p k ≡ true) (h .1) (h .0) })
     (or-given (first p from n) (p (from + n)) (from + n) x e)
-  where
-    more : Hit p from n x → Hit p from (suc n) x
-    more h = record { low = h .low; high = omega arith; holds = h .holds }
-
-given-or : (t : Bool) (y : ℕ) (f : Found) (x : ℕ) → orElse (given t y) f ≡ At x → ((t ≡ true) × (y ≡ x)) ⊎ (f ≡ At x)
-given-or true y f x e = inl (refl, cc)
-given-or false y f x e = inr e
-
-pub last-is : (p : ℕ → Bool) (from n x : ℕ) → last p from n ≡ At x → Hit p from n x
-unfolding last
-last-is p from zero x e = let z : _≡_ {A = ℕ} 0 1 = cc in absurd (omega arith)
-last-is p from (suc n) x e =
-    ⊎-elim (λ h. record { low = omega arith; high = omega arith; holds = subst (λ (k : ℕ). p k ≡ true) (h .1) (h .0) }) (λ f. more (last-is p from n x f))
-    (given-or (p (from + n)) (from + n) (last p from n) x e)
   where
     more : Hit p from n x → Hit p from (suc n) x
     more h = record { low = h .low; high = omega arith; holds = h .holds }

@@ -46,13 +46,15 @@ instruments b =
 unfoldable pub partsOf : List ℕ → Parts
 partsOf b = record { presets = presets b; instruments = instruments b; samples = body b 8 }
 
--- where head h, bag z and generator g stand
+-- where head h stands
 abbrev pub headAt : Side → ℕ → ℕ
 headAt s h = s .heads + s .width * h
 
+-- where bag z stands
 abbrev pub bagAt : Side → ℕ → ℕ
 bagAt s z = s .bags + 4 * z
 
+-- where generator g stands
 abbrev pub genAt : Side → ℕ → ℕ
 genAt s g = s .gens + 4 * g
 
@@ -60,10 +62,11 @@ genAt s g = s .gens + 4 * g
 unfoldable pub bagOf : List ℕ → Side → ℕ → ℕ
 bagOf b s h = u16At b (headAt s h + s .index)
 
--- the generator and the modulator index of a bag
+-- the generator index of a bag
 unfoldable pub genOf : List ℕ → Side → ℕ → ℕ
 genOf b s z = u16At b (bagAt s z)
 
+-- the modulator index of a bag
 unfoldable pub modOf : List ℕ → Side → ℕ → ℕ
 modOf b s z = u16At b (bagAt s z + 2)
 
@@ -71,10 +74,11 @@ modOf b s z = u16At b (bagAt s z + 2)
 unfoldable pub operator : List ℕ → Side → ℕ → ℕ
 operator b s g = u16At b (genAt s g)
 
--- its amount, unsigned and signed
+-- its amount, unsigned
 unfoldable pub amount : List ℕ → Side → ℕ → ℕ
 amount b s g = u16At b (genAt s g + 2)
 
+-- its amount, signed
 unfoldable pub signed : List ℕ → Side → ℕ → ℤ
 signed b s g = i16At b (genAt s g + 2)
 
@@ -82,9 +86,10 @@ signed b s g = i16At b (genAt s g + 2)
 abbrev pub sampleAt : Parts → ℕ → ℕ
 sampleAt m k = m .samples + 46 * k
 
--- program and bank of preset h
+-- the program of preset h
 unfoldable pub programOf : List ℕ → Parts → ℕ → ℕ
 programOf b m h = u16At b (headAt (m .presets) h + 20)
 
+-- the bank of preset h
 unfoldable pub bankOf : List ℕ → Parts → ℕ → ℕ
 bankOf b m h = u16At b (headAt (m .presets) h + 22)

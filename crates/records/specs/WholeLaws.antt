@@ -1,6 +1,6 @@
 -- Laws of whole numbers.
 use mathlib.Core.Path.{_≡_}
-use Prim.Native.Nat.{ℕ, suc, _-_, _%_}
+use Prim.Native.Nat.{suc, _%_}
 use native.Mathlib.Omega.{arith}
 use lib.IntN.{ℤ, pos, negsuc, natAbs, _+ℤ_}
 use Rattle.records.specs.Whole.{modZ}

@@ -23,16 +23,19 @@ moved b m local global offset fine coarse =
     (value b (m .instruments) local global (pos 0) fine)
     (value b (m .instruments) local global (pos 0) coarse)
 
--- start, end, loop start, loop end
+-- the window's start
 unfoldable pub startOf : List ℕ → Parts → Zone → Zone → ℤ
 startOf b m local global = moved b m local global 20 0 4
 
+-- its end
 unfoldable pub endOf : List ℕ → Parts → Zone → Zone → ℤ
 endOf b m local global = moved b m local global 24 1 12
 
+-- its loop start
 unfoldable pub loopStartOf : List ℕ → Parts → Zone → Zone → ℤ
 loopStartOf b m local global = moved b m local global 28 2 45
 
+-- its loop end
 unfoldable pub loopEndOf : List ℕ → Parts → Zone → Zone → ℤ
 loopEndOf b m local global = moved b m local global 32 3 50
 
@@ -50,6 +53,7 @@ goodPlaces start end from to looping =
     leZ (pos 0) start && ltZ start end && ltZ end (pos 4294967296)
     && (not looping || leZ start from && ltZ from to && leZ to end)
 
+-- whether a zone's window is good
 unfoldable pub goodWindow : List ℕ → Parts → Zone → Zone → Bool
 goodWindow b m local global =
     goodPlaces (startOf b m local global) (endOf b m local global) (loopStartOf b m local global) (loopEndOf b m local global)

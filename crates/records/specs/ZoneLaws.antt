@@ -1,29 +1,23 @@
 -- Laws of zones.
 use mathlib.Core.List.{List}
-use mathlib.Core.Bool.{Bool, true, false}
+use mathlib.Core.Bool.{Bool, true}
 use mathlib.Core.Path.{_≡_, refl, subst}
 use Prim.Native.Nat.{ℕ, zero, suc, _+_, _-_, _<_}
 use native.Mathlib.Nat.{add-zero, add-suc}
 use native.Mathlib.Numerals.{add-one}
 use native.Mathlib.Omega.{arith}
 use Rattle.records.specs.Search.{first, placed}
-use Rattle.records.specs.SearchLaws.{Hit, first-hit, first-is, last-is}
+use Rattle.records.specs.SearchLaws.{Hit, first-hit, first-is}
 use Rattle.records.specs.Sides.{bagOf, genOf}
-use Rattle.records.specs.Zones.{has, genCount, closingOf, lastOf, zoneCount, zoneBelow, firstZone}
+use Rattle.records.specs.Zones.{has, genCount, closingOf, zoneCount, zoneBelow, firstZone}
 use Rattle.records.specs.declared.Found.{Found}
 use Rattle.records.specs.declared.Found.the-variants.{Nothing, At}
 use Rattle.records.specs.declared.Side.{Side}
-use Rattle.records.specs.declared.Zone.{Zone}
 
 -- the 41 (53) of a zone is one of its generators
 pub closing-is : (b : List ℕ) (s : Side) (z g : ℕ) → closingOf b s z ≡ At g → Hit (has b s (s .closing)) (genOf b s z) (genCount b s z) g
 unfolding closingOf
 closing-is b s z g e = first-is (has b s (s .closing)) (genOf b s z) (genCount b s z) g e
-
--- the generator that counts for an operator is one of the zone's
-pub last-of-is : (b : List ℕ) (s : Side) (z : Zone) (o g : ℕ) → lastOf b s z o ≡ At g → Hit (has b s o) (z .from) (z .count) g
-unfolding lastOf
-last-of-is b s z o g e = last-is (has b s o) (z .from) (z .count) g e
 
 -- a search over heads and their zones
 module _ (b : List ℕ) (s : Side) (p : ℕ → ℕ → Bool) where

@@ -1,4 +1,4 @@
-// The bank as records: bytes, chunks, sides, zones, values and windows (01, "Bank admission").
+// The bank as records: chunks, sides, zones, values and windows (01, "Bank admission").
 pub mod amounts;
 pub mod chunks;
 pub mod headers;

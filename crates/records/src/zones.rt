@@ -8,15 +8,18 @@ use crate::Side;
 use crate::Zone;
 use crate::bag_of;
 use crate::gen_of;
+use crate::operator;
 use arith::u16_at;
 
+// Whether generator g has the operator o.
 pub fn has(b: &[u8], s: Side, o: u16, g: usize) -> bool
     requires { ⌜ g ≤ 8589934592 ⌝ }
     ensures { λ r. ⌜ r ≡ has (now (b .entry)) s o g ⌝ }
 {
-    u16_at(b, (s.gens as usize) + 4 * g) == o
+    operator(b, s, g) == o
 }
 
+// The amount of generator g, unsigned.
 pub fn amount(b: &[u8], s: Side, g: usize) -> u16
     requires { ⌜ g ≤ 8589934592 ⌝ }
     ensures { λ r. ⌜ r ≡ amount (now (b .entry)) s g ⌝ }
@@ -34,6 +37,7 @@ fn gap(low: u16, high: u16) -> u16
     0
 }
 
+// How many zones head h has.
 pub fn zone_count(b: &[u8], s: Side, h: u32) -> u16
     ensures { λ r. ⌜ r ≡ zoneCount (now (b .entry)) s h ⌝ }
 {

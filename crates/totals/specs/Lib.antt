@@ -1,3 +1,4 @@
+-- The totals of a layer and the numbers of a voice: definitions (Totals, VoiceNumbers) and their laws.
 pub mod Totals
 pub mod TotalsLaws
 pub mod VoiceNumbers

@@ -1,7 +1,7 @@
 -- Laws of the voice's numbers: which case the code's tests lead to.
 use mathlib.Core.Bool.{Bool, true, false, cond, _&&_}
 use mathlib.Core.Path.{_≡_, refl, sym, subst}
-use Prim.Native.Nat.{ℕ, suc, _-_, _%_, _≤_, _<_}
+use Prim.Native.Nat.{ℕ, suc, _%_, _<_}
 use native.Mathlib.Omega.{arith}
 use native.Mathlib.Nat.{lt-of-le-of-lt}
 use lib.Dec.{T, lit<}
@@ -11,7 +11,6 @@ use mir.Syntax.{w8, w32}
 use mir.Val.{Fits}
 use borrow.Author.Tests.{ltb-false, ltb-true, le-leb, lt-leb}
 use Rattle.records.specs.Whole.{betweenZ, modZ, word32}
-use Rattle.arith.specs.Clamp.{clamp-low, clamp-high, clamp-in}
 use Rattle.arith.specs.Over.{heldTo}
 use Rattle.arith.specs.Rounding.{sub-pos}
 use Rattle.arith.specs.Within.{Within}

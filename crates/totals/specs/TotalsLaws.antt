@@ -1,8 +1,8 @@
 -- A layer's values in two lists, in which generator g has place g, and its totals of them.
-use mathlib.Core.Bool.{Bool, true, false}
+use mathlib.Core.Bool.{Bool, false}
 use mathlib.Core.List.{List, [], _∷_}
-use mathlib.Core.Path.{_≡_, refl, subst}
-use Prim.Native.Nat.{ℕ, zero, suc, _≤_}
+use mathlib.Core.Path.{_≡_, subst}
+use Prim.Native.Nat.{ℕ, zero, suc}
 use native.Mathlib.Nat.{le-trans}
 use native.Mathlib.Omega.{arith}
 use lib.Dec.{T}
@@ -33,10 +33,11 @@ each f g (suc n) = f g ∷ each f (suc g) n
 abbrev pub defaults : List ℤ
 defaults = each defaultOf 0 61
 
--- the instrument's values, and the preset's
+-- the instrument's values: the default where a generator is not there
 unfoldable pub ownValues : List ℕ → Parts → Layer → List ℤ
 ownValues b m l = poured b (m .instruments) (l .instrument) (poured b (m .instruments) (l .beside) defaults)
 
+-- the preset's values: 0 where a generator is not there
 unfoldable pub addedValues : List ℕ → Parts → Layer → List ℤ
 addedValues b m l = poured b (m .presets) (l .preset) (poured b (m .presets) (l .above) (replicate 61 (pos 0)))
 

@@ -1,8 +1,8 @@
 -- 01, "From a key to layers" and "Tables and steps": what a starting voice gets of its layer's totals t.
-use mathlib.Core.Bool.{Bool, cond}
+use mathlib.Core.Bool.{cond}
 use Prim.Native.Nat.{ℕ}
 use lib.Dec.{eqb, leb}
-use lib.IntN.{ℤ, pos, negsuc, natAbs, _+ℤ_, _-ℤ_, _*ℤ_}
+use lib.IntN.{ℤ, pos, natAbs, _+ℤ_, _-ℤ_, _*ℤ_}
 use Rattle.records.specs.Whole.{betweenZ}
 use Rattle.curves.specs.Decibels.{cbOf}
 

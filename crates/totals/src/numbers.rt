@@ -25,14 +25,14 @@ fn if_midi(low: u8, x: i16, other: u8) -> u8
 }
 
 // Key: generator 46 if 0..127, else the struck key.
-pub fn key_of(own: &[i16; 61], added: &[i16; 61], key: u8) -> u8
+fn key_of(own: &[i16; 61], added: &[i16; 61], key: u8) -> u8
     ensures { λ r. ⌜ r ≡ keyOf (totalIn (now (own .entry)) (now (added .entry))) key ⌝ }
 {
     if_midi(0, own[46], key)
 }
 
 // Root: generator 58 if 0..127, else the header's, else 60 where that exceeds 127.
-pub fn root_of(own: &[i16; 61], added: &[i16; 61], header: u8) -> u8
+fn root_of(own: &[i16; 61], added: &[i16; 61], header: u8) -> u8
     ensures { λ r. ⌜ r ≡ rootOf (totalIn (now (own .entry)) (now (added .entry))) header ⌝ }
 {
     let other = if header <= 127 { header } else { 60 };

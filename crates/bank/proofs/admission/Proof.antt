@@ -4,7 +4,7 @@ use mathlib.Core.Path.{_≡_, sym, ap, _∙_}
 use Prim.Native.Nat.{ℕ}
 use native.Mathlib.Omega.{arith}
 use Rattle.records.specs.declared.Found.{Found}
-use Rattle.records.specs.declared.Found.the-variants.{Nothing, At}
+use Rattle.records.specs.declared.Found.the-variants.{Nothing}
 use Rattle.records.specs.declared.Parts.{Parts}
 use Rattle.records.specs.Sides.{partsOf}
 use Rattle.bank.specs.RulesLaws.{long-none, long-some, whole-bank}

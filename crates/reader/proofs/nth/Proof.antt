@@ -1,4 +1,4 @@
--- `reader::nth` meets its contract: a walk of its MIR, by hand. A reader at the number is made, passed to `next`, and of what comes back the answer is read. That this is what the k-th next from opening gives is `given-listed`.
+-- `reader::nth` gives what the k-th next from opening gives: a walk of its MIR. A reader at the number is made, passed to `next`, and of what comes back the answer is read. That this is the k-th next's answer is `given-listed`.
 use mathlib.Core.Path.{_≡_, refl, sym, ap, _∙_}
 use Prim.Native.Nat.{ℕ, _<_, _^_}
 use mathlib.Core.List.{List, [], _∷_}
@@ -19,7 +19,7 @@ use types.Kit.{Given, ‵, raw, _⊛_, given, ⋆, some, later, _$_, _∵_, !, q
 use types.Part.{whole, sub, look-in, agg}
 use types.Run.{look, init, forget, stop, fld, from, load, of-opd, and-then, no-more, assigns, land, returns, enter, alloc1, alloc0, params1, pass1, pass0, free1, free0}
 use sound.WpLaws.{FmC, fmOf, WpFn-mono}
-use denote.RattleType.{RattleType, owns}
+use denote.RattleType.{owns}
 use denote.Laws.{Is, shows}
 use denote.Plain.{uint-vals, uint-tells, uint-makes}
 use denote.Builtin.{u8, u32}

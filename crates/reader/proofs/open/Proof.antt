@@ -1,7 +1,7 @@
--- `reader::open` meets its contract: a walk of its MIR, by hand. `admission_number` is called on the slice, and a reader at 0 over it is made beside the number.
+-- `reader::open` gives the number of admission and a reader at record 0: a walk of its MIR. `admission_number` is called on the slice, and a reader at 0 over it is made beside the number.
 -- A `&` is Copy: what the slice owns is had three times, for the callee, for the result and for the exit.
 use mathlib.Core.Path.{_≡_, refl, ap}
-use Prim.Native.Nat.{ℕ, _<_, _^_}
+use Prim.Native.Nat.{ℕ}
 use mathlib.Core.List.{List, [], _∷_}
 use lib.Dec.{lit<}
 use lib.ListN.{length}

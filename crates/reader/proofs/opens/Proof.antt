@@ -1,4 +1,4 @@
--- `reader::opens` meets its contract: a walk of its MIR, by hand. What `open` returns is held in a local, and its number is read.
+-- `reader::opens` gives the number that opening gives: a walk of its MIR. What `open` returns is held in a local, and its number is read.
 use mathlib.Core.Path.{_≡_, refl, ap}
 use Prim.Native.Nat.{ℕ}
 use mathlib.Core.List.{List, [], _∷_}

@@ -1,5 +1,5 @@
 -- `reader::step_from` meets its contract.
-use mathlib.Core.Path.{_≡_, sym, ap, _∙_}
+use mathlib.Core.Path.{sym, ap, _∙_}
 use borrow.Author.Needs.{needs}
 use Rattle.bank.specs.declared.Listed.{Listed}
 use Rattle.reader.specs.Reading.{behind}

@@ -1,4 +1,4 @@
--- `records::bytes::byte` meets its contract.
+-- `arith::bytes::byte` meets its contract.
 use Rattle.arith.specs.Bytes.{u8At}
 use native.Mathlib.Omega.{arith}
 use mathlib.Core.Path.{refl, sym}

@@ -1,4 +1,4 @@
--- `records::bytes::signed16` meets its contract.
+-- `arith::bytes::signed16` meets its contract.
 use borrow.Author.Needs.{needs}
 use borrow.Author.Tests.{le-ltb}
 use mathlib.Core.Bool.{Bool}

@@ -1,4 +1,4 @@
--- `records::bytes::u16_at` meets its contract.
+-- `arith::bytes::u16_at` meets its contract.
 use Rattle.arith.specs.Bytes.{u16At}
 use borrow.Author.Needs.{needs}
 use Rattle.arith.proofs.bytes.u16_at.Statement.{statement}

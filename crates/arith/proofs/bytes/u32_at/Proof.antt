@@ -1,4 +1,4 @@
--- `records::bytes::u32_at` meets its contract.
+-- `arith::bytes::u32_at` meets its contract.
 use Rattle.arith.specs.Bytes.{u32At}
 use borrow.Author.Needs.{needs}
 use Rattle.arith.proofs.bytes.u32_at.Statement.{statement}

@@ -5,7 +5,7 @@ use Prim.Native.Nat.{ℕ, _+_, _-_, _*_, _<_}
 use Rattle.bank.specs.Admission.{badRate, rateFault}
 use Rattle.records.specs.Search.{first}
 use Rattle.records.specs.SearchLaws.{first-is}
-use Rattle.records.specs.declared.Found.the-variants.{Nothing, At}
+use Rattle.records.specs.declared.Found.the-variants.{At}
 use borrow.Author.Needs.{needs}
 use Rattle.bank.proofs.rates.rate_fault.Statement.{statement}
 use Rattle.bank.proofs.rates.rate_fault.Tie as tie

@@ -6,7 +6,6 @@ use mir.Facts.{toZ-ofZ}
 use mir.Syntax.{w16, w64}
 use Rattle.arith.specs.Within.{w-of, w-fits, w-back}
 use Rattle.records.specs.Window.{loops}
-use borrow.Author.Needs.{needs}
 use Rattle.bank.proofs.windows.looping.Statement.{statement}
 use Rattle.bank.proofs.windows.looping.Tie as tie
 

@@ -1,4 +1,4 @@
--- At most eight bytes stand behind a letter. Assumes nothing.
+-- At most eight bytes stand behind a letter.
 use mathlib.Core.Path.{sym}
 use native.Mathlib.Omega.{arith}
 use lib.Seq.{length-take-le}

@@ -1,5 +1,4 @@
--- A number that is not itself is a NaN. Assumes nothing.
-use borrow.Author.Needs.{needs}
+-- A number that is not itself is a NaN.
 use mathlib.Core.Path.{sym, _∙_}
 use Rattle.cases.specs.Hash.{bitsOf}
 use Rattle.cases.specs.HashLaws.{self}

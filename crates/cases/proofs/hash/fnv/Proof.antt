@@ -1,4 +1,4 @@
--- The hash so far is that over the numbers passed. Assumes nothing.
+-- The hash so far is that over the numbers passed.
 use borrow.Author.Needs.{needs}
 use mathlib.Core.Path.{_≡_, refl, ap, _∙_}
 use Prim.Native.Nat.{_≤_, _<_, _-_}

@@ -1,4 +1,4 @@
--- The definition, opened. Assumes nothing.
+-- The definition, opened.
 use Rattle.cases.specs.Hash.{hashBits}
 use borrow.Author.Needs.{needs}
 use Rattle.cases.proofs.hash.hash_bits.Statement.{statement}

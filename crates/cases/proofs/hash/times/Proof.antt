@@ -1,4 +1,4 @@
--- The two halves' products and the shifted number add up to the product, modulo 2^64. Assumes nothing.
+-- The two halves' products and the shifted number add up to the product, modulo 2^64.
 use borrow.Author.Needs.{needs}
 use mathlib.Core.Path.{_≡_, ap, _∙_}
 use Prim.Native.Nat.{ℕ, _+_, _*_, _/_, _%_, _^_}

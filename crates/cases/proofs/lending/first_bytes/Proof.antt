@@ -1,4 +1,4 @@
--- The part that is lent lies within the whole. Assumes nothing.
+-- The part that is lent lies within the whole.
 use mathlib.Core.Path.{refl, sym}
 use native.Mathlib.Omega.{arith}
 use denote.Ref.{now}

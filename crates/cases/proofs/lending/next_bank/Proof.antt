@@ -1,4 +1,4 @@
--- The part that is read into lies within what is lent. Assumes nothing.
+-- The part that is read into lies within what is lent.
 use mathlib.Core.Path.{sym}
 use native.Mathlib.Omega.{arith}
 use lib.Seq.{length-take-le}

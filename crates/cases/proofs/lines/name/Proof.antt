@@ -1,4 +1,4 @@
--- A name of at most 255 bytes lies within its room. Assumes nothing.
+-- A name of at most 255 bytes lies within its room.
 use mathlib.Core.Path.{sym}
 use native.Mathlib.Omega.{arith}
 use lib.Seq.{length-take-le}

@@ -1,4 +1,4 @@
--- The room and the place go on, and the length of what is lent stays. Assumes nothing.
+-- The room and the place go on, and the length of what is lent stays.
 use borrow.Author.Needs.{needs}
 use mathlib.Core.Path.{_≡_}
 use Prim.Native.Nat.{_≤_, _-_}

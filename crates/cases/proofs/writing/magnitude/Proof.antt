@@ -1,4 +1,4 @@
--- A number below 0 is -1 - m, and m + 1 from 0. Assumes nothing.
+-- A number below 0 is -1 - m, and m + 1 from 0.
 use borrow.Author.Needs.{needs}
 use borrow.Author.Tests.{ltb-true}
 use mathlib.Core.Bool.{true, false}

@@ -1,7 +1,6 @@
--- The measure is what is left of the text. Assumes nothing.
+-- The measure is what is left of the text.
 use borrow.Author.Needs.{needs}
 use Prim.Native.Nat.{_≤_, _-_}
-use native.Mathlib.Omega.{arith}
 use lib.ListN.{length}
 use Rattle.cases.proofs.writing.word.Statement.{statement}
 use Rattle.cases.proofs.writing.word.Tie as tie

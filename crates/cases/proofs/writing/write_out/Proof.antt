@@ -1,4 +1,4 @@
--- The part that is lent lies within the room. Assumes nothing.
+-- The part that is lent lies within the room.
 use borrow.Author.Needs.{needs}
 use mathlib.Core.Path.{sym}
 use native.Mathlib.Omega.{arith}

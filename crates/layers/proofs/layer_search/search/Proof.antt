@@ -9,7 +9,7 @@ use Prim.Native.Nat.{ℕ, _+_, _-_, _≤_, _<_}
 use lib.ListN.{length, length-replicate}
 use Rattle.records.specs.Zones.{zoneCount}
 use Rattle.layers.specs.Layers.{under, layersBelow, layersOf, upTo33, searched}
-use Rattle.layers.specs.LayersLaws.{padded, made, stopped, stored, counted, under-yes, under-no, below-turn, below-no, in-front, all-found, chosen-by}
+use Rattle.layers.specs.LayersLaws.{padded, made, stopped, stored, counted, under-yes, under-no, below-turn, in-front, all-found, chosen-by}
 use Rattle.layers.specs.Barren.{Known}
 use Rattle.layers.specs.BarrenLaws.{none-known, noted-length, known-again, entered-chosen, passed-by, below-skip}
 use Rattle.layers.specs.declared.Pair.{Pair}

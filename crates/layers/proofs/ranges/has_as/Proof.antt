@@ -1,7 +1,6 @@
 -- `has_as` meets its contract.
 use Rattle.layers.specs.Ranges.{hasAs}
-use mathlib.Core.Path.{_≡_, refl, sym, ap, _∙_}
-use borrow.Author.Tests.{lt-ltb, le-ltb, le-leb, lt-leb}
+use borrow.Author.Tests.{lt-ltb, le-ltb}
 use borrow.Author.Needs.{needs}
 use Rattle.layers.proofs.ranges.has_as.Statement.{statement}
 use Rattle.layers.proofs.ranges.has_as.Tie as tie

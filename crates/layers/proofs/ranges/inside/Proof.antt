@@ -1,8 +1,7 @@
 -- `inside` meets its contract.
 use Rattle.records.specs.Whole.{between}
 use Rattle.layers.specs.Ranges.{inside}
-use mathlib.Core.Path.{_≡_, refl, sym, ap, _∙_}
-use borrow.Author.Tests.{lt-ltb, le-ltb, le-leb, lt-leb}
+use borrow.Author.Tests.{le-leb, lt-leb}
 use Rattle.layers.proofs.ranges.inside.Statement.{statement}
 use Rattle.layers.proofs.ranges.inside.Tie as tie
 

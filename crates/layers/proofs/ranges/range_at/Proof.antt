@@ -1,6 +1,5 @@
 -- `range_at` meets its contract.
 use Rattle.layers.specs.Ranges.{rangeAt}
-use mathlib.Core.Path.{_≡_, refl, sym, ap, _∙_}
 use borrow.Author.Needs.{needs}
 use Rattle.layers.proofs.ranges.range_at.Statement.{statement}
 use Rattle.layers.proofs.ranges.range_at.Tie as tie

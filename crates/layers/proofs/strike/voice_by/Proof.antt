@@ -1,7 +1,7 @@
 -- `voice_by` meets its contract.
 use borrow.Author.Needs.{needs, sfits-of}
 use lib.IntN.{pos}
-use mathlib.Core.Path.{_≡_, ap, ap₂, _∙_}
+use mathlib.Core.Path.{ap, ap₂, _∙_}
 use mir.Facts.{toZ-ofZ}
 use mir.Syntax.{w8, w16, w32}
 use Prim.Native.Nat.{_-_, min}

@@ -5,7 +5,6 @@ use lib.IntN.{ℤ}
 use mathlib.Core.Path.{ap, _∙_}
 use mir.Facts.{toZ-ofZ}
 use mir.Syntax.{w64}
-use Prim.Native.Nat.{ℕ, _<_}
 use Rattle.records.specs.Whole.{modZ}
 use Rattle.arith.specs.Within.{w-back}
 use Rattle.totals.specs.NumberLaws.{mod4-lt}

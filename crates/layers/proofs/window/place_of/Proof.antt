@@ -7,20 +7,8 @@ use Rattle.records.specs.Whole.{word32}
 use Rattle.layers.proofs.window.place_of.Statement.{statement}
 use Rattle.layers.proofs.window.place_of.Tie as tie
 
-cast-u32-at : tie.Need-cast-u32-at
-cast-u32-at c = search needs
-
-mul-u32-at : tie.Need-mul-u32-at
-mul-u32-at c = search needs
-
-add-u32-at : tie.Need-add-u32-at
-add-u32-at c = search needs
-
-add-u32-at-2 : tie.Need-add-u32-at-2
-add-u32-at-2 c = search needs
-
-u32-at-requires : tie.Need-u32-at-requires
-u32-at-requires c κs = search needs
+place-of-requires : tie.Need-place-of-requires
+place-of-requires c κs = search needs
 
 mul-shifted : tie.Need-mul-shifted
 mul-shifted c = search needs
@@ -47,17 +35,13 @@ returns c =
     let coarse = c .before .before .shifted-arg2 .given in
     let e = rw (toZ-ofZ (sfits-of fine), toZ-ofZ (sfits-of coarse)) at (moved .ensures) in
     rw (toZ-ofZ {w = w64} {z = moved .result} (sfits-of (moved .ok))) at (c .held32 .ensures)
-    ∙ ap word32 (e ∙ simp (c .before .before .before .before .u32-at .ensures))
+    ∙ ap word32 (e ∙ simp (c .before .before .before .before .place-of .ensures))
 
 pub place-of-spec : {M : Type 1} → statement M
 place-of-spec =
     tie.close
     (tie.spec
-    cast-u32-at
-    mul-u32-at
-    add-u32-at
-    add-u32-at-2
-    u32-at-requires
+    place-of-requires
     mul-shifted
     element-copy-out-shifted
     mul-shifted-2

@@ -1,25 +1,15 @@
 -- `records::zones::has` meets its contract.
-use Rattle.records.specs.Sides.{operator}
 use Rattle.records.specs.Zones.{has}
 use borrow.Author.Needs.{needs}
 use Rattle.records.proofs.zones.has.Statement.{statement}
 use Rattle.records.proofs.zones.has.Tie as tie
 
-cast-u16-at : tie.Need-cast-u16-at
-cast-u16-at c = search needs
-
-mul-u16-at : tie.Need-mul-u16-at
-mul-u16-at c = search needs
-
-add-u16-at : tie.Need-add-u16-at
-add-u16-at c = search needs
-
-u16-at-requires : tie.Need-u16-at-requires
-u16-at-requires c κs = search needs
+operator-requires : tie.Need-operator-requires
+operator-requires c κs = search needs
 
 returns : tie.Need-returns
-unfolding has operator
+unfolding has
 returns c = cc
 
 pub has-spec : {M : Type 1} → statement M
-has-spec = tie.close (tie.spec cast-u16-at mul-u16-at add-u16-at u16-at-requires returns)
+has-spec = tie.close (tie.spec operator-requires returns)
