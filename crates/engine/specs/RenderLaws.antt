@@ -8,13 +8,12 @@ use native.Mathlib.Nat.{zero-add, not-suc-le-zero, suc-ne-zero}
 use native.Mathlib.Numerals.{add-one}
 use native.Mathlib.Omega.{arith}
 use borrow.Author.Tests.{ltb-true, ltb-false}
-use lib.Dec.{leb, ltb, lit≤}
+use lib.Dec.{leb, ltb}
 use lib.Ieee.{Float}
 use lib.IntN.{ℤ, pos, _+ℤ_, +ℤ-assoc, +ℤ-idl, +ℤ-idr}
 use lib.ListN.{length, getD, take, replicate, length-append, List·getD-append}
 use lib.Seq.{take-suc, getD-at}
 use Rattle.arith.specs.Loops.{sumOf}
-use Rattle.arith.specs.Within.{w-nat}
 use Rattle.records.specs.Memory.{partOf}
 use Rattle.voice.specs.declared.Voice.{Voice}
 use Rattle.voice.specs.declared.Slot.{Slot}
@@ -125,11 +124,6 @@ pub add-turn : (f : Slot → List ℤ) (ss : List Slot) (i : ℕ) (ys : List ℤ
     → addAll f (take (i + 1) ss) ys ≡ addTo (f (getD ss i (free blank))) (addAll f (take i ss) ys)
 add-turn f ss i ys h = rw (add-one, take-suc ss i (free blank) h) (add-snoc f (take i ss) (getD ss i (free blank)) ys)
 
-pub add-length : (f : Slot → List ℤ) (ss : List Slot) (ys : List ℤ) → length (addAll f ss ys) ≡ length ys
-unfolding addAll
-add-length f [] ys = refl
-add-length f (s ∷ ss) ys = add-length f ss (addTo (f s) ys) ∙ addTo-length (f s) ys
-
 addTo-get : (xs ys : List ℤ) (k : ℕ) → k < length xs → k < length ys → getD (addTo xs ys) k (pos 0) ≡ getD ys k (pos 0) +ℤ getD xs k (pos 0)
 unfolding addTo
 addTo-get [] ys k h g = absurd (not-suc-le-zero h)
@@ -227,6 +221,3 @@ pub zeros-at : (n k : ℕ) → getD (replicate n (pos 0)) k (pos 0) ≡ pos 0
 zeros-at zero k = refl
 zeros-at (suc n) zero = refl
 zeros-at (suc n) (suc k) = zeros-at n k
-
-pub zeros-small : (n : ℕ) → Small 0 (replicate n (pos 0))
-zeros-small n j = rw (zeros-at n j) (w-nat (lit≤ tt))
