@@ -1,6 +1,6 @@
 -- A run that meets the conditions of demand 3, computed: a bell of 8 samples that loops over 4, struck and rendered in two cuts.
 use Prim.Native.Nat.{ℕ, _<_}
-use mathlib.Core.Bool.{true, false}
+use mathlib.Core.Bool.{false}
 use mathlib.Core.List.{List, [], _∷_, _++_}
 use mathlib.Core.Path.{_≡_, refl, sym, ap, _∙_, subst}
 use native.Mathlib.Omega.{arith}

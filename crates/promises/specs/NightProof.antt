@@ -5,7 +5,7 @@ use mathlib.Core.Bool.{Bool, true, false, cond, not, _&&_, _||_}
 use mathlib.Core.List.{List, [], _∷_, map}
 use mathlib.Core.Logic.{_⊎_, ⊎-elim, inl, inr}
 use native.Mathlib.Omega.{arith}
-use borrow.Author.Tests.{eqb-true, eq-eqb, ltb-true, ltb-false, le-ltb, lt-ltb, le-leb}
+use borrow.Author.Tests.{eqb-true, eq-eqb, not-true, ltb-true, ltb-false, le-ltb, lt-ltb, le-leb}
 use lib.Dec.{eqb, leb, ltb}
 use lib.IntN.{ℤ}
 use lib.ListN.{length, getD, set}
@@ -22,6 +22,7 @@ use Rattle.engine.specs.State.{slotAt, slotsOf, withSlots, channelAt, withChann
 use Rattle.engine.specs.StateLaws.{slot-map, and-no}
 use Rattle.engine.specs.Answers.{done, refused, answer, pastOne, pastTwo, pastBend}
 use Rattle.engine.specs.NoteOff.{ofChannel, held, heldKey, pedalDown, mark, withVoice, letOff, off, offKey, noteOff}
+use Rattle.engine.specs.WhomLaws.{off-keeps}
 use Rattle.engine.specs.Channels.{withStored, withVolume, withExpression, withPedal, withProgram, withBend}
 use Rattle.engine.specs.Controls.{pedalHeld, pedal, silence, controlled, controlChange}
 use Rattle.engine.specs.Slots.{startIn}
@@ -32,7 +33,7 @@ use Rattle.engine.specs.Render.{distance, window, slotAfter, played, renderNumb
 use Rattle.engine.specs.LentBank.{bankFrom}
 use Rattle.promises.specs.Calls as Calls
 use Rattle.promises.specs.Calls.{Call, next, run, voiceIn, framesOf, begun, channelOf}
-use Rattle.promises.specs.EachSlot.{Among, What, stands, pedalled, loosed, freed, started, goes, never, either, what, letOff-picked, letOff-left}
+use Rattle.promises.specs.EachSlot.{Among, What, stands, pedalled, loosed, freed, started, goes, never, either, what, letOff-picked, and-both, held-channel}
 use Rattle.promises.specs.Demand2.{LiftingReleases, VelocityZeroIsNoteOff, NoMarkWithoutPedal, strikes, leaves, struckAfter, Piece, Into, ends, left, right, Overlap, quiet, more, OctoberNight}
 use Rattle.promises.specs.Demand2Proof.{reaches, gone, free-held}
 use Rattle.promises.specs.Banks.{came}
@@ -62,18 +63,18 @@ lifts channel value e h k =
     record {
       all = λ i t. ap (λ (s : Slot). s .voice) (at i ∙ letOff-picked false (pedalHeld channel) (slotAt e i) t);
       none = λ i. ap (pedalHeld channel) (at i) ∙ no (slotAt e i) (pedalHeld channel (slotAt e i)) refl;
-      others = λ i t. at i ∙ letOff-left false (pedalHeld channel) (slotAt e i) t;
+      others = λ i t. at i ∙ off-keeps false (pedalHeld channel) (slotAt e i) t;
     }
   where
     at : (i : ℕ) → slotAt (controlChange channel 64 value e .engine) i ≡ letOff false (pedalHeld channel) (slotAt e i)
     at i =
         ap (λ (x : Engine). slotAt x i) (lift-is channel value e h k)
         ∙ slot-map e (withChannel e channel (withPedal (channelAt e channel) value)) (letOff false (pedalHeld channel)) i
-        (letOff-left false (pedalHeld channel) (free blank) (free-pedal channel blank))
+        (off-keeps false (pedalHeld channel) (free blank) (free-pedal channel blank))
 
     no : (s : Slot) (b : Bool) → pedalHeld channel s ≡ b → pedalHeld channel (letOff false (pedalHeld channel) s) ≡ false
     no s true t = ap (pedalHeld channel) (letOff-picked false (pedalHeld channel) s t) ∙ unmarked channel s
-    no s false t = ap (pedalHeld channel) (letOff-left false (pedalHeld channel) s t) ∙ t
+    no s false t = ap (pedalHeld channel) (off-keeps false (pedalHeld channel) s t) ∙ t
 
 pub zero-off : VelocityZeroIsNoteOff
 unfolding noteOn noteOff
@@ -192,20 +193,13 @@ module _ (d : ℕ) (e : Engine) (down : pedalDown e d ≡ true) where
 
 -- ---- held voices, by their parts
 
+-- what it is to be held by a key, test by test
 pub record Holds (c k : ℕ) (s : Slot) : Type 0 where
   pub sounding : s .sounding ≡ true
   pub channel : s .voice .channel ≡ c
   pub unreleased : released (s .voice .stage) ≡ false
   pub unmarked : s .voice .marked ≡ false
   pub key : s .voice .key ≡ k
-
-and-both : (a b : Bool) → (a && b) ≡ true → (a ≡ true) × (b ≡ true)
-and-both true b e = (refl, e)
-and-both false b e = absurd (never e)
-
-not-yes : (b : Bool) → not b ≡ true → b ≡ false
-not-yes true e = absurd (never e)
-not-yes false e = refl
 
 pub holds : (c k : ℕ) (s : Slot) → heldKey c k s ≡ true → Holds c k s
 unfolding heldKey held ofChannel
@@ -217,8 +211,8 @@ holds c k s h =
     record {
       sounding = f .0;
       channel = eqb-true (s .voice .channel) c (f .1);
-      unreleased = not-yes (released (s .voice .stage)) (d .1);
-      unmarked = not-yes (s .voice .marked) (b .1);
+      unreleased = not-true (released (s .voice .stage)) (d .1);
+      unmarked = not-true (s .voice .marked) (b .1);
       key = eqb-true (s .voice .key) k (a .1);
     }
 
@@ -230,12 +224,6 @@ hold-back c k s h =
 of-channel : (c : ℕ) (s : Slot) → ofChannel c s ≡ true → s .voice .channel ≡ c
 unfolding ofChannel
 of-channel c s h = eqb-true (s .voice .channel) c (and-both (s .sounding) (eqb (s .voice .channel) c) h .1)
-
-held-of : (c : ℕ) (s : Slot) → held c s ≡ true → ofChannel c s ≡ true
-unfolding held
-held-of c s h =
-    and-both (ofChannel c s) (not (released (s .voice .stage)))
-    (and-both (ofChannel c s && not (released (s .voice .stage))) (not (s .voice .marked)) h .0) .0
 
 -- a slot held after n frames was held before them
 held-before : (ch : Channel) (w : List ℤ) (n c k : ℕ) (s : Slot) → heldKey c k (after ch w n s) ≡ true → heldKey c k s ≡ true
@@ -255,6 +243,7 @@ held-before ch w n c k s h =
 
 -- ---- no voice is marked while its pedal is up
 
+-- so it is in a state
 abbrev Honest : Engine → Type 0
 Honest e = (i : ℕ) → slotAt e i .sounding ≡ true → voiceIn i e .marked ≡ true → pedalDown e (voiceIn i e .channel) ≡ true
 
@@ -277,7 +266,7 @@ was-down x e h i on m = by (what x e i)
     by (stands a n) = at s a (h i)
     by (pedalled a n l d) =
         at (withVoice s (mark (s .voice))) a
-        (λ o p. subst (λ (c : ℕ). pedalDown e c ≡ true) (sym (of-channel (channelOf x) s (held-of (channelOf x) s l))) d)
+        (λ o p. subst (λ (c : ℕ). pedalDown e c ≡ true) (sym (of-channel (channelOf x) s (held-channel (channelOf x) s l))) d)
     by (loosed a n c) = at (withVoice s (release (s .voice))) a (λ o p. absurd (never p))
     by (freed a n c) = at (free (s .voice)) a (λ o p. absurd (never o))
     by (started u a n f t) = at (sounds u) a (λ o p. absurd (never (sym (came x e u f .unmarked) ∙ p)))
@@ -311,6 +300,7 @@ no-mark xs = honest-run xs fresh (λ i on m. absurd (never (sym (fresh-free i) �
 -- ---- the October night
 
 module _ (c k : ℕ) where
+  -- no slot is held by the key
   abbrev Gone : Engine → Type 0
   Gone e = (i : ℕ) → heldKey c k (slotAt e i) ≡ false
 

@@ -11,7 +11,6 @@ use Rattle.voice.specs.declared.Stage.{Stage}
 use Rattle.voice.specs.declared.Voice.{Voice}
 use Rattle.voice.specs.declared.Slot.{Slot}
 use Rattle.voice.specs.State.{withMoved, sounds, free, blank}
-use Rattle.voice.specs.Stages.{released}
 use Rattle.voice.specs.Release.{letGo, release}
 use Rattle.engine.specs.declared.Engine.{Engine}
 use Rattle.engine.specs.State.{paired, slotAt, channelAt, fresh}
