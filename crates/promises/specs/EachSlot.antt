@@ -10,16 +10,10 @@ use lib.Ieee.{Float}
 use lib.IntN.{ℤ}
 use lib.ListN.{length, getD, set}
 use Rattle.voice.specs.declared.Voice.{Voice}
-use Rattle.voice.specs.declared.Channel.{Channel}
 use Rattle.voice.specs.declared.Slot.{Slot}
 use Rattle.voice.specs.State.{sounds, free, blank}
 use Rattle.voice.specs.Stages.{released}
 use Rattle.voice.specs.Release.{release}
-use Rattle.voice.specs.Sound.{loss}
-use Rattle.voice.specs.Move.{step}
-use Rattle.voice.specs.Run.{after}
-use Rattle.voice.specs.RunLaws.{once}
-use Rattle.voice.specs.Advance.{free-stays}
 use Rattle.engine.specs.declared.Engine.{Engine}
 use Rattle.engine.specs.declared.Answered.{Answered}
 use Rattle.engine.specs.State.{slotAt, slotsOf, withSlots, channelAt, withChannel, withClock}
@@ -33,7 +27,8 @@ use Rattle.engine.specs.Program.{programChange}
 use Rattle.engine.specs.Bend.{pitchBend}
 use Rattle.engine.specs.Slots.{seat, startIn}
 use Rattle.engine.specs.NoteOn.{classIn, Started, start, startAll, cleared, rival, struck, layersOf, noteOnNumber, noteOn}
-use Rattle.engine.specs.Render.{distance, window, slotAfter, played, renderNumber, render}
+use Rattle.engine.specs.Render.{distance, slotAfter, played, renderNumber, render}
+use Rattle.engine.specs.RenderLaws.{slot-stays}
 use Rattle.engine.specs.LentBank.{bankFrom}
 use Rattle.promises.specs.Calls as Calls
 use Rattle.promises.specs.Calls.{Call, next, framesOf, begun, seats, startsIn, among, voiceIn, channelOf}
@@ -130,12 +125,9 @@ pub either : {A : Type 0} (P : A → Type 0) (b : Bool) (x y : A) → P x → P 
 either P true x y h k = h
 either P false x y h k = k
 
+-- a test is not both
 pub never : false ≡ true → ⊥
 never e = subst (λ (b : Bool). T (not b)) e tt
-
--- a free slot after n frames
-free-after : (c : Channel) (w : List ℤ) (n : ℕ) → after c w n (free blank) ≡ free blank
-free-after c w n = once c w (free blank) n ∙ free-stays (step c blank) (loss c blank) w n (free blank) refl
 
 -- both of two tests hold
 pub and-both : (a b : Bool) → (a && b) ≡ true → (a ≡ true) × (b ≡ true)
@@ -161,6 +153,7 @@ unfolding rival
 rival-channel c vs s h = and-both (ofChannel c s) (classIn (s .voice .class) vs) h .0
 
 module _ (e : Engine) (i c : ℕ) (vs : List Voice) (ss : List ℕ) where
+  -- from e to y, with no frame
   abbrev To : Engine → Type 0
   To y = Turn e i c 0 vs ss y
 
@@ -281,7 +274,7 @@ render-to to ram rom out e i = by (eqb (renderNumber to ram rom (length out) e) 
     tells b = cond b (done 0 (withClock (played ram rom d e) to)) (refused n e)
 
     by : (b : Bool) → eqb n 0 ≡ b → Turn e i 16 (cond (eqb (tells b .status) 0) d 0) [] (seats [] (record { engine = cleared 16 [] e; mine = 0 })) (tells b .engine)
-    by true h = goes ram rom (slot-map e e (slotAfter ram rom e d) i (free-after (channelAt e 0) (window ram rom blank) d))
+    by true h = goes ram rom (slot-map e e (slotAfter ram rom e d) i (slot-stays ram rom e d))
     by false h = stands refl (ap (λ (t : Bool). cond t d 0) h)
 
 pub what : (x : Call) (e : Engine) (i : ℕ) → What x e i

@@ -1,7 +1,7 @@
 -- Demand 2: the pedal, and the October night.
 use Prim.Native.Nat.{ℕ, zero, suc, _≤_, _<_}
 use mathlib.Core.Path.{_≡_, refl, sym, ap, _∙_, subst}
-use mathlib.Core.Bool.{Bool, true, false, cond, not, _&&_, _||_}
+use mathlib.Core.Bool.{Bool, true, false, cond, not, _&&_, _||_, and-false}
 use mathlib.Core.List.{List, [], _∷_, map}
 use mathlib.Core.Logic.{_⊎_, ⊎-elim, inl, inr}
 use native.Mathlib.Omega.{arith}
@@ -9,6 +9,7 @@ use borrow.Author.Tests.{eqb-true, eq-eqb, not-true, ltb-true, ltb-false, le-ltb
 use lib.Dec.{eqb, leb, ltb}
 use lib.IntN.{ℤ}
 use lib.ListN.{length, getD, set}
+use lib.Seq.{getD-set-other}
 use Rattle.voice.specs.declared.Voice.{Voice}
 use Rattle.voice.specs.declared.Channel.{Channel}
 use Rattle.voice.specs.declared.Slot.{Slot}
@@ -19,8 +20,9 @@ use Rattle.voice.specs.Run.{after}
 use Rattle.engine.specs.declared.Engine.{Engine}
 use Rattle.engine.specs.declared.Answered.{Answered}
 use Rattle.engine.specs.State.{slotAt, slotsOf, withSlots, channelAt, withChannel, noChannel, withClock, fresh}
-use Rattle.engine.specs.StateLaws.{slot-map, and-no}
+use Rattle.engine.specs.StateLaws.{slot-map}
 use Rattle.engine.specs.Answers.{done, refused, answer, pastOne, pastTwo, pastBend}
+use Rattle.engine.specs.AnswerLaws.{or-no}
 use Rattle.engine.specs.NoteOff.{ofChannel, held, heldKey, pedalDown, mark, withVoice, letOff, off, offKey, noteOff}
 use Rattle.engine.specs.WhomLaws.{off-keeps}
 use Rattle.engine.specs.Channels.{withStored, withVolume, withExpression, withPedal, withProgram, withBend}
@@ -49,7 +51,7 @@ free-pedal channel v = refl
 -- what is released is marked no more
 unmarked : (channel : ℕ) (s : Slot) → pedalHeld channel (withVoice s (release (s .voice))) ≡ false
 unfolding pedalHeld ofChannel release
-unmarked channel s = and-no (s .sounding && eqb (s .voice .channel) channel)
+unmarked channel s = and-false (s .sounding && eqb (s .voice .channel) channel)
 
 lift-is : (channel value : ℕ) (e : Engine) → channel ≤ 15 → value < 64 → controlChange channel 64 value e .engine
     ≡ withSlots (withChannel e channel (withPedal (channelAt e channel) value)) (map (letOff false (pedalHeld channel)) (slotsOf e))
@@ -98,25 +100,13 @@ set-down (y ∷ cs) zero (suc d) x h k = k
 set-down (y ∷ cs) (suc c) zero x h k = k
 set-down (y ∷ cs) (suc c) (suc d) x h k = set-down cs c d x h k
 
--- another channel
-pub set-apart : (cs : List Channel) (c d : ℕ) (x : Channel) → (d ≡ c → ⊥) → getD (set cs c x) d noChannel ≡ getD cs d noChannel
-set-apart [] c d x h = refl
-set-apart (y ∷ cs) zero zero x h = absurd (h refl)
-set-apart (y ∷ cs) zero (suc d) x h = refl
-set-apart (y ∷ cs) (suc c) zero x h = refl
-set-apart (y ∷ cs) (suc c) (suc d) x h = set-apart cs c d x (λ q. h (ap suc q))
-
 -- one of two, knowing the test
 when : {A : Type 0} (P : A → Type 0) (b : Bool) (x y : A) → (b ≡ true → P x) → P y → P (cond b x y)
 when P true x y h k = h refl
 when P false x y h k = k
 
 in-fifteen : (c n v : ℕ) → pastTwo c n v ≡ false → c ≤ 15
-in-fifteen c n v q = ltb-false 15 c (or-left (ltb 15 c) (ltb 127 n) (or-left (ltb 15 c || ltb 127 n) (ltb 127 v) q))
-  where
-    or-left : (a b : Bool) → (a || b) ≡ false → a ≡ false
-    or-left true b e = e
-    or-left false b e = refl
+in-fifteen c n v q = ltb-false 15 c (or-no (ltb 15 c) (ltb 127 n) (or-no (ltb 15 c || ltb 127 n) (ltb 127 v) q .0) .0)
 
 -- a call lifts the pedal of channel d
 pub record Lift (x : Call) (d : ℕ) : Type 0 where
@@ -126,6 +116,7 @@ pub record Lift (x : Call) (d : ℕ) : Type 0 where
   pub low : value < 64
 
 module _ (d : ℕ) (e : Engine) (down : pedalDown e d ≡ true) where
+  -- the pedal is still down
   abbrev Down : Engine → Type 0
   Down y = pedalDown y d ≡ true
 
@@ -153,7 +144,7 @@ module _ (d : ℕ) (e : Engine) (down : pedalDown e d ≡ true) where
       x = withPedal (channelAt e c) v
 
       by : (b : Bool) → ltb v 64 ≡ b → Down (cond b (withSlots (withChannel e c x) (map (letOff false (pedalHeld c)) (slotsOf e))) (withChannel e c x))
-      by true q = ap (λ (y : Channel). leb 64 (y .pedal)) (set-apart (e .channels) c d x (λ p. h (sym p) (ltb-true v 64 q))) ∙ down
+      by true q = ap (λ (y : Channel). leb 64 (y .pedal)) (getD-set-other (e .channels) c d x noChannel (λ p. h (sym p) (ltb-true v 64 q))) ∙ down
       by false q = set-down (e .channels) c d x (le-leb 64 v (ltb-false v 64 q)) down
 
   controls-down : (c n v : ℕ) → (c ≡ d → n ≡ 64 → v < 64 → ⊥) → Down (controlled c n v e)

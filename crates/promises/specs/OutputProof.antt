@@ -9,7 +9,7 @@ use lib.Dec.{eqb, leb, ltb}
 use lib.Ieee.{Float}
 use lib.IntN.{ℤ, pos, negsuc}
 use lib.ListN.{length, getD, take, drop, length-append, length-drop}
-use lib.Seq.{take-at, drop-at, getD-at, getD-append-add, drop-length}
+use lib.Seq.{take-at, drop-at, getD-at, getD-append-add, getD-set-other, drop-length}
 use Rattle.arith.specs.Clamp.{held-within}
 use Rattle.arith.specs.Over.{heldTo}
 use Rattle.arith.specs.Scaled.{unit-exact}
@@ -19,7 +19,7 @@ use Rattle.voice.specs.declared.Channel.{Channel}
 use Rattle.voice.specs.Run.{after}
 use Rattle.engine.specs.declared.Engine.{Engine}
 use Rattle.engine.specs.declared.Answered.{Answered}
-use Rattle.engine.specs.State.{slotAt, channelAt, withChannel, withClock, fresh}
+use Rattle.engine.specs.State.{slotAt, channelAt, withChannel, noChannel, withClock, fresh}
 use Rattle.engine.specs.Answers.{done, refused, answer, pastOne, pastTwo, pastBend}
 use Rattle.engine.specs.NoteOff.{off, offKey, noteOff}
 use Rattle.engine.specs.Channels.{withStored, withVolume, withExpression, withPedal, withProgram, withBend}
@@ -36,7 +36,6 @@ use Rattle.promises.specs.Cuts.{played-cut, output-cut}
 use Rattle.promises.specs.Calls as Calls
 use Rattle.promises.specs.Calls.{does, written, next, run, channelOf}
 use Rattle.promises.specs.EachSlot.{What, stands, pedalled, loosed, freed, started, goes, never, either, what, held-channel}
-use Rattle.promises.specs.NightProof.{set-apart}
 use Rattle.promises.specs.SeatsProof.{sized-run}
 use Rattle.promises.specs.Demand1Proof.{render-numbers}
 use Rattle.promises.specs.Demand2.{OnesAreVoices, OtherVoicesStand, OtherChannelsStand, Fraction, OutputIsExact, CutsDoNotMatter}
@@ -65,6 +64,7 @@ others-stand x e i n o none = by (what x e i)
     by (goes ram rom a) = a ∙ ap (λ (m : ℕ). slotAfter ram rom e m (slotAt e i)) n
 
 module _ (d : ℕ) (e : Engine) where
+  -- channel d is as it was
   abbrev Same : Engine → Type 0
   Same y = channelAt y d ≡ channelAt e d
 
@@ -77,7 +77,7 @@ module _ (d : ℕ) (e : Engine) where
   layers (v ∷ vs) x h = layers vs (start v x) h
 
   apart : (c : ℕ) (x : Channel) → (d ≡ c → ⊥) → Same (withChannel e c x)
-  apart c x h = set-apart (e .channels) c d x h
+  apart c x h = getD-set-other (e .channels) c d x noChannel h
 
   controls : (c n v : ℕ) → (d ≡ c → ⊥) → Same (controlled c n v e)
   unfolding controlled pedal silence off

@@ -316,12 +316,15 @@ sooner e i j vi vj h = by (released (voiceIn i e .stage)) refl (released (voiceI
     by false f false g (inr l) = aged (f ∙ sym g) (omega (arith, l .0)) (l .1)
 
 module _ (x : Started) (m : ℕ) (mid : Mid x m) (few : m < 32) where
+  -- the state between two layers
   abbrev eng : Engine
   eng = x .engine
 
+  -- the slot that the next layer takes
   abbrev here : ℕ
   here = seat (x .engine) (x .mine)
 
+  -- its order, read as slots, is the order itself
   abbrev orders : orderOf eng ≡ eng .order
   orders = order-slots (eng .order) (mid .ordered .slots)
 
