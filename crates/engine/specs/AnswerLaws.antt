@@ -17,11 +17,13 @@ refuses b e a h = simp h
 pub passes : (b : Bool) (e : Engine) (a : Answered) → b ≡ false → answer (cond b 2 0) e a ≡ a
 passes b e a h = simp h
 
-or-no : (a b : Bool) → (a || b) ≡ false → (a ≡ false) × (b ≡ false)
+-- neither of two tests holds
+pub or-no : (a b : Bool) → (a || b) ≡ false → (a ≡ false) × (b ≡ false)
 or-no true true h = (h, h)
 or-no true false h = (h, refl)
 or-no false b h = (refl, h)
 
+-- a channel that is not past the last
 low : (channel : ℕ) → ltb 15 channel ≡ false → channel < 16
 low channel h = omega (arith, ltb-false 15 channel h)
 

@@ -1,6 +1,6 @@
 -- 01, "Slots, keys and the clock": note-off.
 use Prim.Native.Nat.{ℕ}
-use mathlib.Core.Bool.{Bool, true, false, cond, not, _&&_}
+use mathlib.Core.Bool.{Bool, true, cond, not, _&&_}
 use mathlib.Core.List.{map}
 use lib.Dec.{eqb, leb}
 use Rattle.arith.specs.Loops.{countIf}

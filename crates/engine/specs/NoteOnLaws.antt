@@ -56,6 +56,7 @@ found-answer ram rom channel vs e a b p q = simp (p, q) (by (ltb 32 (length vs))
     by false false = refl
 
 module _ (b : List ℕ) (ram rom : List ℤ) (channel key velocity : ℕ) (e : Engine) where
+  -- the preset that the channel names
   abbrev preset : Found
   preset = presetFor b (partsOf b) (bankOf e channel) (channelAt e channel .program)
 

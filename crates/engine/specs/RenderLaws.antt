@@ -1,20 +1,19 @@
 -- Laws of render: a free slot is skipped, what all slots add to the sums, and the output made of the sums.
 use Prim.Native.Nat.{ℕ, zero, suc, _+_, _*_, _%_, _≤_, _<_}
 use mathlib.Core.Path.{_≡_, refl, sym, ap, ap₂, _∙_, subst}
-use mathlib.Core.Bool.{Bool, true, false, cond, _&&_, _||_}
+use mathlib.Core.Bool.{Bool, true, false, cond, _&&_, _||_, or-false, or-assoc}
 use mathlib.Core.List.{List, [], _∷_, _++_}
 use mathlib.Core.Logic.{_⊎_, ⊎-elim, inl, inr}
 use native.Mathlib.Nat.{zero-add, not-suc-le-zero, suc-ne-zero}
 use native.Mathlib.Numerals.{add-one}
 use native.Mathlib.Omega.{arith}
 use borrow.Author.Tests.{ltb-true, ltb-false}
-use lib.Dec.{leb, ltb, lit≤}
+use lib.Dec.{leb, ltb}
 use lib.Ieee.{Float}
 use lib.IntN.{ℤ, pos, _+ℤ_, +ℤ-assoc, +ℤ-idl, +ℤ-idr}
 use lib.ListN.{length, getD, take, replicate, length-append, List·getD-append}
 use lib.Seq.{take-suc, getD-at}
 use Rattle.arith.specs.Loops.{sumOf}
-use Rattle.arith.specs.Within.{w-nat}
 use Rattle.records.specs.Memory.{partOf}
 use Rattle.voice.specs.declared.Voice.{Voice}
 use Rattle.voice.specs.declared.Slot.{Slot}
@@ -24,11 +23,11 @@ use Rattle.voice.specs.Move.{step}
 use Rattle.voice.specs.Sound.{loss}
 use Rattle.voice.specs.Run.{after, leftIn, rightIn, heard, afterAt, heardAt}
 use Rattle.voice.specs.RunLaws.{once, heard-once, heard-length}
-use Rattle.voice.specs.Silence.{stays, adds-nothing, stays-small}
+use Rattle.voice.specs.Silence.{adds-nothing, stays-small}
+use Rattle.voice.specs.Advance.{free-stays}
 use Rattle.voice.specs.Sums.{addTo, addTo-none, addTo-length, Small, small-none}
 use Rattle.engine.specs.declared.Engine.{Engine}
 use Rattle.engine.specs.State.{slotsOf, channelAt}
-use Rattle.engine.specs.StrikeLaws.{or-none, or-assoc}
 use Rattle.engine.specs.NoteOn.{endsPast}
 use Rattle.engine.specs.Render.{distance, window, lacking, renderNumber, slotAfter, slotLeft, slotRight, leftSum, rightSum, mixed, output}
 
@@ -59,10 +58,10 @@ clock-there e to n t h g p q = omega arith
 lack-snoc : (ram rom : List ℤ) (ss : List Slot) (s : Slot)
     → lacking ram rom (ss ++ (s ∷ [])) ≡ (lacking ram rom ss || s .sounding && endsPast ram rom (s .voice))
 unfolding lacking
-lack-snoc ram rom [] s = or-none (s .sounding && endsPast ram rom (s .voice))
+lack-snoc ram rom [] s = or-false (s .sounding && endsPast ram rom (s .voice))
 lack-snoc ram rom (x ∷ ss) s =
     ap (λ (b : Bool). x .sounding && endsPast ram rom (x .voice) || b) (lack-snoc ram rom ss s)
-    ∙ or-assoc (x .sounding && endsPast ram rom (x .voice)) (lacking ram rom ss) (s .sounding && endsPast ram rom (s .voice))
+    ∙ sym (or-assoc (x .sounding && endsPast ram rom (x .voice)) (lacking ram rom ss) (s .sounding && endsPast ram rom (s .voice)))
 
 pub lack-none : (ram rom : List ℤ) (ss : List Slot) → lacking ram rom (take 0 ss) ≡ false
 unfolding lacking
@@ -75,9 +74,11 @@ lack-turn ram rom ss i h = rw (add-one, take-suc ss i (free blank) h) (lack-snoc
 
 -- a free slot stays, and adds nothing
 module _ (c : Channel) (w : List ℤ) (n : ℕ) (s : Slot) (h : s .sounding ≡ false) where
+  -- its step
   abbrev st : ℕ
   st = step c (s .voice)
 
+  -- its loss
   abbrev l : ℤ
   l = loss c (s .voice)
 
@@ -86,8 +87,7 @@ module _ (c : Channel) (w : List ℤ) (n : ℕ) (s : Slot) (h : s .sounding ≡ 
   quiet = h
 
   pub free-after : after c w n s ≡ s
-  unfolding afterAt
-  free-after = once c w s n ∙ ap (λ (m : ℕ). afterAt st l w m s) (sym (zero-add n)) ∙ stays st l w 0 s quiet n
+  free-after = once c w s n ∙ free-stays st l w n s h
 
   from-none : heard c w n s ≡ heardAt st l w (0 + n) s
   from-none = heard-once c w s n ∙ ap (λ (m : ℕ). heardAt st l w m s) (sym (zero-add n))
@@ -124,11 +124,6 @@ add-snoc f (x ∷ ss) s ys = add-snoc f ss s (addTo (f x) ys)
 pub add-turn : (f : Slot → List ℤ) (ss : List Slot) (i : ℕ) (ys : List ℤ) → i < length ss
     → addAll f (take (i + 1) ss) ys ≡ addTo (f (getD ss i (free blank))) (addAll f (take i ss) ys)
 add-turn f ss i ys h = rw (add-one, take-suc ss i (free blank) h) (add-snoc f (take i ss) (getD ss i (free blank)) ys)
-
-pub add-length : (f : Slot → List ℤ) (ss : List Slot) (ys : List ℤ) → length (addAll f ss ys) ≡ length ys
-unfolding addAll
-add-length f [] ys = refl
-add-length f (s ∷ ss) ys = add-length f ss (addTo (f s) ys) ∙ addTo-length (f s) ys
 
 addTo-get : (xs ys : List ℤ) (k : ℕ) → k < length xs → k < length ys → getD (addTo xs ys) k (pos 0) ≡ getD ys k (pos 0) +ℤ getD xs k (pos 0)
 unfolding addTo
@@ -227,6 +222,3 @@ pub zeros-at : (n k : ℕ) → getD (replicate n (pos 0)) k (pos 0) ≡ pos 0
 zeros-at zero k = refl
 zeros-at (suc n) zero = refl
 zeros-at (suc n) (suc k) = zeros-at n k
-
-pub zeros-small : (n : ℕ) → Small 0 (replicate n (pos 0))
-zeros-small n j = rw (zeros-at n j) (w-nat (lit≤ tt))

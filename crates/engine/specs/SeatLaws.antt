@@ -3,7 +3,6 @@ use Prim.Native.Nat.{ℕ, zero, suc, _+_, _*_, _/_, _%_, _^_, _≤_, _<_, max}
 use mathlib.Core.Path.{_≡_, refl, sym, ap, ap₂, _∙_}
 use mathlib.Core.Bool.{Bool, true, false, cond}
 use mathlib.Core.List.{List, [], _∷_, _++_, map}
-use mathlib.Core.Logic.{_⊎_, ⊎-elim, inl, inr}
 use native.Mathlib.Nat.{pow-zero, pow-suc, not-suc-le-zero, le-of-suc-le-suc}
 use native.Mathlib.Numerals.{add-one}
 use native.Mathlib.Omega.{arith}
@@ -127,15 +126,14 @@ pub fill-turn : (xs ys : List ℕ) (k a : ℕ) → k < length xs → k < length 
 fill-turn xs ys k a h g e q =
     rw (add-one, take-suc-set xs k a h, take-suc ys k 0 g) (ap₂ (λ (l : List ℕ) (x : ℕ). l ++ (x ∷ [])) e q)
 
-digit : (n : ℕ) → (n % 2 ≡ 0) ⊎ (n % 2 ≡ 1)
-digit n = by (n % 2) refl
-  where
-    by : (d : ℕ) → n % 2 ≡ d → (n % 2 ≡ 0) ⊎ (n % 2 ≡ 1)
-    by zero e = inl e
-    by (suc d) e = let h : n % 2 ≡ 1 = omega arith in inr h
-
+-- the lowest bit, as a flag and back
 low-bit : (n : ℕ) → cond (eqb (n % 2) 1) 1 0 ≡ n % 2
-low-bit n = ⊎-elim (λ e. rw e) (λ e. rw e) (digit n)
+low-bit n = by (n % 2) (omega arith)
+  where
+    by : (d : ℕ) → d < 2 → cond (eqb d 1) 1 0 ≡ d
+    by zero h = refl
+    by (suc zero) h = refl
+    by (suc (suc d)) h = absurd (not-suc-le-zero (le-of-suc-le-suc (le-of-suc-le-suc h)))
 
 -- the word of the slots of a word
 pub word-back : (w : ℕ) (vs : List Voice) → w < 2 ^ length vs → wordOf (paired w vs) ≡ w

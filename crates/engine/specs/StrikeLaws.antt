@@ -1,7 +1,7 @@
 -- Laws of a note-on's loops: each goes along the first layers of a list, and a turn is one layer more.
 use Prim.Native.Nat.{ℕ, _+_, _<_}
-use mathlib.Core.Path.{_≡_, refl, ap, _∙_}
-use mathlib.Core.Bool.{Bool, true, false, not, _&&_, _||_}
+use mathlib.Core.Path.{_≡_, refl, sym, ap, _∙_}
+use mathlib.Core.Bool.{Bool, false, not, _&&_, _||_, or-false, or-assoc}
 use mathlib.Core.List.{List, [], _∷_, _++_}
 use native.Mathlib.Numerals.{add-one}
 use lib.Dec.{eqb}
@@ -24,19 +24,11 @@ startedOf b = record { engine = b .engine; mine = b .mine }
 abbrev pub begin : Engine → Started
 begin e = record { engine = e; mine = 0 }
 
-pub or-none : (a : Bool) → (a || false) ≡ a
-or-none true = refl
-or-none false = refl
-
-pub or-assoc : (a b c : Bool) → (a || (b || c)) ≡ ((a || b) || c)
-or-assoc true b c = refl
-or-assoc false b c = refl
-
 past-snoc : (ram rom : List ℤ) (vs : List Voice) (v : Voice) → anyPast ram rom (vs ++ (v ∷ [])) ≡ (anyPast ram rom vs || endsPast ram rom v)
 unfolding anyPast
-past-snoc ram rom [] v = or-none (endsPast ram rom v)
+past-snoc ram rom [] v = or-false (endsPast ram rom v)
 past-snoc ram rom (x ∷ vs) v =
-    ap (λ (b : Bool). endsPast ram rom x || b) (past-snoc ram rom vs v) ∙ or-assoc (endsPast ram rom x) (anyPast ram rom vs) (endsPast ram rom v)
+    ap (λ (b : Bool). endsPast ram rom x || b) (past-snoc ram rom vs v) ∙ sym (or-assoc (endsPast ram rom x) (anyPast ram rom vs) (endsPast ram rom v))
 
 pub past-none : (ram rom : List ℤ) (vs : List Voice) → anyPast ram rom (take 0 vs) ≡ false
 unfolding anyPast
@@ -52,9 +44,9 @@ sameClass class v = not (eqb class 0) && eqb (v .class) class
 
 class-snoc : (class : ℕ) (vs : List Voice) (v : Voice) → classIn class (vs ++ (v ∷ [])) ≡ (classIn class vs || sameClass class v)
 unfolding classIn
-class-snoc class [] v = or-none (sameClass class v)
+class-snoc class [] v = or-false (sameClass class v)
 class-snoc class (x ∷ vs) v =
-    ap (λ (b : Bool). sameClass class x || b) (class-snoc class vs v) ∙ or-assoc (sameClass class x) (classIn class vs) (sameClass class v)
+    ap (λ (b : Bool). sameClass class x || b) (class-snoc class vs v) ∙ sym (or-assoc (sameClass class x) (classIn class vs) (sameClass class v))
 
 pub class-none : (class : ℕ) (vs : List Voice) → classIn class (take 0 vs) ≡ false
 unfolding classIn

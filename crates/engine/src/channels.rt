@@ -2,7 +2,6 @@
 ghost use mathlib.Core.Path.{_≡_};
 ghost use Prim.Native.Nat.{_<_};
 ghost use Rattle.engine.specs.State.{channelAt, withChannel};
-ghost use Rattle.engine.specs.Channels.{withProgram, withBend};
 ghost use Rattle.engine.specs.Program.{programChange};
 ghost use Rattle.engine.specs.Bend.{pitchBend};
 use crate::Answered;

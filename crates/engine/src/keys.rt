@@ -1,7 +1,6 @@
 // Note-off, and which voices are let off.
 ghost use mathlib.Core.Path.{_≡_};
 ghost use mathlib.Core.Bool.{cond};
-ghost use Prim.Native.Nat.{_<_};
 ghost use Rattle.curves.specs.Gains.{gains};
 ghost use Rattle.voice.specs.Release.{release};
 ghost use Rattle.engine.specs.NoteOff.{held, heldKey, pedalDown, mark, letOff, offKey, noteOff};

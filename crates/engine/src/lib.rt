@@ -1,17 +1,17 @@
 // The engine: its state, the answer of an operation, and the calls that it takes.
-mod answers; // answers.rt: done or refused, and the test of ranges
-mod slots; // slots.rt: one slot of a state, and the word
-mod channels; // channels.rt: a channel of a state; program change and pitch bend
-mod keys; // keys.rt: note-off, and which voices are let off
-mod board; // board.rt: what the panel is told
-mod quiet; // quiet.rt: the fresh state
-mod seats; // seats.rt: which slot a layer takes, and the order of age
-mod strikes; // strikes.rt: classes, and layers started in slots
-mod sums; // sums.rt: the voices of a state, added up
-mod rendering; // rendering.rt: render
-mod striking; // striking.rt: note-on
-mod lending; // lending.rt: admission and listing of a lent bank
-mod controls; // controls.rt: control change
+mod answers;
+mod board;
+mod channels;
+mod controls;
+mod keys;
+mod lending;
+mod quiet;
+mod rendering;
+mod seats;
+mod slots;
+mod strikes;
+mod striking;
+mod sums;
 
 pub use board::panel;
 pub use board::voice_count;

@@ -1,11 +1,9 @@
 // Note-on past its tests: rivals of a class freed, and layers started in slots.
 ghost use mathlib.Core.Path.{_≡_};
-ghost use mathlib.Core.Bool.{not, cond, _&&_, _||_};
+ghost use mathlib.Core.Bool.{not, _&&_, _||_};
 ghost use Prim.Native.Nat.{_≤_};
 ghost use lib.Dec.{eqb};
 ghost use lib.ListN.{take};
-ghost use Rattle.voice.specs.State.{free};
-ghost use Rattle.engine.specs.Controls.{cut};
 ghost use Rattle.engine.specs.NoteOn.{endsPast, anyPast, classIn, rival, cleared, start, startAll, struck};
 ghost use Rattle.engine.specs.StrikeLaws.{startedOf, begin};
 use crate::Begun;

@@ -12,9 +12,6 @@ use Rattle.arith.specs.Loops.{countIf}
 use Rattle.engine.specs.Slots.{without, renewed}
 use Rattle.promises.specs.Age.{Slots, Ordered, older}
 
-eqb-self : (i : ℕ) → eqb i i ≡ true
-eqb-self i = eq-eqb i i refl
-
 -- ---- without its first x, and with x at its end
 
 without-slots : (x : ℕ) (o : List ℕ) → Slots o → Slots (without x o)

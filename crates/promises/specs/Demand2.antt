@@ -20,7 +20,7 @@ use Rattle.voice.specs.Release.{release}
 use Rattle.voice.specs.Panel.{slotParts}
 use Rattle.engine.specs.declared.Engine.{Engine}
 use Rattle.engine.specs.State.{slotAt, slotsOf, channelAt, fresh}
-use Rattle.engine.specs.NoteOff.{ofChannel, held, heldKey, pedalDown, mark}
+use Rattle.engine.specs.NoteOff.{ofChannel, heldKey, pedalDown, mark}
 use Rattle.engine.specs.Controls.{pedalHeld}
 use Rattle.engine.specs.Slots.{seat}
 use Rattle.engine.specs.NoteOn.{Started, start, cleared, rival}
@@ -39,6 +39,7 @@ pub record Reached (channel key : ℕ) (e : Engine) : Type 0 where
   pub others : (i : ℕ) → heldKey channel key (slotAt e i) ≡ false → slotAt (next (noteOff channel key) e) i ≡ slotAt e i
   pub counted : does (noteOff channel key) e .count ≡ countIf (heldKey channel key) (slotsOf e)
 
+-- that is so in every state, for every channel and key
 abbrev pub NoteOffReachesAll : Type 0
 NoteOffReachesAll = (channel key : ℕ) (e : Engine) → channel ≤ 15 → key ≤ 127 → Reached channel key e
 
@@ -56,6 +57,7 @@ pub record Lifted (channel value : ℕ) (e : Engine) : Type 0 where
   pub none : (i : ℕ) → pedalHeld channel (slotAt (next (control channel 64 value) e) i) ≡ false
   pub others : (i : ℕ) → pedalHeld channel (slotAt e i) ≡ false → slotAt (next (control channel 64 value) e) i ≡ slotAt e i
 
+-- that is so in every state, for every channel and every value below 64
 abbrev pub LiftingReleases : Type 0
 LiftingReleases = (channel value : ℕ) (e : Engine) → channel ≤ 15 → value < 64 → Lifted channel value e
 
@@ -67,7 +69,7 @@ NoMarkWithoutPedal =
 
 -- ---- 3. The October night
 
--- a call strikes a key; a call leaves it
+-- a call that strikes a key: a note-on of another velocity than 0
 abbrev pub strikes : ℕ → ℕ → Call → Bool
 strikes c k (noteOn b ram rom channel key velocity) = cond (eqb velocity 0) false (cond (eqb channel c) (eqb key k) false)
 strikes c k (noteOff channel key) = false
@@ -77,6 +79,7 @@ strikes c k (bend channel b) = false
 strikes c k (render to ram rom out) = false
 strikes c k (ask i) = false
 
+-- a call that leaves a key: its note-off, or a note-on of velocity 0
 abbrev pub leaves : ℕ → ℕ → Call → Bool
 leaves c k (noteOn b ram rom channel key velocity) = cond (eqb velocity 0) (cond (eqb channel c) (eqb key k) false) false
 leaves c k (noteOff channel key) = cond (eqb channel c) (eqb key k) false
@@ -114,10 +117,11 @@ OctoberNight =
 
 -- ---- 4. A released voice is free after at most N + 1 rendered frames, N its release's frames
 
--- however they are cut, and whatever else is called, unless another voice is started in its slot
+-- no call starts a voice in slot i
 abbrev pub NeverStarts : ℕ → List Call → Engine → Type 0
 NeverStarts i xs e = among i (history xs e) ≡ false
 
+-- however they are cut, and whatever else is called, unless another voice is started in its slot
 abbrev pub FreeInTime : Type 0
 FreeInTime =
     (i : ℕ) (xs : List Call) (e : Engine) → released (voiceIn i e .stage) ≡ true → NeverStarts i xs e
@@ -172,6 +176,7 @@ LayersByTheRule =
 
 -- ---- 6. `order` holds each slot once and is the order of starting, without end
 
+-- after any run: each slot stands once, and before the slots that were started later (at first, before those of higher number)
 abbrev pub OrderIsAge : Type 0
 OrderIsAge =
     (xs : List Call) → Ordered (run xs fresh .order)
@@ -180,6 +185,7 @@ OrderIsAge =
 
 -- ---- 7. The word's ones are the voices
 
+-- after any run, as many ones as slots that sound
 abbrev pub OnesAreVoices : Type 0
 OnesAreVoices = (xs : List Call) → ones (run xs fresh .sounding) ≡ countIf (λ (s : Slot). s .sounding) (slotsOf (run xs fresh))
 
@@ -214,6 +220,7 @@ pub record Rendered (to : ℕ) (ram rom : List ℤ) (out : List Float) (e : Engi
   pub right : (j : ℕ) → j < distance e to → Fraction (getD (written (render to ram rom out) e) (2 * j + 1) none) (rightSum ram rom e j)
   pub behind : drop (2 * distance e to) (written (render to ram rom out) e) ≡ drop (2 * distance e to) out
 
+-- that is so of every render that is done (`none` is what a place past the output reads as)
 abbrev pub OutputIsExact : Type 0
 OutputIsExact =
     (to : ℕ) (ram rom : List ℤ) (out : List Float) (e : Engine) (none : Float) → does (render to ram rom out) e .status ≡ 0

@@ -1,6 +1,6 @@
 -- A run that meets the conditions of demand 3, computed: a bell of 8 samples that loops over 4, struck and rendered in two cuts.
 use Prim.Native.Nat.{ℕ, _<_}
-use mathlib.Core.Bool.{true, false}
+use mathlib.Core.Bool.{false}
 use mathlib.Core.List.{List, [], _∷_, _++_}
 use mathlib.Core.Path.{_≡_, refl, sym, ap, _∙_, subst}
 use native.Mathlib.Omega.{arith}
@@ -66,6 +66,7 @@ bell =
     0 ∷ 0 ∷ 0 ∷ 0 ∷ 0 ∷ 0 ∷ 0 ∷ 0 ∷ 0 ∷ 0 ∷ 0 ∷ 0 ∷ 0 ∷ 0 ∷ 0 ∷ 0 ∷ 0 ∷ 0 ∷ 0 ∷ 0 ∷ 0 ∷ 0 ∷ 0 ∷ 0 ∷ 0 ∷ 0 ∷ 0 ∷ 0 ∷
     0 ∷ 0 ∷ 0 ∷ 0 ∷ 0 ∷ 0 ∷ 0 ∷ 0 ∷ []
 
+-- its samples
 abbrev ram : List ℤ
 ram = pos 0 ∷ pos 900 ∷ pos 1000 ∷ pos 900 ∷ pos 0 ∷ pos 100 ∷ pos 50 ∷ pos 0 ∷ []
 
@@ -106,10 +107,6 @@ abbrev struckBell : Engine
 struckBell =
     record { voices = voice ∷ replicate 31 blank; channels = replicate 16 freshChannel; sounding = 1; order = upFrom 1 31 ++ (0 ∷ []); clock = 0 }
 
-sounds-so : run before fresh ≡ struckBell
-unfolding CurvesDecibels.gainOf CurvesDecibels.cbOf CurvesDecibels.above CurvesDecibels.leastCb CurvesFrames.framesUp CurvesFrames.frames CurvesPitch.bendCents CurvesPitch.stepOf CurvesPitch.stepAt CurvesTable.allLe RecordsAmounts.pouredFrom RecordsAmounts.poured ArithBytes.u8At ArithBytes.u16At ArithBytes.u32At ArithBytes.i8At ArithBytes.i16At RecordsChunks.chunkAt RecordsChunks.nameAt RecordsChunks.bytesIn RecordsChunks.body RecordsChunks.records RecordsSearch.first RecordsSearch.last RecordsSides.presets RecordsSides.instruments RecordsSides.partsOf RecordsSides.bagOf RecordsSides.genOf RecordsSides.modOf RecordsSides.operator RecordsSides.amount RecordsSides.signed RecordsSides.programOf RecordsSides.bankOf RecordsWhole.between RecordsWhole.betweenZ RecordsWhole.modZ RecordsWhole.word32 RecordsWindow.shifted RecordsWindow.moved RecordsWindow.startOf RecordsWindow.endOf RecordsWindow.loopStartOf RecordsWindow.loopEndOf RecordsWindow.modeOf RecordsWindow.loops RecordsWindow.goodPlaces RecordsWindow.goodWindow RecordsWindow.rateOf RecordsWindow.romOf RecordsZones.zoneCount RecordsZones.genCount RecordsZones.has RecordsZones.closingOf RecordsZones.zoneAt RecordsZones.globalOf RecordsZones.lastOf RecordsZones.amountIn RecordsZones.value RecordsZones.zoneBelow RecordsZones.firstZone BankAdmission.longFault BankAdmission.badChunk BankAdmission.chunkFault BankAdmission.badRecords BankAdmission.recordsFault BankAdmission.fallsAt BankAdmission.endsWrong BankAdmission.badAt BankAdmission.badHead BankAdmission.badBag BankAdmission.headFault BankAdmission.bagFault BankAdmission.indexFault BankAdmission.badNumber BankAdmission.zoneLinkAt BankAdmission.linkFault BankAdmission.numberFault BankAdmission.namesSample BankAdmission.badRate BankAdmission.rateFault BankAdmission.badWindow BankAdmission.windowFault BankAdmission.faultOf BankAdmission.admitted LayersLayers.isPreset LayersLayers.presetFor LayersLayers.picked LayersLayers.chosen LayersLayers.under LayersLayers.allUnder LayersLayers.layersBelow LayersLayers.layersOf LayersLayers.layerCount LayersLayers.upTo33 LayersLayers.searched LayersLayers.layerOf LayersRanges.rangeAt LayersRanges.inside LayersRanges.hasAs LayersRanges.keyRange LayersRanges.velocityRange LayersRanges.matches Totals.instrumentOnly Totals.defaultOf Totals.held Totals.totalOf Totals.total VoiceNumbers.ifMidi VoiceNumbers.keyOf VoiceNumbers.rootOf VoiceNumbers.pitchOf VoiceNumbers.keyedTime VoiceNumbers.softness VoiceNumbers.attenuationOf VoiceNumbers.playMode LayersVoiceOf.voiceBy LayersVoiceOf.voiceOf LayersVoiceOf.voicesOf LayersVoiceOf.hasPreset LayersVoiceOf.struckVoices LayersVoiceOf.struckOf VoiceFrame.goOn VoiceFrame.loud VoiceFrame.played VoiceFrame.living VoiceFrame.frameAt VoiceFrame.frame VoiceMove.pitchTotal VoiceMove.step VoiceMove.folds VoiceMove.fold VoiceMove.settled VoiceMove.ended VoiceRelease.release VoiceRun.after VoiceRun.heard VoiceRun.afterAt VoiceRun.heardAt VoiceStages.levelAt VoiceStages.decayAt VoiceStages.releaseAt VoiceStages.fromDecay VoiceStages.fromHold VoiceStages.fromAttack VoiceStages.fromDelay EngineBend.pitchBend EngineControls.pedalHeld EngineControls.cut EngineControls.pedal EngineControls.silence EngineControls.controlled EngineControls.controlChange EngineLentBank.bankFrom EngineNoteOff.ofChannel EngineNoteOff.held EngineNoteOff.heldKey EngineNoteOff.letOff EngineNoteOff.off EngineNoteOff.offKey EngineNoteOff.noteOff EngineNoteOn.bankOf EngineNoteOn.anyPast EngineNoteOn.classIn EngineNoteOn.rival EngineNoteOn.start EngineNoteOn.startAll EngineNoteOn.cleared EngineNoteOn.struck EngineNoteOn.noteOnNumber EngineNoteOn.noteOn EngineRender.distance EngineRender.window EngineRender.lacking EngineRender.renderNumber EngineRender.played EngineRender.render EngineSlots.lowestFree EngineSlots.claim EngineSlots.leastBy EngineSlots.taken EngineSlots.seat EngineSlots.without EngineSlots.renewed EngineSlots.startIn EngineState.paired EngineState.wordOf EngineState.fresh run frames seats among
-sounds-so = refl
-
 -- five frames in two cuts; between them a key is left, another channel is bent, a note-on is refused and another key is struck
 abbrev meanwhile : List Call
 meanwhile =
@@ -121,45 +118,50 @@ meanwhile =
     ∷ render 5 ram [] (replicate 4 nan)
     ∷ []
 
--- each call meets the conditions, at a pitch total of 0 cents
-conditions : KeepsAll 0 (pos 0) meanwhile struckBell
+-- what is computed: the state once it is struck; that each call meets the conditions, at a pitch total of 0 cents; the frames;
+-- and the place after them, five steps of one sample folded into the loop of four
+record Computed : Type 0 where
+  struck : run before fresh ≡ struckBell
+  conditions : KeepsAll 0 (pos 0) meanwhile struckBell
+  five : frames meanwhile struckBell ≡ 5
+  at-sample-one : voiceIn 0 (run meanwhile struckBell) .place ≡ 16777216
+
+-- each by running the definitions
+computed : Computed
 unfolding CurvesDecibels.gainOf CurvesDecibels.cbOf CurvesDecibels.above CurvesDecibels.leastCb CurvesFrames.framesUp CurvesFrames.frames CurvesPitch.bendCents CurvesPitch.stepOf CurvesPitch.stepAt CurvesTable.allLe RecordsAmounts.pouredFrom RecordsAmounts.poured ArithBytes.u8At ArithBytes.u16At ArithBytes.u32At ArithBytes.i8At ArithBytes.i16At RecordsChunks.chunkAt RecordsChunks.nameAt RecordsChunks.bytesIn RecordsChunks.body RecordsChunks.records RecordsSearch.first RecordsSearch.last RecordsSides.presets RecordsSides.instruments RecordsSides.partsOf RecordsSides.bagOf RecordsSides.genOf RecordsSides.modOf RecordsSides.operator RecordsSides.amount RecordsSides.signed RecordsSides.programOf RecordsSides.bankOf RecordsWhole.between RecordsWhole.betweenZ RecordsWhole.modZ RecordsWhole.word32 RecordsWindow.shifted RecordsWindow.moved RecordsWindow.startOf RecordsWindow.endOf RecordsWindow.loopStartOf RecordsWindow.loopEndOf RecordsWindow.modeOf RecordsWindow.loops RecordsWindow.goodPlaces RecordsWindow.goodWindow RecordsWindow.rateOf RecordsWindow.romOf RecordsZones.zoneCount RecordsZones.genCount RecordsZones.has RecordsZones.closingOf RecordsZones.zoneAt RecordsZones.globalOf RecordsZones.lastOf RecordsZones.amountIn RecordsZones.value RecordsZones.zoneBelow RecordsZones.firstZone BankAdmission.longFault BankAdmission.badChunk BankAdmission.chunkFault BankAdmission.badRecords BankAdmission.recordsFault BankAdmission.fallsAt BankAdmission.endsWrong BankAdmission.badAt BankAdmission.badHead BankAdmission.badBag BankAdmission.headFault BankAdmission.bagFault BankAdmission.indexFault BankAdmission.badNumber BankAdmission.zoneLinkAt BankAdmission.linkFault BankAdmission.numberFault BankAdmission.namesSample BankAdmission.badRate BankAdmission.rateFault BankAdmission.badWindow BankAdmission.windowFault BankAdmission.faultOf BankAdmission.admitted LayersLayers.isPreset LayersLayers.presetFor LayersLayers.picked LayersLayers.chosen LayersLayers.under LayersLayers.allUnder LayersLayers.layersBelow LayersLayers.layersOf LayersLayers.layerCount LayersLayers.upTo33 LayersLayers.searched LayersLayers.layerOf LayersRanges.rangeAt LayersRanges.inside LayersRanges.hasAs LayersRanges.keyRange LayersRanges.velocityRange LayersRanges.matches Totals.instrumentOnly Totals.defaultOf Totals.held Totals.totalOf Totals.total VoiceNumbers.ifMidi VoiceNumbers.keyOf VoiceNumbers.rootOf VoiceNumbers.pitchOf VoiceNumbers.keyedTime VoiceNumbers.softness VoiceNumbers.attenuationOf VoiceNumbers.playMode LayersVoiceOf.voiceBy LayersVoiceOf.voiceOf LayersVoiceOf.voicesOf LayersVoiceOf.hasPreset LayersVoiceOf.struckVoices LayersVoiceOf.struckOf VoiceFrame.goOn VoiceFrame.loud VoiceFrame.played VoiceFrame.living VoiceFrame.frameAt VoiceFrame.frame VoiceMove.pitchTotal VoiceMove.step VoiceMove.folds VoiceMove.fold VoiceMove.settled VoiceMove.ended VoiceRelease.release VoiceRun.after VoiceRun.heard VoiceRun.afterAt VoiceRun.heardAt VoiceStages.levelAt VoiceStages.decayAt VoiceStages.releaseAt VoiceStages.fromDecay VoiceStages.fromHold VoiceStages.fromAttack VoiceStages.fromDelay EngineBend.pitchBend EngineControls.pedalHeld EngineControls.cut EngineControls.pedal EngineControls.silence EngineControls.controlled EngineControls.controlChange EngineLentBank.bankFrom EngineNoteOff.ofChannel EngineNoteOff.held EngineNoteOff.heldKey EngineNoteOff.letOff EngineNoteOff.off EngineNoteOff.offKey EngineNoteOff.noteOff EngineNoteOn.bankOf EngineNoteOn.anyPast EngineNoteOn.classIn EngineNoteOn.rival EngineNoteOn.start EngineNoteOn.startAll EngineNoteOn.cleared EngineNoteOn.struck EngineNoteOn.noteOnNumber EngineNoteOn.noteOn EngineRender.distance EngineRender.window EngineRender.lacking EngineRender.renderNumber EngineRender.played EngineRender.render EngineSlots.lowestFree EngineSlots.claim EngineSlots.leastBy EngineSlots.taken EngineSlots.seat EngineSlots.without EngineSlots.renewed EngineSlots.startIn EngineState.paired EngineState.wordOf EngineState.fresh run frames seats among
-conditions = (
-  record { lives = refl; own = refl; tuned = λ h. refl },
-  (
-    record { lives = refl; own = refl; tuned = λ h. refl },
-    (
-      record { lives = refl; own = refl; tuned = λ h. refl },
-      (
+computed =
+    record {
+      struck = refl;
+      conditions = (
         record { lives = refl; own = refl; tuned = λ h. refl },
         (
           record { lives = refl; own = refl; tuned = λ h. refl },
           (
             record { lives = refl; own = refl; tuned = λ h. refl },
-            tt,
+            (
+              record { lives = refl; own = refl; tuned = λ h. refl },
+              (
+                record { lives = refl; own = refl; tuned = λ h. refl },
+                (
+                  record { lives = refl; own = refl; tuned = λ h. refl },
+                  tt,
+                ),
+              ),
+            ),
           ),
         ),
-      ),
-    ),
-  ),
-)
-
-five : frames meanwhile struckBell ≡ 5
-unfolding CurvesDecibels.gainOf CurvesDecibels.cbOf CurvesDecibels.above CurvesDecibels.leastCb CurvesFrames.framesUp CurvesFrames.frames CurvesPitch.bendCents CurvesPitch.stepOf CurvesPitch.stepAt CurvesTable.allLe RecordsAmounts.pouredFrom RecordsAmounts.poured ArithBytes.u8At ArithBytes.u16At ArithBytes.u32At ArithBytes.i8At ArithBytes.i16At RecordsChunks.chunkAt RecordsChunks.nameAt RecordsChunks.bytesIn RecordsChunks.body RecordsChunks.records RecordsSearch.first RecordsSearch.last RecordsSides.presets RecordsSides.instruments RecordsSides.partsOf RecordsSides.bagOf RecordsSides.genOf RecordsSides.modOf RecordsSides.operator RecordsSides.amount RecordsSides.signed RecordsSides.programOf RecordsSides.bankOf RecordsWhole.between RecordsWhole.betweenZ RecordsWhole.modZ RecordsWhole.word32 RecordsWindow.shifted RecordsWindow.moved RecordsWindow.startOf RecordsWindow.endOf RecordsWindow.loopStartOf RecordsWindow.loopEndOf RecordsWindow.modeOf RecordsWindow.loops RecordsWindow.goodPlaces RecordsWindow.goodWindow RecordsWindow.rateOf RecordsWindow.romOf RecordsZones.zoneCount RecordsZones.genCount RecordsZones.has RecordsZones.closingOf RecordsZones.zoneAt RecordsZones.globalOf RecordsZones.lastOf RecordsZones.amountIn RecordsZones.value RecordsZones.zoneBelow RecordsZones.firstZone BankAdmission.longFault BankAdmission.badChunk BankAdmission.chunkFault BankAdmission.badRecords BankAdmission.recordsFault BankAdmission.fallsAt BankAdmission.endsWrong BankAdmission.badAt BankAdmission.badHead BankAdmission.badBag BankAdmission.headFault BankAdmission.bagFault BankAdmission.indexFault BankAdmission.badNumber BankAdmission.zoneLinkAt BankAdmission.linkFault BankAdmission.numberFault BankAdmission.namesSample BankAdmission.badRate BankAdmission.rateFault BankAdmission.badWindow BankAdmission.windowFault BankAdmission.faultOf BankAdmission.admitted LayersLayers.isPreset LayersLayers.presetFor LayersLayers.picked LayersLayers.chosen LayersLayers.under LayersLayers.allUnder LayersLayers.layersBelow LayersLayers.layersOf LayersLayers.layerCount LayersLayers.upTo33 LayersLayers.searched LayersLayers.layerOf LayersRanges.rangeAt LayersRanges.inside LayersRanges.hasAs LayersRanges.keyRange LayersRanges.velocityRange LayersRanges.matches Totals.instrumentOnly Totals.defaultOf Totals.held Totals.totalOf Totals.total VoiceNumbers.ifMidi VoiceNumbers.keyOf VoiceNumbers.rootOf VoiceNumbers.pitchOf VoiceNumbers.keyedTime VoiceNumbers.softness VoiceNumbers.attenuationOf VoiceNumbers.playMode LayersVoiceOf.voiceBy LayersVoiceOf.voiceOf LayersVoiceOf.voicesOf LayersVoiceOf.hasPreset LayersVoiceOf.struckVoices LayersVoiceOf.struckOf VoiceFrame.goOn VoiceFrame.loud VoiceFrame.played VoiceFrame.living VoiceFrame.frameAt VoiceFrame.frame VoiceMove.pitchTotal VoiceMove.step VoiceMove.folds VoiceMove.fold VoiceMove.settled VoiceMove.ended VoiceRelease.release VoiceRun.after VoiceRun.heard VoiceRun.afterAt VoiceRun.heardAt VoiceStages.levelAt VoiceStages.decayAt VoiceStages.releaseAt VoiceStages.fromDecay VoiceStages.fromHold VoiceStages.fromAttack VoiceStages.fromDelay EngineBend.pitchBend EngineControls.pedalHeld EngineControls.cut EngineControls.pedal EngineControls.silence EngineControls.controlled EngineControls.controlChange EngineLentBank.bankFrom EngineNoteOff.ofChannel EngineNoteOff.held EngineNoteOff.heldKey EngineNoteOff.letOff EngineNoteOff.off EngineNoteOff.offKey EngineNoteOff.noteOff EngineNoteOn.bankOf EngineNoteOn.anyPast EngineNoteOn.classIn EngineNoteOn.rival EngineNoteOn.start EngineNoteOn.startAll EngineNoteOn.cleared EngineNoteOn.struck EngineNoteOn.noteOnNumber EngineNoteOn.noteOn EngineRender.distance EngineRender.window EngineRender.lacking EngineRender.renderNumber EngineRender.played EngineRender.render EngineSlots.lowestFree EngineSlots.claim EngineSlots.leastBy EngineSlots.taken EngineSlots.seat EngineSlots.without EngineSlots.renewed EngineSlots.startIn EngineState.paired EngineState.wordOf EngineState.fresh run frames seats among
-five = refl
-
--- the place after them: five steps of one sample, folded into the loop of four
-at-sample-one : voiceIn 0 (run meanwhile struckBell) .place ≡ 16777216
-unfolding CurvesDecibels.gainOf CurvesDecibels.cbOf CurvesDecibels.above CurvesDecibels.leastCb CurvesFrames.framesUp CurvesFrames.frames CurvesPitch.bendCents CurvesPitch.stepOf CurvesPitch.stepAt CurvesTable.allLe RecordsAmounts.pouredFrom RecordsAmounts.poured ArithBytes.u8At ArithBytes.u16At ArithBytes.u32At ArithBytes.i8At ArithBytes.i16At RecordsChunks.chunkAt RecordsChunks.nameAt RecordsChunks.bytesIn RecordsChunks.body RecordsChunks.records RecordsSearch.first RecordsSearch.last RecordsSides.presets RecordsSides.instruments RecordsSides.partsOf RecordsSides.bagOf RecordsSides.genOf RecordsSides.modOf RecordsSides.operator RecordsSides.amount RecordsSides.signed RecordsSides.programOf RecordsSides.bankOf RecordsWhole.between RecordsWhole.betweenZ RecordsWhole.modZ RecordsWhole.word32 RecordsWindow.shifted RecordsWindow.moved RecordsWindow.startOf RecordsWindow.endOf RecordsWindow.loopStartOf RecordsWindow.loopEndOf RecordsWindow.modeOf RecordsWindow.loops RecordsWindow.goodPlaces RecordsWindow.goodWindow RecordsWindow.rateOf RecordsWindow.romOf RecordsZones.zoneCount RecordsZones.genCount RecordsZones.has RecordsZones.closingOf RecordsZones.zoneAt RecordsZones.globalOf RecordsZones.lastOf RecordsZones.amountIn RecordsZones.value RecordsZones.zoneBelow RecordsZones.firstZone BankAdmission.longFault BankAdmission.badChunk BankAdmission.chunkFault BankAdmission.badRecords BankAdmission.recordsFault BankAdmission.fallsAt BankAdmission.endsWrong BankAdmission.badAt BankAdmission.badHead BankAdmission.badBag BankAdmission.headFault BankAdmission.bagFault BankAdmission.indexFault BankAdmission.badNumber BankAdmission.zoneLinkAt BankAdmission.linkFault BankAdmission.numberFault BankAdmission.namesSample BankAdmission.badRate BankAdmission.rateFault BankAdmission.badWindow BankAdmission.windowFault BankAdmission.faultOf BankAdmission.admitted LayersLayers.isPreset LayersLayers.presetFor LayersLayers.picked LayersLayers.chosen LayersLayers.under LayersLayers.allUnder LayersLayers.layersBelow LayersLayers.layersOf LayersLayers.layerCount LayersLayers.upTo33 LayersLayers.searched LayersLayers.layerOf LayersRanges.rangeAt LayersRanges.inside LayersRanges.hasAs LayersRanges.keyRange LayersRanges.velocityRange LayersRanges.matches Totals.instrumentOnly Totals.defaultOf Totals.held Totals.totalOf Totals.total VoiceNumbers.ifMidi VoiceNumbers.keyOf VoiceNumbers.rootOf VoiceNumbers.pitchOf VoiceNumbers.keyedTime VoiceNumbers.softness VoiceNumbers.attenuationOf VoiceNumbers.playMode LayersVoiceOf.voiceBy LayersVoiceOf.voiceOf LayersVoiceOf.voicesOf LayersVoiceOf.hasPreset LayersVoiceOf.struckVoices LayersVoiceOf.struckOf VoiceFrame.goOn VoiceFrame.loud VoiceFrame.played VoiceFrame.living VoiceFrame.frameAt VoiceFrame.frame VoiceMove.pitchTotal VoiceMove.step VoiceMove.folds VoiceMove.fold VoiceMove.settled VoiceMove.ended VoiceRelease.release VoiceRun.after VoiceRun.heard VoiceRun.afterAt VoiceRun.heardAt VoiceStages.levelAt VoiceStages.decayAt VoiceStages.releaseAt VoiceStages.fromDecay VoiceStages.fromHold VoiceStages.fromAttack VoiceStages.fromDelay EngineBend.pitchBend EngineControls.pedalHeld EngineControls.cut EngineControls.pedal EngineControls.silence EngineControls.controlled EngineControls.controlChange EngineLentBank.bankFrom EngineNoteOff.ofChannel EngineNoteOff.held EngineNoteOff.heldKey EngineNoteOff.letOff EngineNoteOff.off EngineNoteOff.offKey EngineNoteOff.noteOff EngineNoteOn.bankOf EngineNoteOn.anyPast EngineNoteOn.classIn EngineNoteOn.rival EngineNoteOn.start EngineNoteOn.startAll EngineNoteOn.cleared EngineNoteOn.struck EngineNoteOn.noteOnNumber EngineNoteOn.noteOn EngineRender.distance EngineRender.window EngineRender.lacking EngineRender.renderNumber EngineRender.played EngineRender.render EngineSlots.lowestFree EngineSlots.claim EngineSlots.leastBy EngineSlots.taken EngineSlots.seat EngineSlots.without EngineSlots.renewed EngineSlots.startIn EngineState.paired EngineState.wordOf EngineState.fresh run frames seats among
-at-sample-one = refl
+      );
+      five = refl;
+      at-sample-one = refl;
+    }
 
 -- so demand 3 speaks of it
 pub bell-moved : Moved 0 (pos 0) (frames meanwhile (run before fresh)) (run before fresh) (run meanwhile (run before fresh))
 unfolding EngineState.paired
 bell-moved =
     place-always before 0 (pos 0) meanwhile
-    (ap (λ (e : Engine). slotAt e 0 .sounding) sounds-so)
-    (ap (λ (e : Engine). past (voiceIn 0 e .stage)) sounds-so)
-    (subst (λ (n : ℕ). 0 < n) (sym (ap (frames meanwhile) sounds-so ∙ five)) (omega arith))
-    (subst (λ (e : Engine). KeepsAll 0 (pos 0) meanwhile e) (sym sounds-so) conditions)
-    (λ h. absurd (eqb-false 1 3 refl (sym (ap (λ (e : Engine). voiceIn 0 e .mode) sounds-so) ∙ h)))
+    (ap (λ (e : Engine). slotAt e 0 .sounding) (computed .struck))
+    (ap (λ (e : Engine). past (voiceIn 0 e .stage)) (computed .struck))
+    (subst (λ (n : ℕ). 0 < n) (sym (ap (frames meanwhile) (computed .struck) ∙ computed .five)) (omega arith))
+    (subst (λ (e : Engine). KeepsAll 0 (pos 0) meanwhile e) (sym (computed .struck)) (computed .conditions))
+    (λ h. absurd (eqb-false 1 3 refl (sym (ap (λ (e : Engine). voiceIn 0 e .mode) (computed .struck)) ∙ h)))

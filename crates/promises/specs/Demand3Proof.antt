@@ -6,11 +6,12 @@ use mathlib.Core.List.{List, [], _∷_}
 use native.Mathlib.Nat.{add-zero}
 use native.Mathlib.Omega.{arith}
 use borrow.Author.Tests.{eqb-true, ltb-false}
-use lib.Dec.{T, eqb, ltb, lit≤}
+use lib.Dec.{T, eqb, ltb}
 use lib.IntN.{ℤ, pos, negsuc, natAbs, _+ℤ_}
 use lib.Signed.{ltZ}
 use Rattle.arith.specs.Rounding.{sub-pos}
 use Rattle.arith.specs.Over.{heldTo}
+use Rattle.curves.specs.LiftLaws.{up-le}
 use Rattle.curves.specs.Step.{stepOf, step-right, steps}
 use Rattle.voice.specs.declared.Stage.{Stage}
 use Rattle.voice.specs.declared.Stage.the-variants.{Delay, Attack, Hold, Decay, Sustain, Release}
@@ -27,7 +28,7 @@ use Rattle.voice.specs.RunLaws.{once}
 use Rattle.voice.specs.Advance.{going, placeAfter, place-add}
 use Rattle.engine.specs.declared.Engine.{Engine}
 use Rattle.engine.specs.State.{slotAt, channelAt, fresh}
-use Rattle.engine.specs.NoteOff.{mark, withVoice, held}
+use Rattle.engine.specs.NoteOff.{mark, withVoice}
 use Rattle.engine.specs.Render.{window, slotAfter}
 use Rattle.promises.specs.Calls.{Call, next, run, voiceIn, framesOf, frames}
 use Rattle.promises.specs.EachSlot.{What, stands, pedalled, loosed, freed, started, goes, never, what}
@@ -198,26 +199,9 @@ all (x ∷ xs) i c e st on h q m =
     on-on st (framesOf x e) (frames xs (next x e)) o (all xs i c (next x e) st (m .0 .lives) p r (m .1))
 
 -- a pitch total is held to -9,600..4,800
-held-in : (k : ℤ) → lifted (heldTo (negsuc 9599) (pos 4800) k) ≤ 14400
-held-in k = by (ltZ k (negsuc 9599)) refl
-  where
-    inside : (k : ℤ) → ltZ k (negsuc 9599) ≡ false → ltZ (pos 4800) k ≡ false → lifted k ≤ 14400
-    inside (pos a) l h = omega (arith, ltb-false 4800 a h)
-    inside (negsuc a) l h =
-        let g : a ≤ 9599 = ltb-false 9599 a l in
-        subst (λ (z : ℤ). natAbs z ≤ 14400) (sym (sub-pos 9600 (suc a) (omega arith))) (omega arith)
-
-    high : (b : Bool) → ltZ k (negsuc 9599) ≡ false → ltZ (pos 4800) k ≡ b → lifted (cond b (pos 4800) k) ≤ 14400
-    high true l h = lit≤ tt
-    high false l h = inside k l h
-
-    by : (b : Bool) → ltZ k (negsuc 9599) ≡ b → lifted (cond b (negsuc 9599) (cond (ltZ (pos 4800) k) (pos 4800) k)) ≤ 14400
-    by true l = lit≤ tt
-    by false l = high (ltZ (pos 4800) k) l refl
-
 cents-in : (i : ℕ) (e : Engine) → lifted (centsIn i e) ≤ 14400
 unfolding pitchTotal
-cents-in i e = held-in (voiceIn i e .pitch +ℤ bendCents (channelAt e (voiceIn i e .channel) .bend))
+cents-in i e = up-le 9600 4800 (voiceIn i e .pitch +ℤ bendCents (channelAt e (voiceIn i e .channel) .bend))
 
 -- where a frame is rendered, c is a pitch total
 cents-bound : (xs : List Call) (i : ℕ) (c : ℤ) (e : Engine) → 0 < frames xs e → KeepsAll i c xs e → lifted c ≤ 14400

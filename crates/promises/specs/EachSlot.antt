@@ -1,7 +1,7 @@
 -- What a call does to one slot: it stands, is marked, released or freed, gets a voice, or is played for the call's frames.
 use Prim.Native.Nat.{ℕ, zero, suc}
 use mathlib.Core.Path.{_≡_, refl, sym, ap, _∙_, subst}
-use mathlib.Core.Bool.{Bool, true, false, cond, not, _&&_, _||_}
+use mathlib.Core.Bool.{Bool, true, false, cond, not, _&&_, _||_, or-true}
 use mathlib.Core.List.{List, [], _∷_, map}
 use mathlib.Core.Logic.{_⊎_, ⊎-elim, inl, inr}
 use borrow.Author.Tests.{eqb-true, eqb-false}
@@ -10,32 +10,28 @@ use lib.Ieee.{Float}
 use lib.IntN.{ℤ}
 use lib.ListN.{length, getD, set}
 use Rattle.voice.specs.declared.Voice.{Voice}
-use Rattle.voice.specs.declared.Channel.{Channel}
 use Rattle.voice.specs.declared.Slot.{Slot}
 use Rattle.voice.specs.State.{sounds, free, blank}
 use Rattle.voice.specs.Stages.{released}
 use Rattle.voice.specs.Release.{release}
-use Rattle.voice.specs.Sound.{loss}
-use Rattle.voice.specs.Move.{step}
-use Rattle.voice.specs.Run.{after}
-use Rattle.voice.specs.RunLaws.{once}
-use Rattle.voice.specs.Advance.{free-stays}
 use Rattle.engine.specs.declared.Engine.{Engine}
 use Rattle.engine.specs.declared.Answered.{Answered}
 use Rattle.engine.specs.State.{slotAt, slotsOf, withSlots, channelAt, withChannel, withClock}
 use Rattle.engine.specs.StateLaws.{slots-back, slot-map, slot-other}
 use Rattle.engine.specs.Answers.{done, refused, answer, pastOne, pastTwo, pastBend}
 use Rattle.engine.specs.NoteOff.{mark, withVoice, letOff, ofChannel, held, heldKey, pedalDown, off, offKey, noteOff}
+use Rattle.engine.specs.WhomLaws.{off-keeps}
 use Rattle.engine.specs.Controls.{cut, pedalHeld, pedal, silence, controlled, controlChange}
 use Rattle.engine.specs.Channels.{withPedal, withProgram, withBend}
 use Rattle.engine.specs.Program.{programChange}
 use Rattle.engine.specs.Bend.{pitchBend}
 use Rattle.engine.specs.Slots.{seat, startIn}
 use Rattle.engine.specs.NoteOn.{classIn, Started, start, startAll, cleared, rival, struck, layersOf, noteOnNumber, noteOn}
-use Rattle.engine.specs.Render.{distance, window, slotAfter, played, renderNumber, render}
+use Rattle.engine.specs.Render.{distance, slotAfter, played, renderNumber, render}
+use Rattle.engine.specs.RenderLaws.{slot-stays}
 use Rattle.engine.specs.LentBank.{bankFrom}
 use Rattle.promises.specs.Calls as Calls
-use Rattle.promises.specs.Calls.{Call, does, next, framesOf, begun, seats, startsIn, among, voiceIn, channelOf}
+use Rattle.promises.specs.Calls.{Call, next, framesOf, begun, seats, startsIn, among, voiceIn, channelOf}
 
 -- v is one of a list
 abbrev pub Among : Voice → List Voice → Type 0
@@ -47,10 +43,6 @@ Among v (u ∷ us) = (u ≡ v) ⊎ Among v us
 pub letOff-picked : (down : Bool) (p : Slot → Bool) (s : Slot) → p s ≡ true → letOff down p s ≡ withVoice s (cond down (mark (s .voice)) (release (s .voice)))
 unfolding letOff
 letOff-picked down p s e = simp e
-
-pub letOff-left : (down : Bool) (p : Slot → Bool) (s : Slot) → p s ≡ false → letOff down p s ≡ s
-unfolding letOff
-letOff-left down p s e = simp e
 
 pub cut-picked : (p : Slot → Bool) (s : Slot) → p s ≡ true → cut p s ≡ free (s .voice)
 unfolding cut
@@ -90,10 +82,6 @@ pub start-there : (v : Voice) (x : Started) (i : ℕ) → (i ≡ seat (x .engine
 unfolding start startIn
 start-there v x i h = slot-other (x .engine) (x .engine) (seat (x .engine) (x .mine)) i (sounds v) h
 
-or-later : (a : Bool) → (a || true) ≡ true
-or-later true = refl
-or-later false = refl
-
 pub layered : (vs : List Voice) (x : Started) (i : ℕ)
     → (slotAt (startAll vs x .engine) i ≡ slotAt (x .engine) i) ⊎ Placed i vs x (slotAt (startAll vs x .engine) i)
 unfolding startAll seats among
@@ -108,7 +96,7 @@ layered (v ∷ vs) x i =
     t = slotAt (startAll vs (start v x) .engine) i
 
     more : Placed i vs (start v x) t → Placed i (v ∷ vs) x t
-    more p = record { voice = p .voice; is = p .is; from = inr (p .from); into = rw (p .into) (or-later (eqb j i)) }
+    more p = record { voice = p .voice; is = p .is; from = inr (p .from); into = rw (p .into) (or-true (eqb j i)) }
 
     one : t ≡ slotAt (start v x .engine) i → (b : Bool) → eqb j i ≡ b → (t ≡ slotAt (x .engine) i) ⊎ Placed i (v ∷ vs) x t
     one h true e =
@@ -137,34 +125,35 @@ pub either : {A : Type 0} (P : A → Type 0) (b : Bool) (x y : A) → P x → P 
 either P true x y h k = h
 either P false x y h k = k
 
+-- a test is not both
 pub never : false ≡ true → ⊥
 never e = subst (λ (b : Bool). T (not b)) e tt
 
--- a free slot after n frames
-free-after : (c : Channel) (w : List ℤ) (n : ℕ) → after c w n (free blank) ≡ free blank
-free-after c w n = once c w (free blank) n ∙ free-stays (step c blank) (loss c blank) w n (free blank) refl
-
-and-first : (a b : Bool) → (a && b) ≡ true → a ≡ true
-and-first true b e = refl
-and-first false b e = e
+-- both of two tests hold
+pub and-both : (a b : Bool) → (a && b) ≡ true → (a ≡ true) × (b ≡ true)
+and-both true b e = (refl, e)
+and-both false b e = absurd (never e)
 
 pub held-channel : (c : ℕ) (s : Slot) → held c s ≡ true → ofChannel c s ≡ true
 unfolding held
-held-channel c s h = and-first (ofChannel c s) (not (released (s .voice .stage))) (and-first (ofChannel c s && not (released (s .voice .stage))) (not (s .voice .marked)) h)
+held-channel c s h =
+    and-both (ofChannel c s) (not (released (s .voice .stage)))
+    (and-both (ofChannel c s && not (released (s .voice .stage))) (not (s .voice .marked)) h .0) .0
 
 key-held : (c k : ℕ) (s : Slot) → heldKey c k s ≡ true → held c s ≡ true
 unfolding heldKey
-key-held c k s h = and-first (held c s) (eqb (s .voice .key) k) h
+key-held c k s h = and-both (held c s) (eqb (s .voice .key) k) h .0
 
 pedal-channel : (c : ℕ) (s : Slot) → pedalHeld c s ≡ true → ofChannel c s ≡ true
 unfolding pedalHeld
-pedal-channel c s h = and-first (ofChannel c s) (s .voice .marked) h
+pedal-channel c s h = and-both (ofChannel c s) (s .voice .marked) h .0
 
 rival-channel : (c : ℕ) (vs : List Voice) (s : Slot) → rival c vs s ≡ true → ofChannel c s ≡ true
 unfolding rival
-rival-channel c vs s h = and-first (ofChannel c s) (classIn (s .voice .class) vs) h
+rival-channel c vs s h = and-both (ofChannel c s) (classIn (s .voice .class) vs) h .0
 
 module _ (e : Engine) (i c : ℕ) (vs : List Voice) (ss : List ℕ) where
+  -- from e to y, with no frame
   abbrev To : Engine → Type 0
   To y = Turn e i c 0 vs ss y
 
@@ -184,10 +173,10 @@ module _ (e : Engine) (i c : ℕ) (vs : List Voice) (ss : List ℕ) where
       s = slotAt e i
 
       at : slotAt (withSlots y (map (letOff down p) (slotsOf e))) i ≡ letOff down p s
-      at = slot-map e y (letOff down p) i (letOff-left down p (free blank) h)
+      at = slot-map e y (letOff down p) i (off-keeps down p (free blank) h)
 
       by : (b : Bool) → p s ≡ b → (d : Bool) → down ≡ d → To (withSlots y (map (letOff down p) (slotsOf e)))
-      by false q d r = stands (at ∙ letOff-left down p s q) refl
+      by false q d r = stands (at ∙ off-keeps down p s q) refl
       by true q true r = pedalled (at ∙ letOff-picked down p s q ∙ ap (λ (b : Bool). withVoice s (cond b (mark (s .voice)) (release (s .voice)))) r) refl (m q r .0) (m q r .1)
       by true q false r = loosed (at ∙ letOff-picked down p s q ∙ ap (λ (b : Bool). withVoice s (cond b (mark (s .voice)) (release (s .voice)))) r) refl (o q)
 
@@ -239,6 +228,19 @@ module _ (e : Engine) (i c : ℕ) (vs : List Voice) (ss : List ℕ) where
       out (started v a n f t) h = started v (h ∙ a) n f t
       out (goes ram rom a) h = goes ram rom (h ∙ a)
 
+-- a note-on of the voices vs, by its tests (past its ranges, velocity 0, not refused) and the number n of the others: its answer
+abbrev pub answerAt : (c k : ℕ) → List Voice → Engine → (t z q : Bool) → ℕ → Answered
+answerAt c k vs e t z q n =
+    cond (eqb (cond t 2 0) 0) (cond z (offKey c k e) (cond q (done (length vs) (struck c vs e .engine)) (refused n e))) (refused (cond t 2 0) e)
+
+-- the voices that it starts
+abbrev pub strikesAt : (c k : ℕ) → List Voice → Engine → (t z q : Bool) → ℕ → List Voice
+strikesAt c k vs e t z q n = cond (eqb (answerAt c k vs e t z q n .status) 0) (cond z [] vs) []
+
+-- and their slots
+abbrev pub seatsAt : (c k : ℕ) → List Voice → Engine → (t z q : Bool) → ℕ → List ℕ
+seatsAt c k vs e t z q n = seats (strikesAt c k vs e t z q n) (record { engine = cleared c (strikesAt c k vs e t z q n) e; mine = 0 })
+
 -- a note-on
 note-on-to : (b : List ℕ) (ram rom : List ℤ) (c k v : ℕ) (e : Engine) (i : ℕ) → What (Calls.noteOn b ram rom c k v) e i
 unfolding noteOn
@@ -250,15 +252,8 @@ note-on-to b ram rom c k v e i = by (pastTwo c k v) (eqb v 0) (eqb number 0) num
     number : ℕ
     number = noteOnNumber (bankFrom b) ram rom c k v e
 
-    tells : (t z q : Bool) (n : ℕ) → Answered
-    tells t z q n =
-        cond (eqb (cond t 2 0) 0) (cond z (offKey c k e) (cond q (done (length vs) (struck c vs e .engine)) (refused n e))) (refused (cond t 2 0) e)
-
-    starts : (t z q : Bool) (n : ℕ) → List Voice
-    starts t z q n = cond (eqb (tells t z q n .status) 0) (cond z [] vs) []
-
     by : (t z q : Bool) (n : ℕ)
-        → Turn e i c 0 (starts t z q n) (seats (starts t z q n) (record { engine = cleared c (starts t z q n) e; mine = 0 })) (tells t z q n .engine)
+        → Turn e i c 0 (strikesAt c k vs e t z q n) (seatsAt c k vs e t z q n) (answerAt c k vs e t z q n .engine)
     by true z q n = stands refl refl
     by false true q n = let-key e i c _ _ k
     by false false true n = strikes e i c _ _ refl
@@ -279,7 +274,7 @@ render-to to ram rom out e i = by (eqb (renderNumber to ram rom (length out) e) 
     tells b = cond b (done 0 (withClock (played ram rom d e) to)) (refused n e)
 
     by : (b : Bool) → eqb n 0 ≡ b → Turn e i 16 (cond (eqb (tells b .status) 0) d 0) [] (seats [] (record { engine = cleared 16 [] e; mine = 0 })) (tells b .engine)
-    by true h = goes ram rom (slot-map e e (slotAfter ram rom e d) i (free-after (channelAt e 0) (window ram rom blank) d))
+    by true h = goes ram rom (slot-map e e (slotAfter ram rom e d) i (slot-stays ram rom e d))
     by false h = stands refl (ap (λ (t : Bool). cond t d 0) h)
 
 pub what : (x : Call) (e : Engine) (i : ℕ) → What x e i

@@ -14,11 +14,11 @@ use Rattle.voice.specs.declared.Voice.{Voice}
 use Rattle.voice.specs.declared.Channel.{Channel}
 use Rattle.voice.specs.declared.Slot.{Slot}
 use Rattle.voice.specs.declared.Framed.{Framed}
-use Rattle.voice.specs.State.{withMoved, sounds}
+use Rattle.voice.specs.State.{withMoved}
 use Rattle.voice.specs.Stages.{releaseAt, entered, dead, released, spent}
 use Rattle.voice.specs.Sound.{loss}
 use Rattle.voice.specs.Move.{step}
-use Rattle.voice.specs.Frame.{moved, living, frameAt, frame}
+use Rattle.voice.specs.Frame.{living, frameAt, frame}
 use Rattle.voice.specs.FrameLaws.{frame-on, living-dead}
 use Rattle.voice.specs.Run.{after}
 use Rattle.voice.specs.RunLaws.{frame-keeps}

@@ -89,6 +89,7 @@ module _ (P : Engine → Type 0) (l : Lasting P) where
 
 -- ---- as many slots and channels as there were, and no bit of the word past the last slot
 
+-- 32 slots, 16 channels, and a word of 32 bits
 pub record Sized (e : Engine) : Type 0 where
   pub voices : length (e .voices) ≡ 32
   pub channels : length (e .channels) ≡ 16

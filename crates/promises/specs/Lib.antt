@@ -1,3 +1,4 @@
+-- The calls, what was promised of them (Demand1 to Determined), the proofs, and examples that are computed.
 pub mod Calls
 pub mod Demand1
 pub mod Age

@@ -1,14 +1,15 @@
 -- Demand 2: the pedal, and the October night.
 use Prim.Native.Nat.{ℕ, zero, suc, _≤_, _<_}
 use mathlib.Core.Path.{_≡_, refl, sym, ap, _∙_, subst}
-use mathlib.Core.Bool.{Bool, true, false, cond, not, _&&_, _||_}
+use mathlib.Core.Bool.{Bool, true, false, cond, not, _&&_, _||_, and-false}
 use mathlib.Core.List.{List, [], _∷_, map}
 use mathlib.Core.Logic.{_⊎_, ⊎-elim, inl, inr}
 use native.Mathlib.Omega.{arith}
-use borrow.Author.Tests.{eqb-true, eq-eqb, ltb-true, ltb-false, le-ltb, lt-ltb, le-leb}
+use borrow.Author.Tests.{eqb-true, eq-eqb, not-true, ltb-true, ltb-false, le-ltb, lt-ltb, le-leb}
 use lib.Dec.{eqb, leb, ltb}
 use lib.IntN.{ℤ}
 use lib.ListN.{length, getD, set}
+use lib.Seq.{getD-set-other}
 use Rattle.voice.specs.declared.Voice.{Voice}
 use Rattle.voice.specs.declared.Channel.{Channel}
 use Rattle.voice.specs.declared.Slot.{Slot}
@@ -19,9 +20,11 @@ use Rattle.voice.specs.Run.{after}
 use Rattle.engine.specs.declared.Engine.{Engine}
 use Rattle.engine.specs.declared.Answered.{Answered}
 use Rattle.engine.specs.State.{slotAt, slotsOf, withSlots, channelAt, withChannel, noChannel, withClock, fresh}
-use Rattle.engine.specs.StateLaws.{slot-map, and-no}
+use Rattle.engine.specs.StateLaws.{slot-map}
 use Rattle.engine.specs.Answers.{done, refused, answer, pastOne, pastTwo, pastBend}
+use Rattle.engine.specs.AnswerLaws.{or-no}
 use Rattle.engine.specs.NoteOff.{ofChannel, held, heldKey, pedalDown, mark, withVoice, letOff, off, offKey, noteOff}
+use Rattle.engine.specs.WhomLaws.{off-keeps}
 use Rattle.engine.specs.Channels.{withStored, withVolume, withExpression, withPedal, withProgram, withBend}
 use Rattle.engine.specs.Controls.{pedalHeld, pedal, silence, controlled, controlChange}
 use Rattle.engine.specs.Slots.{startIn}
@@ -32,7 +35,7 @@ use Rattle.engine.specs.Render.{distance, window, slotAfter, played, renderNumb
 use Rattle.engine.specs.LentBank.{bankFrom}
 use Rattle.promises.specs.Calls as Calls
 use Rattle.promises.specs.Calls.{Call, next, run, voiceIn, framesOf, begun, channelOf}
-use Rattle.promises.specs.EachSlot.{Among, What, stands, pedalled, loosed, freed, started, goes, never, either, what, letOff-picked, letOff-left}
+use Rattle.promises.specs.EachSlot.{Among, What, stands, pedalled, loosed, freed, started, goes, never, either, what, letOff-picked, and-both, held-channel}
 use Rattle.promises.specs.Demand2.{LiftingReleases, VelocityZeroIsNoteOff, NoMarkWithoutPedal, strikes, leaves, struckAfter, Piece, Into, ends, left, right, Overlap, quiet, more, OctoberNight}
 use Rattle.promises.specs.Demand2Proof.{reaches, gone, free-held}
 use Rattle.promises.specs.Banks.{came}
@@ -48,7 +51,7 @@ free-pedal channel v = refl
 -- what is released is marked no more
 unmarked : (channel : ℕ) (s : Slot) → pedalHeld channel (withVoice s (release (s .voice))) ≡ false
 unfolding pedalHeld ofChannel release
-unmarked channel s = and-no (s .sounding && eqb (s .voice .channel) channel)
+unmarked channel s = and-false (s .sounding && eqb (s .voice .channel) channel)
 
 lift-is : (channel value : ℕ) (e : Engine) → channel ≤ 15 → value < 64 → controlChange channel 64 value e .engine
     ≡ withSlots (withChannel e channel (withPedal (channelAt e channel) value)) (map (letOff false (pedalHeld channel)) (slotsOf e))
@@ -62,18 +65,18 @@ lifts channel value e h k =
     record {
       all = λ i t. ap (λ (s : Slot). s .voice) (at i ∙ letOff-picked false (pedalHeld channel) (slotAt e i) t);
       none = λ i. ap (pedalHeld channel) (at i) ∙ no (slotAt e i) (pedalHeld channel (slotAt e i)) refl;
-      others = λ i t. at i ∙ letOff-left false (pedalHeld channel) (slotAt e i) t;
+      others = λ i t. at i ∙ off-keeps false (pedalHeld channel) (slotAt e i) t;
     }
   where
     at : (i : ℕ) → slotAt (controlChange channel 64 value e .engine) i ≡ letOff false (pedalHeld channel) (slotAt e i)
     at i =
         ap (λ (x : Engine). slotAt x i) (lift-is channel value e h k)
         ∙ slot-map e (withChannel e channel (withPedal (channelAt e channel) value)) (letOff false (pedalHeld channel)) i
-        (letOff-left false (pedalHeld channel) (free blank) (free-pedal channel blank))
+        (off-keeps false (pedalHeld channel) (free blank) (free-pedal channel blank))
 
     no : (s : Slot) (b : Bool) → pedalHeld channel s ≡ b → pedalHeld channel (letOff false (pedalHeld channel) s) ≡ false
     no s true t = ap (pedalHeld channel) (letOff-picked false (pedalHeld channel) s t) ∙ unmarked channel s
-    no s false t = ap (pedalHeld channel) (letOff-left false (pedalHeld channel) s t) ∙ t
+    no s false t = ap (pedalHeld channel) (off-keeps false (pedalHeld channel) s t) ∙ t
 
 pub zero-off : VelocityZeroIsNoteOff
 unfolding noteOn noteOff
@@ -97,25 +100,13 @@ set-down (y ∷ cs) zero (suc d) x h k = k
 set-down (y ∷ cs) (suc c) zero x h k = k
 set-down (y ∷ cs) (suc c) (suc d) x h k = set-down cs c d x h k
 
--- another channel
-pub set-apart : (cs : List Channel) (c d : ℕ) (x : Channel) → (d ≡ c → ⊥) → getD (set cs c x) d noChannel ≡ getD cs d noChannel
-set-apart [] c d x h = refl
-set-apart (y ∷ cs) zero zero x h = absurd (h refl)
-set-apart (y ∷ cs) zero (suc d) x h = refl
-set-apart (y ∷ cs) (suc c) zero x h = refl
-set-apart (y ∷ cs) (suc c) (suc d) x h = set-apart cs c d x (λ q. h (ap suc q))
-
 -- one of two, knowing the test
 when : {A : Type 0} (P : A → Type 0) (b : Bool) (x y : A) → (b ≡ true → P x) → P y → P (cond b x y)
 when P true x y h k = h refl
 when P false x y h k = k
 
 in-fifteen : (c n v : ℕ) → pastTwo c n v ≡ false → c ≤ 15
-in-fifteen c n v q = ltb-false 15 c (or-left (ltb 15 c) (ltb 127 n) (or-left (ltb 15 c || ltb 127 n) (ltb 127 v) q))
-  where
-    or-left : (a b : Bool) → (a || b) ≡ false → a ≡ false
-    or-left true b e = e
-    or-left false b e = refl
+in-fifteen c n v q = ltb-false 15 c (or-no (ltb 15 c) (ltb 127 n) (or-no (ltb 15 c || ltb 127 n) (ltb 127 v) q .0) .0)
 
 -- a call lifts the pedal of channel d
 pub record Lift (x : Call) (d : ℕ) : Type 0 where
@@ -125,6 +116,7 @@ pub record Lift (x : Call) (d : ℕ) : Type 0 where
   pub low : value < 64
 
 module _ (d : ℕ) (e : Engine) (down : pedalDown e d ≡ true) where
+  -- the pedal is still down
   abbrev Down : Engine → Type 0
   Down y = pedalDown y d ≡ true
 
@@ -152,7 +144,7 @@ module _ (d : ℕ) (e : Engine) (down : pedalDown e d ≡ true) where
       x = withPedal (channelAt e c) v
 
       by : (b : Bool) → ltb v 64 ≡ b → Down (cond b (withSlots (withChannel e c x) (map (letOff false (pedalHeld c)) (slotsOf e))) (withChannel e c x))
-      by true q = ap (λ (y : Channel). leb 64 (y .pedal)) (set-apart (e .channels) c d x (λ p. h (sym p) (ltb-true v 64 q))) ∙ down
+      by true q = ap (λ (y : Channel). leb 64 (y .pedal)) (getD-set-other (e .channels) c d x noChannel (λ p. h (sym p) (ltb-true v 64 q))) ∙ down
       by false q = set-down (e .channels) c d x (le-leb 64 v (ltb-false v 64 q)) down
 
   controls-down : (c n v : ℕ) → (c ≡ d → n ≡ 64 → v < 64 → ⊥) → Down (controlled c n v e)
@@ -192,20 +184,13 @@ module _ (d : ℕ) (e : Engine) (down : pedalDown e d ≡ true) where
 
 -- ---- held voices, by their parts
 
+-- what it is to be held by a key, test by test
 pub record Holds (c k : ℕ) (s : Slot) : Type 0 where
   pub sounding : s .sounding ≡ true
   pub channel : s .voice .channel ≡ c
   pub unreleased : released (s .voice .stage) ≡ false
   pub unmarked : s .voice .marked ≡ false
   pub key : s .voice .key ≡ k
-
-and-both : (a b : Bool) → (a && b) ≡ true → (a ≡ true) × (b ≡ true)
-and-both true b e = (refl, e)
-and-both false b e = absurd (never e)
-
-not-yes : (b : Bool) → not b ≡ true → b ≡ false
-not-yes true e = absurd (never e)
-not-yes false e = refl
 
 pub holds : (c k : ℕ) (s : Slot) → heldKey c k s ≡ true → Holds c k s
 unfolding heldKey held ofChannel
@@ -217,8 +202,8 @@ holds c k s h =
     record {
       sounding = f .0;
       channel = eqb-true (s .voice .channel) c (f .1);
-      unreleased = not-yes (released (s .voice .stage)) (d .1);
-      unmarked = not-yes (s .voice .marked) (b .1);
+      unreleased = not-true (released (s .voice .stage)) (d .1);
+      unmarked = not-true (s .voice .marked) (b .1);
       key = eqb-true (s .voice .key) k (a .1);
     }
 
@@ -230,12 +215,6 @@ hold-back c k s h =
 of-channel : (c : ℕ) (s : Slot) → ofChannel c s ≡ true → s .voice .channel ≡ c
 unfolding ofChannel
 of-channel c s h = eqb-true (s .voice .channel) c (and-both (s .sounding) (eqb (s .voice .channel) c) h .1)
-
-held-of : (c : ℕ) (s : Slot) → held c s ≡ true → ofChannel c s ≡ true
-unfolding held
-held-of c s h =
-    and-both (ofChannel c s) (not (released (s .voice .stage)))
-    (and-both (ofChannel c s && not (released (s .voice .stage))) (not (s .voice .marked)) h .0) .0
 
 -- a slot held after n frames was held before them
 held-before : (ch : Channel) (w : List ℤ) (n c k : ℕ) (s : Slot) → heldKey c k (after ch w n s) ≡ true → heldKey c k s ≡ true
@@ -255,6 +234,7 @@ held-before ch w n c k s h =
 
 -- ---- no voice is marked while its pedal is up
 
+-- so it is in a state
 abbrev Honest : Engine → Type 0
 Honest e = (i : ℕ) → slotAt e i .sounding ≡ true → voiceIn i e .marked ≡ true → pedalDown e (voiceIn i e .channel) ≡ true
 
@@ -277,7 +257,7 @@ was-down x e h i on m = by (what x e i)
     by (stands a n) = at s a (h i)
     by (pedalled a n l d) =
         at (withVoice s (mark (s .voice))) a
-        (λ o p. subst (λ (c : ℕ). pedalDown e c ≡ true) (sym (of-channel (channelOf x) s (held-of (channelOf x) s l))) d)
+        (λ o p. subst (λ (c : ℕ). pedalDown e c ≡ true) (sym (of-channel (channelOf x) s (held-channel (channelOf x) s l))) d)
     by (loosed a n c) = at (withVoice s (release (s .voice))) a (λ o p. absurd (never p))
     by (freed a n c) = at (free (s .voice)) a (λ o p. absurd (never o))
     by (started u a n f t) = at (sounds u) a (λ o p. absurd (never (sym (came x e u f .unmarked) ∙ p)))
@@ -311,6 +291,7 @@ no-mark xs = honest-run xs fresh (λ i on m. absurd (never (sym (fresh-free i) �
 -- ---- the October night
 
 module _ (c k : ℕ) where
+  -- no slot is held by the key
   abbrev Gone : Engine → Type 0
   Gone e = (i : ℕ) → heldKey c k (slotAt e i) ≡ false
 

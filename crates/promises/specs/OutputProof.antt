@@ -1,32 +1,27 @@
 -- Demand 2: the word, other channels, the output, and cuts of a render.
-use Prim.Native.Nat.{ℕ, zero, suc, _+_, _-_, _*_, _/_, _%_, _^_, _≤_, _<_}
+use Prim.Native.Nat.{ℕ, zero, suc, _+_, _-_, _*_, _%_, _^_, _≤_, _<_}
 use mathlib.Core.Path.{_≡_, refl, sym, ap, _∙_, subst}
 use mathlib.Core.Bool.{Bool, true, false, cond}
 use mathlib.Core.List.{List, [], _∷_, _++_, append-nil, append-assoc}
-use native.Mathlib.Nat.{pow-suc, pow-zero}
 use native.Mathlib.Omega.{arith}
 use borrow.Author.Tests.{leb-true, leb-false, eqb-true, eqb-false, ltb-true, ltb-false}
-use lib.Count.{ones, ones-step}
 use lib.Dec.{eqb, leb, ltb}
 use lib.Ieee.{Float}
 use lib.IntN.{ℤ, pos, negsuc}
-use lib.Signed.{ltZ}
 use lib.ListN.{length, getD, take, drop, length-append, length-drop}
-use lib.Seq.{take-at, drop-at, getD-at, getD-append-add, drop-length}
-use Rattle.arith.specs.Loops.{countIf}
+use lib.Seq.{take-at, drop-at, getD-at, getD-append-add, getD-set-other, drop-length}
+use Rattle.arith.specs.Clamp.{held-within}
 use Rattle.arith.specs.Over.{heldTo}
 use Rattle.arith.specs.Scaled.{unit-exact}
 use Rattle.arith.specs.Within.{Within, w-le}
 use Rattle.voice.specs.declared.Voice.{Voice}
 use Rattle.voice.specs.declared.Channel.{Channel}
-use Rattle.voice.specs.declared.Slot.{Slot}
-use Rattle.arith.specs.Clamp.{amid}
 use Rattle.voice.specs.Run.{after}
 use Rattle.engine.specs.declared.Engine.{Engine}
 use Rattle.engine.specs.declared.Answered.{Answered}
-use Rattle.engine.specs.State.{paired, slotAt, channelAt, withChannel, withClock, fresh}
+use Rattle.engine.specs.State.{slotAt, channelAt, withChannel, noChannel, withClock, fresh}
 use Rattle.engine.specs.Answers.{done, refused, answer, pastOne, pastTwo, pastBend}
-use Rattle.engine.specs.NoteOff.{held, off, offKey, noteOff}
+use Rattle.engine.specs.NoteOff.{off, offKey, noteOff}
 use Rattle.engine.specs.Channels.{withStored, withVolume, withExpression, withPedal, withProgram, withBend}
 use Rattle.engine.specs.Controls.{pedal, silence, controlled, controlChange}
 use Rattle.engine.specs.Program.{programChange}
@@ -35,38 +30,24 @@ use Rattle.engine.specs.Slots.{startIn}
 use Rattle.engine.specs.NoteOn.{Started, start, startAll, cleared, struck, layersOf, noteOnNumber, noteOn}
 use Rattle.engine.specs.Render.{distance, slotAfter, leftSum, rightSum, mixed, output, played, renderNumber, render, rendered}
 use Rattle.engine.specs.LentBank.{bankFrom}
+use Rattle.engine.specs.PanelAsk.{voiceCount}
+use Rattle.engine.specs.SeatLaws.{ones-voices as word-voices}
 use Rattle.promises.specs.Cuts.{played-cut, output-cut}
 use Rattle.promises.specs.Calls as Calls
 use Rattle.promises.specs.Calls.{does, written, next, run, channelOf}
 use Rattle.promises.specs.EachSlot.{What, stands, pedalled, loosed, freed, started, goes, never, either, what, held-channel}
-use Rattle.promises.specs.NightProof.{set-apart}
 use Rattle.promises.specs.SeatsProof.{sized-run}
 use Rattle.promises.specs.Demand1Proof.{render-numbers}
 use Rattle.promises.specs.Demand2.{OnesAreVoices, OtherVoicesStand, OtherChannelsStand, Fraction, OutputIsExact, CutsDoNotMatter}
 
 -- ---- the word
 
-word-ones : (w : ℕ) (vs : List Voice) → w < 2 ^ length vs → ones w ≡ countIf (λ (s : Slot). s .sounding) (paired w vs)
-unfolding paired ones
-word-ones w [] h = let z : w ≡ 0 = omega (arith, pow-zero 2) in ap ones z
-word-ones w (v ∷ vs) h =
-    let p = pow-suc 2 (length vs) in
-    let small : w / 2 < 2 ^ length vs = omega arith in
-    ones-step w ∙ by (w % 2) (omega arith) (word-ones (w / 2) vs small)
-  where
-    by : (b : ℕ) → b < 2 → ones (w / 2) ≡ countIf (λ (s : Slot). s .sounding) (paired (w / 2) vs) → b + ones (w / 2) ≡ cond (eqb b 1) 1 0 + countIf (λ (s : Slot). s .sounding) (paired (w / 2) vs)
-    by zero l r = ap (λ (n : ℕ). 0 + n) r
-    by (suc zero) l r = ap (λ (n : ℕ). 1 + n) r
-    by (suc (suc b)) l r = absurd (no b l)
-      where
-        no : (b : ℕ) → suc (suc b) < 2 → ⊥
-        no b l = omega arith
-
 pub ones-voices : OnesAreVoices
+unfolding voiceCount
 ones-voices xs =
     let e = run xs fresh in
     let z = sized-run xs in
-    word-ones (e .sounding) (e .voices) (subst (λ (n : ℕ). e .sounding < 2 ^ n) (sym (z .voices)) (z .word))
+    word-voices e (subst (λ (n : ℕ). e .sounding < 2 ^ n) (sym (z .voices)) (z .word))
 
 -- ---- other channels
 
@@ -83,6 +64,7 @@ others-stand x e i n o none = by (what x e i)
     by (goes ram rom a) = a ∙ ap (λ (m : ℕ). slotAfter ram rom e m (slotAt e i)) n
 
 module _ (d : ℕ) (e : Engine) where
+  -- channel d is as it was
   abbrev Same : Engine → Type 0
   Same y = channelAt y d ≡ channelAt e d
 
@@ -95,7 +77,7 @@ module _ (d : ℕ) (e : Engine) where
   layers (v ∷ vs) x h = layers vs (start v x) h
 
   apart : (c : ℕ) (x : Channel) → (d ≡ c → ⊥) → Same (withChannel e c x)
-  apart c x h = set-apart (e .channels) c d x h
+  apart c x h = getD-set-other (e .channels) c d x noChannel h
 
   controls : (c n v : ℕ) → (d ≡ c → ⊥) → Same (controlled c n v e)
   unfolding controlled pedal silence off
@@ -132,13 +114,8 @@ channels-stand (Calls.ask i) e d h = refl
 pub mixed-fraction : (z : ℤ) → Fraction (mixed z) z
 mixed-fraction z =
     let h = heldTo (negsuc 8388607) (pos 8388608) z in
-    let w : Within h 8388608 = held-in (ltZ z (negsuc 8388607)) refl (ltZ (pos 8388608) z) refl in
+    let w : Within h 8388608 = held-within z 8388607 in
     record { exact = unit-exact h (w-le w (omega arith)); within = w }
-  where
-    held-in : (a : Bool) → ltZ z (negsuc 8388607) ≡ a → (b : Bool) → ltZ (pos 8388608) z ≡ b → Within (cond a (negsuc 8388607) (cond b (pos 8388608) z)) 8388608
-    held-in true p b q = record { within = omega arith }
-    held-in false p true q = record { within = omega arith }
-    held-in false p false q = amid z 8388607 p q
 
 module _ (ram rom : List ℤ) (e : Engine) where
   pub out-length : (n : ℕ) → length (output ram rom e n) ≡ 2 * n

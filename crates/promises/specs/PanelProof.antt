@@ -1,19 +1,16 @@
 -- Demand 2: the panel's levels are exact.
-use Prim.Native.Nat.{ℕ, _≤_, _<_}
+use Prim.Native.Nat.{_<_}
 use mathlib.Core.Bool.{Bool, true, false, cond}
-use mathlib.Core.List.{List, [], _∷_}
-use mathlib.Core.Path.{_≡_, refl, sym, ap, subst}
+use mathlib.Core.List.{[]}
+use mathlib.Core.Path.{_≡_, refl}
 use native.Mathlib.Omega.{arith}
 use borrow.Author.Tests.{ltb-true}
 use lib.Dec.{ltb}
-use lib.Ieee.{Float}
 use Rattle.arith.specs.Scaled.{level-exact}
 use Rattle.curves.specs.BoundLaws.{gain-le}
 use Rattle.voice.specs.declared.Stage.{Stage}
 use Rattle.voice.specs.declared.Stage.the-variants.{Delay, Attack, Hold, Decay, Sustain, Release}
-use Rattle.voice.specs.declared.Shown.{Shown}
 use Rattle.voice.specs.declared.Shown.the-variants as is
-use Rattle.voice.specs.declared.Slot.{Slot}
 use Rattle.voice.specs.declared.Voice.{Voice}
 use Rattle.voice.specs.Bounds.{level-le}
 use Rattle.voice.specs.Panel.{stageShown, shown, levelsOf, stageParts, slotParts}

@@ -7,7 +7,6 @@ use mathlib.Core.Logic.{_⊎_, ⊎-elim, inl, inr}
 use native.Mathlib.Nat.{zero-add, zero-div, not-suc-le-zero, le-of-suc-le-suc}
 use native.Mathlib.Omega.{arith}
 use borrow.Author.Tests.{eqb-true, eqb-false, eq-eqb, ne-eqb, ltb-true, ltb-false, lt-ltb, le-ltb}
-use lib.Bits.{bitOr}
 use lib.Dec.{eqb, ltb}
 use lib.IntN.{ℤ}
 use lib.ListN.{length, getD, set}
@@ -36,7 +35,7 @@ use Rattle.promises.specs.Age.{Slots, Ordered, older, startedLast}
 use Rattle.promises.specs.AgeLaws.{renewed-ordered, renewed-older, order-slots}
 use Rattle.promises.specs.Calls as Calls
 use Rattle.promises.specs.Calls.{Call, does, next, run, voiceIn, begun, seats, startsIn, among, history}
-use Rattle.promises.specs.EachSlot.{Among, never, either, start-there, layered, cut-picked, cut-left}
+use Rattle.promises.specs.EachSlot.{Among, never, either, start-there, layered, cut-picked, cut-left, answerAt, seatsAt}
 use Rattle.promises.specs.Voices.{Everyone, from-fresh}
 use Rattle.promises.specs.Banks.{came}
 use Rattle.promises.specs.Demand1Proof.{note-on-numbers}
@@ -49,6 +48,7 @@ use Rattle.promises.specs.Demand2.{Sooner, let-go, softer, aged, RightSe
 abbrev Before : (ℕ → ℕ) → ℕ → List ℕ → ℕ → ℕ → Type 0
 Before f b xs r x = (f r < f x) ⊎ ((f r ≡ f x) × ((r ≡ b) ⊎ (older xs r x ≡ true)))
 
+-- r is the least of b and the list, and the first of those
 pub record Least (f : ℕ → ℕ) (b : ℕ) (xs : List ℕ) (r : ℕ) : Type 0 where
   pub below : f r ≤ f b
   pub first : (r ≡ b → ⊥) → f r < f b
@@ -316,12 +316,15 @@ sooner e i j vi vj h = by (released (voiceIn i e .stage)) refl (released (voiceI
     by false f false g (inr l) = aged (f ∙ sym g) (omega (arith, l .0)) (l .1)
 
 module _ (x : Started) (m : ℕ) (mid : Mid x m) (few : m < 32) where
+  -- the state between two layers
   abbrev eng : Engine
   eng = x .engine
 
+  -- the slot that the next layer takes
   abbrev here : ℕ
   here = seat (x .engine) (x .mine)
 
+  -- its order, read as slots, is the order itself
   abbrev orders : orderOf eng ≡ eng .order
   orders = order-slots (eng .order) (mid .ordered .slots)
 
@@ -417,10 +420,6 @@ start-slot v x h l =
     let n = slots-32 (x .engine) h in
     ap (λ (ss : List Slot). getD ss i (free blank)) (slots-back (set (slotsOf (x .engine)) i (sounds v)))
     ∙ getD-set-same (slotsOf (x .engine)) i (sounds v) (free blank) (omega arith)
-
-start-mine : (v : Voice) (x : Started) → start v x .mine ≡ bitOr (x .mine) (2 ^ seat (x .engine) (x .mine))
-unfolding start
-start-mine v x = refl
 
 start-order : (v : Voice) (x : Started) → Ordered (x .engine .order) → start v x .engine .order ≡ renewed (seat (x .engine) (x .mine)) (x .engine .order)
 unfolding start startIn
@@ -705,15 +704,8 @@ module _ (i j : ℕ) (li : i < 32) (lj : j < 32) (apart : i ≡ j → ⊥) where
       number : ℕ
       number = noteOnNumber (bankFrom b) ram rom c k v e
 
-      tells : (t z q : Bool) (n : ℕ) → Answered
-      tells t z q n =
-          cond (eqb (cond t 2 0) 0) (cond z (offKey c k e) (cond q (done (length vs) (struck c vs e .engine)) (refused n e))) (refused (cond t 2 0) e)
-
-      starts : (t z q : Bool) (n : ℕ) → List Voice
-      starts t z q n = cond (eqb (tells t z q n .status) 0) (cond z [] vs) []
-
       by : (t z q : Bool) (n : ℕ) → eqb n 0 ≡ q
-          → older (tells t z q n .engine .order) i j ≡ startedLast (seats (starts t z q n) (record { engine = cleared c (starts t z q n) e; mine = 0 })) i j (older (e .order) i j)
+          → older (answerAt c k vs e t z q n .engine .order) i j ≡ startedLast (seatsAt c k vs e t z q n) i j (older (e .order) i j)
       by true z q n r = refl
       by false true q n r = refl
       by false false true n r = layers-older vs (record { engine = cleared c vs e; mine = 0 }) h

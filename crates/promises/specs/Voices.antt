@@ -11,10 +11,10 @@ use Rattle.voice.specs.declared.Stage.{Stage}
 use Rattle.voice.specs.declared.Voice.{Voice}
 use Rattle.voice.specs.declared.Slot.{Slot}
 use Rattle.voice.specs.State.{withMoved, sounds, free, blank}
-use Rattle.voice.specs.Stages.{released}
 use Rattle.voice.specs.Release.{letGo, release}
 use Rattle.engine.specs.declared.Engine.{Engine}
 use Rattle.engine.specs.State.{paired, slotAt, channelAt, fresh}
+use Rattle.engine.specs.AnswerLaws.{or-no}
 use Rattle.engine.specs.NoteOff.{mark, withVoice}
 use Rattle.engine.specs.Render.{window, slotAfter}
 use Rattle.promises.specs.Calls.{Call, next, run, voiceIn, framesOf, frames, begun, startsIn, among, history}
@@ -79,15 +79,11 @@ from-fresh P k new xs = run-everyone P k new xs fresh (λ i on. absurd (never (s
 
 -- ---- a slot in which no voice is started
 
-or-parts : (a b : Bool) → (a || b) ≡ false → (a ≡ false) × (b ≡ false)
-or-parts true b e = absurd (never (sym e))
-or-parts false b e = (refl, e)
-
 pub among-parts : (i : ℕ) (xs ys : List ℕ) → among i (xs ++ ys) ≡ false → (among i xs ≡ false) × (among i ys ≡ false)
 unfolding among
 among-parts i [] ys e = (refl, e)
 among-parts i (x ∷ xs) ys e =
-    let p = or-parts (eqb x i) (among i (xs ++ ys)) e in
+    let p = or-no (eqb x i) (among i (xs ++ ys)) e in
     let q = among-parts i xs ys (p .1) in
     (ap (λ (b : Bool). b || among i xs) (p .0) ∙ q .0, q .1)
 

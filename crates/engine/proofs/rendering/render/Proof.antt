@@ -1,7 +1,7 @@
 -- Refused by its tests, else played, and the clock moved by wrapping addition.
 use mathlib.Core.Path.{sym, ap, _∙_, ap₂}
 use native.Mathlib.Omega.{arith}
-use Prim.Native.Nat.{ℕ, _+_, _*_, _<_}
+use Prim.Native.Nat.{ℕ, _*_, _<_}
 use mathlib.Core.List.{_++_}
 use borrow.Author.Tests.{eq-eqb, ne-eqb}
 use lib.Dec.{eqb}
