@@ -218,6 +218,7 @@ up-slots : (a n : ℕ) → a + n ≤ 32 → Slots (upFrom a n)
 up-slots a zero h = tt
 up-slots a (suc n) h = (omega arith, up-slots (a + 1) n (omega arith))
 
+-- the fresh order is an order
 pub fresh-ordered : Ordered (fresh .order)
 unfolding fresh
 fresh-ordered = record { length = refl; slots = up-slots 0 32 (omega arith); once = λ i h. up-once i 0 32 (omega arith) (omega arith) }
@@ -516,6 +517,7 @@ unfolding seats distinct
 seats-apart [] x r = refl
 seats-apart (v ∷ vs) x r = rw (not-again v vs x (r .1)) (seats-apart vs (start v x) (r .1))
 
+-- a slot for each layer
 pub seats-count : (vs : List Voice) (x : Started) → length (seats vs x) ≡ length vs
 unfolding seats
 seats-count [] x = refl
@@ -622,12 +624,15 @@ ordered-lasts =
       clock = λ e t h. h;
     }
 
+-- the order stays an order through any run
 pub ordered-run : (xs : List Call) → Ordered (run xs fresh .order)
 ordered-run xs = run-keeps (λ (e : Engine). Ordered (e .order)) ordered-lasts xs fresh fresh-ordered
 
+-- 32 slots through any run
 pub sized-run : (xs : List Call) → Sized (run xs fresh)
 sized-run xs = run-keeps Sized sized-lasts xs fresh fresh-sized
 
+-- layer by layer, from the state that the run has left
 pub by-the-rule : LayersByTheRule
 unfolding struck cleared cut
 by-the-rule xs b ram rom c k v p h =
@@ -755,6 +760,7 @@ fresh-older : (i j : ℕ) → i < 32 → j < 32 → (i ≡ j → ⊥) → older 
 unfolding fresh
 fresh-older i j li lj d = up-older i j 0 32 (omega arith) (omega arith) (omega arith) (omega arith) d
 
+-- start by start from the fresh order on
 pub order-age : OrderIsAge
 order-age xs = (
   ordered-run xs,
