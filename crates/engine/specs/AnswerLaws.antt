@@ -31,8 +31,10 @@ low channel h = omega (arith, ltb-false 15 channel h)
 pub one-low : (channel a : ℕ) → pastOne channel a ≡ false → channel < 16
 one-low channel a h = low channel (or-no (ltb 15 channel) (ltb 127 a) h .0)
 
+-- .. of three numbers
 pub two-low : (channel a b : ℕ) → pastTwo channel a b ≡ false → channel < 16
 two-low channel a b h = one-low channel a (or-no (pastOne channel a) (ltb 127 b) h .0)
 
+-- .. of a bend
 pub bend-low : (channel bend : ℕ) → pastBend channel bend ≡ false → channel < 16
 bend-low channel bend h = low channel (or-no (ltb 15 channel) (ltb 16383 bend) h .0)

@@ -60,10 +60,12 @@ module _ (b : List ℕ) (ram rom : List ℤ) (channel key velocity : ℕ) (e : E
   abbrev preset : Found
   preset = presetFor b (partsOf b) (bankOf e channel) (channelAt e channel .program)
 
+  -- a bank that is not admitted: 1
   pub answer-bad : admitted b ≡ false → bankAnswer (bankFrom b) ram rom channel key velocity e ≡ refused 1 e
   unfolding bankAnswer bankFrom noteOnNumber
   answer-bad h = simp h
 
+  -- no preset of the channel: 3
   pub answer-none : admitted b ≡ true → preset ≡ Nothing → bankAnswer (bankFrom b) ram rom channel key velocity e ≡ refused 3 e
   unfolding bankAnswer bankFrom noteOnNumber hasPreset
   answer-none h p = simp (h, p)
@@ -77,6 +79,7 @@ module _ (b : List ℕ) (ram rom : List ℤ) (channel key velocity : ℕ) (e : E
   unfolding hasPreset
   found-preset h p = ap isAt p
 
+  -- a preset is found: its layers answer
   pub answer-found : (h : ℕ) → admitted b ≡ true → preset ≡ At h
       → bankAnswer (bankFrom b) ram rom channel key velocity e
       ≡ layersAnswer ram rom channel (voicesOf b (partsOf b) h channel key velocity) e
@@ -91,10 +94,12 @@ pub few : (vs : List Voice) → length vs ≤ 32 → take (length vs) (struckOf 
 unfolding struckOf
 few vs h = rw (le-leb (length vs) 32 h) (take-at vs (replicate (32 - length vs) blank) (length vs) refl)
 
+-- how many they are, also where they are too many
 pub few-count : (s : Struck) (vs : List Voice) → s ≡ struckOf vs → s .count ≡ length vs
 unfolding struckOf
 few-count s vs e = ap (λ (x : Struck). x .count) e
 
+-- .. and the voices, by that count
 pub few-by : (s : Struck) (vs : List Voice) → s ≡ struckOf vs → s .count ≤ 32 → take (s .count) (s .voices) ≡ vs
 few-by s vs e h =
     ap₂ (λ (n : ℕ) (l : List Voice). take n l) (few-count s vs e) (ap (λ (x : Struck). x .voices) e) ∙ few vs (omega (arith, few-count s vs e))

@@ -63,10 +63,12 @@ lack-snoc ram rom (x ∷ ss) s =
     ap (λ (b : Bool). x .sounding && endsPast ram rom (x .voice) || b) (lack-snoc ram rom ss s)
     ∙ sym (or-assoc (x .sounding && endsPast ram rom (x .voice)) (lacking ram rom ss) (s .sounding && endsPast ram rom (s .voice)))
 
+-- before the first turn, and a turn
 pub lack-none : (ram rom : List ℤ) (ss : List Slot) → lacking ram rom (take 0 ss) ≡ false
 unfolding lacking
 lack-none ram rom ss = refl
 
+-- slot i is looked at
 pub lack-turn : (ram rom : List ℤ) (ss : List Slot) (i : ℕ) → i < length ss
     → lacking ram rom (take (i + 1) ss)
     ≡ (lacking ram rom (take i ss) || getD ss i (free blank) .sounding && endsPast ram rom (getD ss i (free blank) .voice))
@@ -86,16 +88,19 @@ module _ (c : Channel) (w : List ℤ) (n : ℕ) (s : Slot) (h : s .sounding ≡ 
   unfolding afterAt
   quiet = h
 
+  -- it stays
   pub free-after : after c w n s ≡ s
   free-after = once c w s n ∙ free-stays st l w n s h
 
   from-none : heard c w n s ≡ heardAt st l w (0 + n) s
   from-none = heard-once c w s n ∙ ap (λ (m : ℕ). heardAt st l w m s) (sym (zero-add n))
 
+  -- it adds nothing
   pub free-adds : (ys : List ℤ) → addTo (heard c w n s) ys ≡ ys
   unfolding heardAt
   free-adds ys = ap (λ (xs : List ℤ). addTo xs ys) from-none ∙ adds-nothing st l w 0 s quiet ys n ∙ addTo-none ys
 
+  -- its numbers are small, as those of a voice are
   pub free-small : Small 1 (heard c w n s)
   unfolding heardAt
   free-small = subst (Small 1) (sym from-none) (stays-small st l w 0 s quiet n small-none)
@@ -104,6 +109,7 @@ module _ (c : Channel) (w : List ℤ) (n : ℕ) (s : Slot) (h : s .sounding ≡ 
 abbrev pub slotHeard : List ℤ → List ℤ → Engine → ℕ → Slot → List ℤ
 slotHeard ram rom e n s = heard (channelAt e (s .voice .channel)) (window ram rom (s .voice)) n s
 
+-- .. also where a read past the last slot finds it
 pub slot-stays : (ram rom : List ℤ) (e : Engine) (n : ℕ) → slotAfter ram rom e n (free blank) ≡ free blank
 slot-stays ram rom e n = free-after (channelAt e 0) (window ram rom blank) n (free blank) refl
 
@@ -112,6 +118,7 @@ unfoldable pub addAll : (Slot → List ℤ) → List Slot → List ℤ → List 
 addAll f [] ys = ys
 addAll f (s ∷ ss) ys = addAll f ss (addTo (f s) ys)
 
+-- before the first turn, and a turn
 pub add-none : (f : Slot → List ℤ) (ss : List Slot) (ys : List ℤ) → addAll f (take 0 ss) ys ≡ ys
 unfolding addAll
 add-none f ss ys = refl
@@ -121,6 +128,7 @@ unfolding addAll
 add-snoc f [] s ys = refl
 add-snoc f (x ∷ ss) s ys = add-snoc f ss s (addTo (f x) ys)
 
+-- slot i is added
 pub add-turn : (f : Slot → List ℤ) (ss : List Slot) (i : ℕ) (ys : List ℤ) → i < length ss
     → addAll f (take (i + 1) ss) ys ≡ addTo (f (getD ss i (free blank))) (addAll f (take i ss) ys)
 add-turn f ss i ys h = rw (add-one, take-suc ss i (free blank) h) (add-snoc f (take i ss) (getD ss i (free blank)) ys)
@@ -145,6 +153,7 @@ add-at f v j long same (s ∷ ss) ys h =
 
 -- the numbers of a slot, frame by frame
 module _ (c : Channel) (w : List ℤ) (s : Slot) where
+  -- two numbers a frame
   pub long-heard : (n : ℕ) → length (heard c w n s) ≡ 2 * n
   long-heard n = ap length (heard-once c w s n) ∙ heard-length (step c (s .voice)) (loss c (s .voice)) w n s
 
@@ -155,6 +164,7 @@ module _ (c : Channel) (w : List ℤ) (s : Slot) where
       by true e = inl (ltb-true k n e)
       by false e = inr (omega (arith, ltb-false k n e))
 
+  -- number 2k is left of frame k
   pub heard-left : (n k : ℕ) → k < n → getD (heard c w n s) (2 * k) (pos 0) ≡ leftIn c w k s
   unfolding heard
   heard-left zero k h = absurd (not-suc-le-zero h)
@@ -164,6 +174,7 @@ module _ (c : Channel) (w : List ℤ) (s : Slot) where
       (λ (q : k ≡ n). rw q (getD-at (heard c w n s) _ _ (pos 0) (2 * n) (long-heard n)))
       (split k n h)
 
+  -- number 2k + 1 is right of frame k
   pub heard-right : (n k : ℕ) → k < n → getD (heard c w n s) (2 * k + 1) (pos 0) ≡ rightIn c w k s
   unfolding heard
   heard-right zero k h = absurd (not-suc-le-zero h)
@@ -184,15 +195,18 @@ unfoldable pub mixedTo : ℕ → List ℤ → List Float
 mixedTo zero xs = []
 mixedTo (suc n) xs = mixedTo n xs ++ (mixed (getD xs (2 * n) (pos 0)) ∷ mixed (getD xs (2 * n + 1) (pos 0)) ∷ [])
 
+-- before the first turn, and a turn
 pub mixed-none : (xs : List ℤ) → mixedTo 0 xs ≡ []
 unfolding mixedTo
 mixed-none xs = refl
 
+-- frame n is written
 pub mixed-turn : (n : ℕ) (xs : List ℤ)
     → mixedTo (n + 1) xs ≡ mixedTo n xs ++ (mixed (getD xs (2 * n) (pos 0)) ∷ mixed (getD xs (2 * n + 1) (pos 0)) ∷ [])
 unfolding mixedTo
 mixed-turn n xs = rw (add-one n)
 
+-- two numbers a frame
 pub mixed-length : (n : ℕ) (xs : List ℤ) → length (mixedTo n xs) ≡ 2 * n
 unfolding mixedTo
 mixed-length zero xs = refl
@@ -218,6 +232,7 @@ output-mixed ram rom e m ys g z (suc n) h =
     ap₂ (λ (p q : List Float). p ++ q) (output-mixed ram rom e m ys g z n (omega arith))
     (ap₂ (λ (a b : ℤ). mixed a ∷ mixed b ∷ []) left right)
 
+-- the sums that a render begins with
 pub zeros-at : (n k : ℕ) → getD (replicate n (pos 0)) k (pos 0) ≡ pos 0
 zeros-at zero k = refl
 zeros-at (suc n) zero = refl

@@ -45,6 +45,7 @@ pub least-none : (f : ℕ → ℕ) (b : ℕ) (xs : List ℕ) → leastBy f b (ta
 unfolding leastBy
 least-none f b xs = refl
 
+-- place k is looked at
 pub least-turn : (f : ℕ → ℕ) (b : ℕ) (xs : List ℕ) (k : ℕ) → k < length xs
     → leastBy f b (take (k + 1) xs) ≡ cond (ltb (f (getD xs k 0)) (f (leastBy f b (take k xs)))) (getD xs k 0) (leastBy f b (take k xs))
 least-turn f b xs k h = rw (add-one, take-suc xs k 0 h) (least-snoc f b (take k xs) (getD xs k 0))
@@ -54,6 +55,7 @@ unfoldable pub firstAt : ℕ → List ℕ → ℕ
 firstAt i [] = 0
 firstAt i (x ∷ xs) = cond (eqb x i) 0 (suc (firstAt i xs))
 
+-- it stands within the list, or behind it
 pub first-le : (i : ℕ) (xs : List ℕ) → firstAt i xs ≤ length xs
 unfolding firstAt
 first-le i [] = omega arith
@@ -74,6 +76,7 @@ first-here i (x ∷ xs) (suc k) h g e = by (λ q. first-here i xs k (le-of-suc-l
     by ih true g = absurd (not-suc-le-zero g)
     by ih false g = ap suc (ih (le-of-suc-le-suc g))
 
+-- it does not stand at k: it stands behind
 pub first-on : (i : ℕ) (xs : List ℕ) (k : ℕ) → k < length xs → k ≤ firstAt i xs → (getD xs k 0 ≡ i → ⊥) → suc k ≤ firstAt i xs
 unfolding firstAt
 first-on i [] k h g e = absurd (not-suc-le-zero h)
@@ -108,6 +111,7 @@ without-length i (x ∷ xs) = by (eqb x i) (without-length i xs)
     by true h = omega arith
     by false h = omega arith
 
+-- the renewed order is as long as the order
 pub renewed-length : (i : ℕ) (xs : List ℕ) → length xs ≡ 32 → length (renewed i xs) ≡ 32
 unfolding renewed
 renewed-length i xs n = simp (length-take, length-append) (omega (arith, without-length i xs))

@@ -35,6 +35,7 @@ paired-at w (v ∷ vs) (suc i) h = paired-at (w / 2) vs i (le-of-suc-le-suc h) �
     slot : Bool → Slot
     slot b = record { sounding = b; voice = getD vs i blank }
 
+-- as many slots as records
 pub paired-length : (w : ℕ) (vs : List Voice) → length (paired w vs) ≡ length vs
 unfolding paired
 paired-length w [] = refl
@@ -65,6 +66,7 @@ word-snoc (x ∷ ss) s = rw (word-snoc ss s) (by (cond (x .sounding) 1 0) (wordO
     by a w true = omega (arith, pow-suc 2 (length ss))
     by a w false = omega arith
 
+-- the word has no bit past the last slot
 pub word-lt : (ss : List Slot) → wordOf ss < 2 ^ length ss
 unfolding wordOf
 word-lt [] = omega (arith, pow-zero 2)
@@ -78,6 +80,7 @@ word-lt (s ∷ ss) = by (s .sounding) (word-lt ss)
 unfoldable pub wordTo : (Slot → Slot) → ℕ → List Slot → ℕ
 wordTo f i ss = wordOf (take i (map f ss))
 
+-- before the first turn
 pub word-none : (f : Slot → Slot) (ss : List Slot) → wordTo f 0 ss ≡ 0
 unfolding wordTo wordOf
 word-none f ss = refl
@@ -95,6 +98,7 @@ word-turn f ss i k h =
     ∙ ap (λ (j : ℕ). wordOf (take i (map f ss)) + cond (getD (map f ss) i (free blank) .sounding) (2 ^ j) 0) t
     ∙ ap (λ (s : Slot). wordOf (take i (map f ss)) + cond (s .sounding) (2 ^ i) 0) m)
 
+-- after i turns it has no bit past them, so adding a flag cannot carry
 pub word-to-lt : (f : Slot → Slot) (ss : List Slot) (i : ℕ) → i ≤ length ss → wordTo f i ss < 2 ^ i
 unfolding wordTo
 word-to-lt f ss i h =
@@ -132,6 +136,7 @@ abbrev pub withVoices : Engine → List Voice → Engine
 withVoices e vs =
     record { voices = vs; channels = e .channels; sounding = e .sounding; order = e .order; clock = e .clock }
 
+-- the records of the slots, one of them set
 pub voices-set : (ss : List Slot) (i : ℕ) (s : Slot) → voicesOf (set ss i s) ≡ set (voicesOf ss) i (s .voice)
 voices-set [] i s = refl
 voices-set (x ∷ ss) zero s = refl
@@ -174,6 +179,7 @@ cut-voice p s = by (p s)
     by true = refl
     by false = refl
 
+-- a free slot stays free under control 120
 pub cut-free : (channel : ℕ) (v : Voice) → cut (ofChannel channel) (free v) ≡ free v
 unfolding cut ofChannel
 cut-free channel v = refl

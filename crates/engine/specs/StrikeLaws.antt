@@ -30,10 +30,12 @@ past-snoc ram rom [] v = or-false (endsPast ram rom v)
 past-snoc ram rom (x ∷ vs) v =
     ap (λ (b : Bool). endsPast ram rom x || b) (past-snoc ram rom vs v) ∙ sym (or-assoc (endsPast ram rom x) (anyPast ram rom vs) (endsPast ram rom v))
 
+-- windows past their memories: before the first turn, and a turn
 pub past-none : (ram rom : List ℤ) (vs : List Voice) → anyPast ram rom (take 0 vs) ≡ false
 unfolding anyPast
 past-none ram rom vs = refl
 
+-- layer i is looked at
 pub past-turn : (ram rom : List ℤ) (vs : List Voice) (i : ℕ) → i < length vs
     → anyPast ram rom (take (i + 1) vs) ≡ (anyPast ram rom (take i vs) || endsPast ram rom (getD vs i blank))
 past-turn ram rom vs i h = rw (add-one, take-suc vs i blank h) (past-snoc ram rom (take i vs) (getD vs i blank))
@@ -48,10 +50,12 @@ class-snoc class [] v = or-false (sameClass class v)
 class-snoc class (x ∷ vs) v =
     ap (λ (b : Bool). sameClass class x || b) (class-snoc class vs v) ∙ sym (or-assoc (sameClass class x) (classIn class vs) (sameClass class v))
 
+-- classes: before the first turn, and a turn
 pub class-none : (class : ℕ) (vs : List Voice) → classIn class (take 0 vs) ≡ false
 unfolding classIn
 class-none class vs = refl
 
+-- layer i is looked at
 pub class-turn : (class : ℕ) (vs : List Voice) (i : ℕ) → i < length vs
     → classIn class (take (i + 1) vs) ≡ (classIn class (take i vs) || sameClass class (getD vs i blank))
 class-turn class vs i h = rw (add-one, take-suc vs i blank h) (class-snoc class (take i vs) (getD vs i blank))
@@ -66,9 +70,11 @@ unfolding startAll
 start-snoc [] v x = refl
 start-snoc (y ∷ vs) v x = start-snoc vs v (start y x)
 
+-- starts: before the first turn, and a turn
 pub start-none : (vs : List Voice) (x : Started) → startAll (take 0 vs) x ≡ x
 unfolding startAll
 start-none vs x = refl
 
+-- layer i is started
 pub start-turn : (vs : List Voice) (i : ℕ) (x : Started) → i < length vs → startAll (take (i + 1) vs) x ≡ start (getD vs i blank) (startAll (take i vs) x)
 start-turn vs i x h = rw (add-one, take-suc vs i blank h) (start-snoc (take i vs) (getD vs i blank) x)

@@ -11,12 +11,14 @@ use Rattle.engine.specs.NoteOff.{ofChannel, held, heldKey, letOff}
 use Rattle.engine.specs.Controls.{pedalHeld}
 use Rattle.engine.specs.Whom.{picked}
 
+-- a free slot is never picked
 pub picked-free : (channel : ℕ) (whom : Whom) (v : Voice) → picked channel whom (free v) ≡ false
 unfolding ofChannel held heldKey pedalHeld
 picked-free channel (Key key) v = refl
 picked-free channel Every v = refl
 picked-free channel Marked v = refl
 
+-- what is not picked stays
 pub off-keeps : (down : Bool) (picks : Slot → Bool) (s : Slot) → picks s ≡ false → letOff down picks s ≡ s
 unfolding letOff
 off-keeps down picks s h = simp h

@@ -76,6 +76,7 @@ renewed-is x o l h =
     let q = without-length x o (omega (arith, h .once x l)) in
     whole 32 (without x o ++ (x ∷ [])) (simp length-append (omega (arith, h .length)))
 
+-- an order stays an order
 pub renewed-ordered : (x : ℕ) (o : List ℕ) → x < 32 → Ordered o → Ordered (renewed x o)
 renewed-ordered x o l h =
     let q = h .once x l in
@@ -87,6 +88,7 @@ renewed-ordered x o l h =
 
 -- ---- entries are slots
 
+-- so reading them as slots changes nothing
 pub order-slots : (o : List ℕ) → Slots o → map (λ (i : ℕ). i % 32) o ≡ o
 order-slots [] h = refl
 order-slots (x ∷ o) h = rw (mod-eq-of-lt (h .0)) (ap (_∷_ x) (order-slots o (h .1)))

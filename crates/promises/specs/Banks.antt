@@ -51,6 +51,7 @@ pub record Came (x : Call) (u : Voice) : Type 0 where
   pub unmarked : u .marked ≡ false
   pub struck : strikes (u .channel) (u .key) x ≡ true
 
+-- each of them, by its bank and its call
 pub came : (x : Call) (e : Engine) (u : Voice) → Among u (begun x e) → Came x u
 came (Calls.noteOn b ram rom c k v) e u a = by (eqb status 0) refl (eqb v 0) refl a
   where

@@ -32,6 +32,7 @@ use Rattle.engine.specs.NoteOff.{mark, withVoice}
 use Rattle.engine.specs.Render.{window, slotAfter}
 use Rattle.promises.specs.Calls.{Call, next, run, voiceIn, framesOf, frames}
 use Rattle.promises.specs.EachSlot.{What, stands, pedalled, loosed, freed, started, goes, never, what}
+use Rattle.promises.specs.Demand2Proof.{let-go}
 use Rattle.promises.specs.Banks.{came}
 use Rattle.promises.specs.Voices.{from-fresh}
 use Rattle.promises.specs.Demand3.{centsIn, Keeps, KeepsAll, Exponent, PlaceHolds, RatesHold, PlaceHoldsAlways}
@@ -57,18 +58,18 @@ still v st h = record { stage = v .stage; at = v .place; mark = v .marked; is = 
 marked-on : (v : Voice) (st : ℕ) → past (v .stage) ≡ true → On v (mark v) st 0
 marked-on v st h = record { stage = v .stage; at = v .place; mark = true; is = refl; past = h; kept = λ e. e; place = λ h. refl }
 
-let-past : (v : Voice) (s : Stage) → (past (letGo v s) ≡ true) × (released (letGo v s) ≡ true)
-let-past v (Delay left) = (refl, refl)
-let-past v (Attack t) = (refl, refl)
-let-past v (Hold t) = (refl, refl)
-let-past v (Decay t) = (refl, refl)
-let-past v Sustain = (refl, refl)
-let-past v (Release a t) = (refl, refl)
+let-past : (v : Voice) (s : Stage) → past (letGo v s) ≡ true
+let-past v (Delay left) = refl
+let-past v (Attack t) = refl
+let-past v (Hold t) = refl
+let-past v (Decay t) = refl
+let-past v Sustain = refl
+let-past v (Release a t) = refl
 
 released-on : (v : Voice) (st : ℕ) → On v (release v) st 0
 unfolding release
 released-on v st =
-    record { stage = letGo v (v .stage); at = v .place; mark = false; is = refl; past = let-past v (v .stage) .0; kept = λ e. let-past v (v .stage) .1; place = λ h. refl }
+    record { stage = letGo v (v .stage); at = v .place; mark = false; is = refl; past = let-past v (v .stage); kept = λ e. let-go v (v .stage); place = λ h. refl }
 
 -- ---- runs add up
 
@@ -112,6 +113,7 @@ join v s p m t st a b k q o =
         f (λ e. h e ∙ sym (j e)) ∙ same-settled v s p (p + suc b * st) m j
         ∙ ap (λ (x : ℕ). settled v (v .stage) (x + suc b * st)) (q j) ∙ place-add st v a b
 
+-- a frames, and then b
 pub on-on : {v u t : Voice} (st a b : ℕ) → On v u st a → On u t st b → On v t st (a + b)
 on-on {v} {u} {t} st a b o r =
     join v (o .stage) (o .at) (o .mark) t st a b (o .kept) (o .place) (subst (λ (x : Voice). On x t st b) (o .is) r)
@@ -231,6 +233,7 @@ place-of v u st (suc n) o h k =
     ap (λ (x : Voice). x .place) (o .is) ∙ o .place j
     ∙ ap (λ (b : Bool). cond b (folded v (v .place + suc n * st)) (v .place + suc n * st)) (sym f)
 
+-- the run as a whole, and the bounds of its step
 pub place-holds : PlaceHolds
 place-holds i c xs e on h rate n m k =
     let st = stepOf (lifted c) (voiceIn i e .rate) in
@@ -242,11 +245,13 @@ place-holds i c xs e on h rate n m k =
       below = near .below;
     }
 
+-- every voice that is started has such a rate, and no movement changes it
 pub rates-hold : RatesHold
 rates-hold before =
     from-fresh (λ (v : Voice). (400 ≤ v .rate) × (v .rate ≤ 50000)) (λ v g p m h. h)
     (λ x e u f. let g = came x e u f in (g .rate-low, g .rate-high)) before
 
+-- the two together
 pub place-always : PlaceHoldsAlways
 place-always before i c xs on h n m k = place-holds i c xs (run before fresh) on h (rates-hold before i on) n m k
 
@@ -266,6 +271,7 @@ exponent-of k = by (ltZ k (negsuc 9599)) refl (ltZ (pos 4800) k) refl
     by false p true r = refl
     by false p false r = inside k p
 
+-- a pitch total is held, so it stands above -28,800
 pub exponent : Exponent
 unfolding pitchTotal
 exponent i e = exponent-of (voiceIn i e .pitch +ℤ bendCents (channelAt e (voiceIn i e .channel) .bend))

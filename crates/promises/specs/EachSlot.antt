@@ -40,14 +40,17 @@ Among v (u ∷ us) = (u ≡ v) ⊎ Among v us
 
 -- ---- tests of slots that are picked, and slots that are not
 
+-- let go
 pub letOff-picked : (down : Bool) (p : Slot → Bool) (s : Slot) → p s ≡ true → letOff down p s ≡ withVoice s (cond down (mark (s .voice)) (release (s .voice)))
 unfolding letOff
 letOff-picked down p s e = simp e
 
+-- freed
 pub cut-picked : (p : Slot → Bool) (s : Slot) → p s ≡ true → cut p s ≡ free (s .voice)
 unfolding cut
 cut-picked p s e = simp e
 
+-- left as it was
 pub cut-left : (p : Slot → Bool) (s : Slot) → p s ≡ false → cut p s ≡ s
 unfolding cut
 cut-left p s e = simp e
@@ -82,6 +85,7 @@ pub start-there : (v : Voice) (x : Started) (i : ℕ) → (i ≡ seat (x .engine
 unfolding start startIn
 start-there v x i h = slot-other (x .engine) (x .engine) (seat (x .engine) (x .mine)) i (sounds v) h
 
+-- slot i after all layers: as it was, or with the voice of one of them
 pub layered : (vs : List Voice) (x : Started) (i : ℕ)
     → (slotAt (startAll vs x .engine) i ≡ slotAt (x .engine) i) ⊎ Placed i vs x (slotAt (startAll vs x .engine) i)
 unfolding startAll seats among
@@ -134,6 +138,7 @@ pub and-both : (a b : Bool) → (a && b) ≡ true → (a ≡ true) × (b ≡ tru
 and-both true b e = (refl, e)
 and-both false b e = absurd (never e)
 
+-- what is held is of the channel
 pub held-channel : (c : ℕ) (s : Slot) → held c s ≡ true → ofChannel c s ≡ true
 unfolding held
 held-channel c s h =
@@ -277,6 +282,7 @@ render-to to ram rom out e i = by (eqb (renderNumber to ram rom (length out) e) 
     by true h = goes ram rom (slot-map e e (slotAfter ram rom e d) i (slot-stays ram rom e d))
     by false h = stands refl (ap (λ (t : Bool). cond t d 0) h)
 
+-- every call
 pub what : (x : Call) (e : Engine) (i : ℕ) → What x e i
 unfolding noteOff controlChange programChange pitchBend
 what (Calls.noteOn b ram rom c k v) e i = note-on-to b ram rom c k v e i

@@ -60,6 +60,7 @@ module _ (P : Engine → Type 0) (l : Lasting P) where
   unfolding offKey off
   lets c k e h = l .slots e (letOff (pedalDown e c) (heldKey c k)) h
 
+  -- a call
   pub call-keeps : (x : Call) (e : Engine) → P e → P (next x e)
   unfolding noteOn noteOff controlChange programChange pitchBend render struck cleared played
   call-keeps (Calls.noteOn b ram rom c k v) e h =
@@ -82,6 +83,7 @@ module _ (P : Engine → Type 0) (l : Lasting P) where
       (l .clock (played ram rom d e) to (l .slots e (slotAfter ram rom e d) h))
   call-keeps (Calls.ask i) e h = h
 
+  -- a run
   pub run-keeps : (xs : List Call) (e : Engine) → P e → P (run xs e)
   unfolding run
   run-keeps [] e h = h
@@ -104,9 +106,11 @@ resized e ss q h =
       word = subst (λ (n : ℕ). wordOf ss < 2 ^ n) q (word-lt ss);
     }
 
+-- its slots are 32
 pub slots-32 : (e : Engine) → Sized e → length (slotsOf e) ≡ 32
 slots-32 e h = paired-length (e .sounding) (e .voices) ∙ h .voices
 
+-- no part of a call changes it
 pub sized-lasts : Lasting Sized
 unfolding startIn
 sized-lasts =
@@ -119,6 +123,7 @@ sized-lasts =
       clock = λ e t h. record { voices = h .voices; channels = h .channels; word = h .word };
     }
 
+-- it is so at first
 pub fresh-sized : Sized fresh
 unfolding fresh
 fresh-sized = record { voices = length-replicate 32 blank; channels = length-replicate 16 freshChannel; word = omega arith }

@@ -60,6 +60,7 @@ lift-is channel value e h k =
     let low : value ≤ 127 = omega arith in
     simp (le-ltb 15 channel h, le-ltb 127 value low, lt-ltb value 64 k)
 
+-- slot by slot
 pub lifts : LiftingReleases
 lifts channel value e h k =
     record {
@@ -78,6 +79,7 @@ lifts channel value e h k =
     no s true t = ap (pedalHeld channel) (letOff-picked false (pedalHeld channel) s t) ∙ unmarked channel s
     no s false t = ap (pedalHeld channel) (off-keeps false (pedalHeld channel) s t) ∙ t
 
+-- velocity 0 is tested before the bank is looked at
 pub zero-off : VelocityZeroIsNoteOff
 unfolding noteOn noteOff
 zero-off b ram rom channel key e h k = simp (le-ltb 15 channel h, le-ltb 127 key k)
@@ -192,6 +194,7 @@ pub record Holds (c k : ℕ) (s : Slot) : Type 0 where
   pub unmarked : s .voice .marked ≡ false
   pub key : s .voice .key ≡ k
 
+-- .. of the one test
 pub holds : (c k : ℕ) (s : Slot) → heldKey c k s ≡ true → Holds c k s
 unfolding heldKey held ofChannel
 holds c k s h =
@@ -207,6 +210,7 @@ holds c k s h =
       key = eqb-true (s .voice .key) k (a .1);
     }
 
+-- .. and back
 pub hold-back : (c k : ℕ) (s : Slot) → Holds c k s → heldKey c k s ≡ true
 unfolding heldKey held ofChannel
 hold-back c k s h =
@@ -285,6 +289,7 @@ unfolding run
 honest-run [] e h = h
 honest-run (x ∷ xs) e h = honest-run xs (next x e) (honest-call x e h)
 
+-- it is so at first, and no call breaks it
 pub no-mark : NoMarkWithoutPedal
 no-mark xs = honest-run xs fresh (λ i on m. absurd (never (sym (fresh-free i) ∙ on)))
 
@@ -389,6 +394,7 @@ unfolding struckAfter
 overlap-piece quiet c k = refl
 overlap-piece (more p o m) c k = mixed c k m false false false (λ e. absurd (never e)) (p c k) (overlap-piece o c k)
 
+-- no key of the night is still held, and no voice is marked
 pub october : OctoberNight
 october night o up i on =
     let e = run night fresh in

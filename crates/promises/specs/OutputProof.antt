@@ -42,6 +42,7 @@ use Rattle.promises.specs.Demand2.{OnesAreVoices, OtherVoicesStand, Othe
 
 -- ---- the word
 
+-- by the law of the word
 pub ones-voices : OnesAreVoices
 unfolding voiceCount
 ones-voices xs =
@@ -51,6 +52,7 @@ ones-voices xs =
 
 -- ---- other channels
 
+-- by what a call does to a slot: only voices of its channel are let go or freed
 pub others-stand : OtherVoicesStand
 unfolding after
 others-stand x e i n o none = by (what x e i)
@@ -89,6 +91,7 @@ module _ (d : ℕ) (e : Engine) where
       (either Same (eqb n 120) _ _ refl
       (either Same (eqb n 123) _ _ refl refl)))))
 
+-- call by call: only its own channel is set
 pub channels-stand : OtherChannelsStand
 unfolding noteOn noteOff offKey off controlChange programChange pitchBend render struck cleared played
 channels-stand (Calls.noteOn b ram rom c k v) e d h =
@@ -118,6 +121,7 @@ mixed-fraction z =
     record { exact = unit-exact h (w-le w (omega arith)); within = w }
 
 module _ (ram rom : List ℤ) (e : Engine) where
+  -- two numbers a frame
   pub out-length : (n : ℕ) → length (output ram rom e n) ≡ 2 * n
   unfolding output
   out-length zero = refl
@@ -188,6 +192,7 @@ done-state to ram rom out e h = by (eqb number 0) refl h
     by true q k = refl
     by false q k = absurd (eqb-false number 0 q k)
 
+-- number by number of what is written
 pub exact : OutputIsExact
 exact to ram rom out e none h =
     let n = distance e to in
@@ -252,6 +257,7 @@ add-up e a b h k l y q s = rw q (sum (e .clock) h (rw q at s))
         each x y i j true p = up x y j p
         each x y i j false p = down x y i p
 
+-- the first output in front of the second; the state by the slots
 pub cuts : CutsDoNotMatter
 cuts mid to ram rom out more all e hc hm ht size one two few =
     let m = distance e mid in

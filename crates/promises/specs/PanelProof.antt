@@ -33,6 +33,7 @@ slot-exact : (b : Bool) (v : Voice) → Levels (cond b (stageParts v (v .stage))
 slot-exact true v = stage-exact v (v .stage)
 slot-exact false v = tt
 
+-- the slot that is asked for
 pub panel-exact : PanelIsExact
 unfolding ask shown
 panel-exact i e h = inside (ltb 31 i) refl

@@ -23,13 +23,14 @@ use Rattle.engine.specs.State.{slotAt, slotsOf, withSlots, channelAt, withChann
 use Rattle.engine.specs.StateLaws.{slots-back, slot-map}
 use Rattle.engine.specs.Slots.{lowestFree, orderOf, claim, leastBy, taken, seat, renewed, startIn}
 use Rattle.engine.specs.Answers.{done, refused, answer, pastOne, pastTwo, pastBend}
-use Rattle.engine.specs.NoteOff.{ofChannel, off, offKey, noteOff}
+use Rattle.engine.specs.NoteOff.{off, offKey, noteOff}
 use Rattle.engine.specs.Channels.{withProgram, withBend}
 use Rattle.engine.specs.Program.{programChange}
 use Rattle.engine.specs.Bend.{pitchBend}
 use Rattle.engine.specs.Render.{distance, played, renderNumber, render}
 use Rattle.engine.specs.Controls.{cut, pedal, silence, controlled, controlChange}
 use Rattle.engine.specs.NoteOn.{Started, start, startAll, cleared, rival, struck, layersOf, noteOnNumber, noteOn}
+use Rattle.engine.specs.StrikeLaws.{rival-free}
 use Rattle.engine.specs.LentBank.{bankFrom}
 use Rattle.promises.specs.Age.{Slots, Ordered, older, startedLast}
 use Rattle.promises.specs.AgeLaws.{renewed-ordered, renewed-older, order-slots}
@@ -218,6 +219,7 @@ up-slots : (a n : ℕ) → a + n ≤ 32 → Slots (upFrom a n)
 up-slots a zero h = tt
 up-slots a (suc n) h = (omega arith, up-slots (a + 1) n (omega arith))
 
+-- the fresh order is an order
 pub fresh-ordered : Ordered (fresh .order)
 unfolding fresh
 fresh-ordered = record { length = refl; slots = up-slots 0 32 (omega arith); once = λ i h. up-once i 0 32 (omega arith) (omega arith) }
@@ -516,6 +518,7 @@ unfolding seats distinct
 seats-apart [] x r = refl
 seats-apart (v ∷ vs) x r = rw (not-again v vs x (r .1)) (seats-apart vs (start v x) (r .1))
 
+-- a slot for each layer
 pub seats-count : (vs : List Voice) (x : Started) → length (seats vs x) ≡ length vs
 unfolding seats
 seats-count [] x = refl
@@ -534,10 +537,6 @@ layers-each (v ∷ vs) x m mid s r zero h =
 layers-each (v ∷ vs) x m mid s r (suc j) h = layers-each vs (start v x) (m + 1) (start-mid v x m mid (r .0) (s .0)) (s .1) (r .1) j (le-of-suc-le-suc h)
 
 -- ---- a note-on
-
-rival-free : (c : ℕ) (vs : List Voice) (v : Voice) → rival c vs (free v) ≡ false
-unfolding rival ofChannel
-rival-free c vs v = refl
 
 -- before the first layer
 begin : (e : Engine) (c : ℕ) (vs : List Voice) → Sized e → Ordered (e .order) → Everyone (λ (v : Voice). v .velocity ≤ 127) e → Mid (record { engine = cleared c vs e; mine = 0 }) 0
@@ -563,7 +562,7 @@ begin e c vs z o soft =
 
     quiet : (j : ℕ) → slotAt (withSlots e (map (cut (rival c vs)) (slotsOf e))) j .sounding ≡ true → voiceIn j (withSlots e (map (cut (rival c vs)) (slotsOf e))) .velocity ≤ 127
     quiet j on =
-        let at = slot-map e e (cut (rival c vs)) j (cut-left (rival c vs) (free blank) (rival-free c vs blank)) in
+        let at = slot-map e e (cut (rival c vs)) j (rival-free c vs blank) in
         subst (λ (s : Slot). s .voice .velocity ≤ 127) (sym at) (by (rival c vs (slotAt e j)) refl (sym (ap (λ (s : Slot). s .sounding) at) ∙ on))
       where
         by : (b : Bool) → rival c vs (slotAt e j) ≡ b → cut (rival c vs) (slotAt e j) .sounding ≡ true → cut (rival c vs) (slotAt e j) .voice .velocity ≤ 127
@@ -622,12 +621,15 @@ ordered-lasts =
       clock = λ e t h. h;
     }
 
+-- the order stays an order through any run
 pub ordered-run : (xs : List Call) → Ordered (run xs fresh .order)
 ordered-run xs = run-keeps (λ (e : Engine). Ordered (e .order)) ordered-lasts xs fresh fresh-ordered
 
+-- 32 slots through any run
 pub sized-run : (xs : List Call) → Sized (run xs fresh)
 sized-run xs = run-keeps Sized sized-lasts xs fresh fresh-sized
 
+-- layer by layer, from the state that the run has left
 pub by-the-rule : LayersByTheRule
 unfolding struck cleared cut
 by-the-rule xs b ram rom c k v p h =
@@ -651,7 +653,7 @@ by-the-rule xs b ram rom c k v p h =
         each = λ j l. ap (λ (y : Engine). slotAt y (getD (seats vs first) j 0)) after ∙ layers-each vs first 0 mid soft right j l;
         others = λ i a.
             ap (λ (y : Engine). slotAt y i) after ∙ layers-there vs first i a
-            ∙ slot-map e e (cut (rival c vs)) i (cut-left (rival c vs) (free blank) (rival-free c vs blank));
+            ∙ slot-map e e (cut (rival c vs)) i (rival-free c vs blank);
       },
     )
   where
@@ -755,6 +757,7 @@ fresh-older : (i j : ℕ) → i < 32 → j < 32 → (i ≡ j → ⊥) → older 
 unfolding fresh
 fresh-older i j li lj d = up-older i j 0 32 (omega arith) (omega arith) (omega arith) (omega arith) d
 
+-- start by start from the fresh order on
 pub order-age : OrderIsAge
 order-age xs = (
   ordered-run xs,

@@ -74,11 +74,13 @@ fresh-free i = silent (replicate 32 blank) i
     silent (v ∷ vs) zero = refl
     silent (v ∷ vs) (suc i) = silent vs i
 
+-- a run from the fresh state: what every started voice has, every voice that sounds has
 pub from-fresh : (P : Voice → Type 0) → Fixed P → ((x : Call) (e : Engine) (u : Voice) → Among u (begun x e) → P u) → (xs : List Call) → Everyone P (run xs fresh)
 from-fresh P k new xs = run-everyone P k new xs fresh (λ i on. absurd (never (sym (fresh-free i) ∙ on)))
 
 -- ---- a slot in which no voice is started
 
+-- in neither part of a history
 pub among-parts : (i : ℕ) (xs ys : List ℕ) → among i (xs ++ ys) ≡ false → (among i xs ≡ false) × (among i ys ≡ false)
 unfolding among
 among-parts i [] ys e = (refl, e)
@@ -160,6 +162,7 @@ late-run (x ∷ xs) e i f none on k =
     subst (λ (m : ℕ). Late m (voiceIn i (run xs (next x e)))) q
     (late-run xs (next x e) i (f + framesOf x e) (p .1) on (late-call x e i f (p .0) (run-sounded xs (next x e) i (p .1) on) k))
 
+-- a voice that still sounds is released for as many frames as were rendered, and its release is shorter
 pub free-in-time : FreeInTime
 free-in-time i xs e h none n = by (slotAt (run xs e) i .sounding) refl
   where
