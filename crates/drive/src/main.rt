@@ -1,8 +1,8 @@
 // Plays a case file from standard input and writes its trace to standard output.
-mod asking; // asking.rt: the calls that leave the state as it is
-mod calls; // calls.rt: the calls that answer a count
-mod rendering; // rendering.rt: render
-mod trace; // trace.rt: the state at a line's end
+mod asking;
+mod calls;
+mod rendering;
+mod trace;
 
 use cases::Command;
 use cases::Lent;

@@ -16,6 +16,7 @@ fn has_as(b: &[u8], s: Side, z: Zone, n: u32, o: u16) -> bool
     false
 }
 
+// The amount of generator g as a range, the low byte first.
 fn range_at(b: &[u8], s: Side, g: usize) -> Range
     requires { ⌜ g ≤ 8589934592 ⌝ }
     ensures { λ r. ⌜ r ≡ rangeAt (now (b .entry)) s g ⌝ }
@@ -27,6 +28,7 @@ fn range_at(b: &[u8], s: Side, g: usize) -> Range
     }
 }
 
+// Whether a key or velocity is in a range.
 fn inside(r: Range, x: u8) -> bool
     ensures { λ t. ⌜ t ≡ inside r x ⌝ }
 {

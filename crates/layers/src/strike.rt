@@ -3,7 +3,7 @@ ghost use mathlib.Core.Path.{_≡_};
 ghost use Rattle.curves.specs.Octaves.{octaves};
 ghost use Rattle.voice.specs.State.{blank};
 ghost use Rattle.layers.specs.Layers.{layerOf};
-ghost use Rattle.layers.specs.VoiceOf.{voiceBy, voiceOf, struckOf, voicesOf};
+ghost use Rattle.layers.specs.VoiceOf.{voiceBy, struckOf, voicesOf};
 use crate::Pair;
 use crate::Struck;
 use crate::layer_search::search;

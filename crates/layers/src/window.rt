@@ -50,6 +50,7 @@ pub fn gap(low: u32, high: u32) -> u32
     0
 }
 
+// The mode as it is played: 2 counts as 0.
 fn play(mode: u64) -> u8
     requires { ⌜ mode < 4 ⌝ }
     ensures { λ r. ⌜ r ≡ playMode mode ⌝ }

@@ -10,6 +10,7 @@ pub fn print_signed(n: i32) {
     print_decimal(1, cases::magnitude(n));
 }
 
+// A line of a number that is not below 0.
 pub fn line(name: &[u8], n: i32, value: u32) {
     write_all(1, name);
     print_signed(n);
@@ -18,6 +19,7 @@ pub fn line(name: &[u8], n: i32, value: u32) {
     write_all(1, b"\n");
 }
 
+// A line of a number that may be below 0.
 pub fn signed_line(name: &[u8], n: u16, value: i32) {
     write_all(1, name);
     print_decimal(1, n as u64);

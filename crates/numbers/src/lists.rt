@@ -70,6 +70,7 @@ const LEVELS: [u32; 11] = [
 
 const BENDS: [u16; 6] = [0, 1, 8191, 8192, 8193, 16383];
 
+// The sample rates that are tried.
 pub fn rate_at(i: usize) -> u16
     requires { ⌜ i < 10 ⌝ }
 {

@@ -11,6 +11,7 @@ use crate::lists::level_at;
 use crate::lists::rate_at;
 use crate::lists::time_at;
 
+// The step of a pitch at a rate.
 fn step_line(t: &[u32; 1200], cents: i32, rate: u16)
     requires { ⌜ now t ≡ octaves ⌝ }
 {
@@ -19,6 +20,7 @@ fn step_line(t: &[u32; 1200], cents: i32, rate: u16)
     line(b" ", rate as i32, curves::step(t, cents, rate));
 }
 
+// The steps of a pitch at each rate.
 fn steps_at(t: &[u32; 1200], cents: i32)
     requires { ⌜ now t ≡ octaves ⌝ }
 {
@@ -29,6 +31,7 @@ fn steps_at(t: &[u32; 1200], cents: i32)
     }
 }
 
+// The steps of each pitch.
 pub fn steps(t: &[u32; 1200])
     requires { ⌜ now t ≡ octaves ⌝ }
 {
@@ -39,6 +42,7 @@ pub fn steps(t: &[u32; 1200])
     }
 }
 
+// The frames of a time, with either upper hold.
 fn time_lines(t: &[u32; 1200], time: i32)
     requires { ⌜ now t ≡ octaves ⌝ }
 {
@@ -46,6 +50,7 @@ fn time_lines(t: &[u32; 1200], time: i32)
     line(b"frames5000 ", time, curves::short_frames(t, time));
 }
 
+// The frames of each time.
 pub fn times(t: &[u32; 1200])
     requires { ⌜ now t ≡ octaves ⌝ }
 {
@@ -56,6 +61,7 @@ pub fn times(t: &[u32; 1200])
     }
 }
 
+// The gains, and five past the last.
 pub fn gains(g: &[u32; 1441])
     requires { ⌜ now g ≡ gains ⌝ }
 {
@@ -66,6 +72,7 @@ pub fn gains(g: &[u32; 1441])
     }
 }
 
+// The attenuation of each velocity or control from the first on.
 pub fn attenuations(name: &[u8], first: u8) {
     let mut v = first;
     while v < 128 {
@@ -74,6 +81,7 @@ pub fn attenuations(name: &[u8], first: u8) {
     }
 }
 
+// The least attenuation for a level.
 fn level_line(g: &[u32; 1441], level: u32)
     requires { ⌜ now g ≡ gains ⌝ }
 {
@@ -84,6 +92,7 @@ fn level_line(g: &[u32; 1441], level: u32)
     io::write_all(1, b"\n");
 }
 
+// The least attenuation for each level.
 pub fn levels(g: &[u32; 1441])
     requires { ⌜ now g ≡ gains ⌝ }
 {
@@ -94,6 +103,7 @@ pub fn levels(g: &[u32; 1441])
     }
 }
 
+// The cents of each bend.
 pub fn bends() {
     let mut i: usize = 0;
     while i < 406 {

@@ -3,6 +3,7 @@ mod line;
 mod lists;
 mod loops;
 
+// All lists, one after the other.
 fn main() {
     let octaves = curves::octaves();
     let gains = curves::gains();

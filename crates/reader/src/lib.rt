@@ -60,6 +60,7 @@ pub fn open<'a>(bank: &'a [u8]) -> Opened<'a>
     }
 }
 
+// What stands at the reader's place, and the reader one further.
 pub fn next<'a>(r: Reader<'a>) -> Taken<'a>
     ensures { λ n. ⌜ n ≡ nextOf (r .entry) ⌝ }
 {

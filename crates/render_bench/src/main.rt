@@ -15,6 +15,7 @@ fn strike<'a>(bank: &[u8], ram: &'a [i16], rom: &'a [i16], strikes: u32) -> Engi
     e
 }
 
+// The key of strike i.
 fn key_of(i: u32) -> u8 {
     40 + (i % 32) as u8
 }
@@ -33,6 +34,7 @@ fn play<'a>(first: Engine, ram: &'a [i16], rom: &'a [i16], out: &mut [f32], rend
     e.sounding
 }
 
+// How many voices sound, and the hash.
 fn report(sounding: u32, hash: u64) {
     let mut text = io::large_buffer();
     let mut at = cases::hex(&mut text, 0, sounding as u64, 8);
@@ -42,6 +44,7 @@ fn report(sounding: u32, hash: u64) {
     cases::flush(&text, at);
 }
 
+// Strikes and renders as the input asks.
 fn main() {
     let mut room = io::large_buffer();
     let mut bank = [0u8; 66000];

@@ -27,18 +27,22 @@ fn delay_of(s: Stage) -> u32 {
     }
 }
 
+// A signed number, widened to be written.
 fn wide(x: i16) -> i32 {
     x as i32
 }
 
+// A number of 16 bits, widened to be written.
 fn long(x: u16) -> u32 {
     x as u32
 }
 
+// A byte, widened to be written.
 fn small(x: u8) -> u32 {
     x as u32
 }
 
+// A yes as 1, a no as 0.
 fn bit(x: bool) -> u32 {
     if x { 1 } else { 0 }
 }
@@ -76,6 +80,7 @@ fn window(text: &mut [u8; 65536], at: usize, v: Voice) -> usize {
     number(text, to, v.loopto)
 }
 
+// A voice's line.
 fn voice_line(text: &mut [u8; 65536], at: usize, v: Voice) -> usize {
     let mut to = cases::put(text, at, b'v');
     to = times(text, to, v);
@@ -84,6 +89,7 @@ fn voice_line(text: &mut [u8; 65536], at: usize, v: Voice) -> usize {
     cases::put(text, to, b'\n')
 }
 
+// The lines of the voices that start.
 fn voice_lines(text: &mut [u8; 65536], at: usize, s: Struck) -> usize {
     let mut to = at;
     let mut i: usize = 0;
@@ -95,6 +101,7 @@ fn voice_lines(text: &mut [u8; 65536], at: usize, s: Struck) -> usize {
     to
 }
 
+// How many layers there are, and, where they are at most 32, their voices.
 fn found(text: &mut [u8; 65536], at: usize, s: Struck) -> usize {
     let mut to = cases::put(text, at, b'k');
     to = number(text, to, s.count);

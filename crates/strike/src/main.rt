@@ -1,7 +1,7 @@
 // Strikes keys on the banks of a strike file (standard input): for each k a line with its layers, and a line for each voice that they start.
 // Of the letters it has B, t, and k with program, bank, key and velocity.
-mod lines; // lines.rt: the lines of a strike
-mod reading; // reading.rt: the commands
+mod lines;
+mod reading;
 
 use cases::Command;
 use cases::Place;

@@ -1,12 +1,12 @@
 // What a starting voice gets of its layer's values (01, "From a key to layers" and "Tables and steps").
 ghost use mathlib.Core.Path.{_≡_};
-ghost use Prim.Native.Nat.{_<_, _≤_};
+ghost use Prim.Native.Nat.{_<_};
 ghost use lib.IntN.{pos, negsuc, natAbs, _+ℤ_, _-ℤ_, _*ℤ_};
 ghost use Rattle.arith.specs.Within.{Within};
 ghost use Rattle.arith.specs.Over.{heldTo};
 ghost use Rattle.records.specs.Whole.{modZ};
 ghost use Rattle.totals.specs.TotalsLaws.{at, totalIn};
-ghost use Rattle.totals.specs.VoiceNumbers.{ifMidi, keyOf, rootOf, pitchOf, keyedTime, softness, attenuationOf};
+ghost use Rattle.totals.specs.VoiceNumbers.{ifMidi, keyOf, rootOf, pitchOf, softness, attenuationOf};
 use crate::values::held_at;
 use crate::values::sum_at;
 use crate::values::wide;
@@ -47,12 +47,14 @@ fn tune(k: i64, r: i64, scale: i64, coarse: i64, fine: i64, correction: i64) -> 
     ((k - r) * scale + 100 * coarse + fine + correction) as i32
 }
 
+// The header's correction, widened.
 fn wide8(x: i8) -> i64
     ensures { λ r. ⌜ (r ≡ x) × Within r 128 ⌝ }
 {
     x as i64
 }
 
+// A key, widened.
 fn wide_key(x: u8) -> i64
     ensures { λ r. ⌜ (r ≡ pos x) × Within r 255 ⌝ }
 {
@@ -105,6 +107,7 @@ fn soft_of(own: &[i16; 61], added: &[i16; 61], velocity: u8) -> u8
     if_midi(1, own[47], velocity)
 }
 
+// An attenuation and a velocity's part added.
 fn plus(a: i64, v: u16) -> i32
     requires { ⌜ Within a 65536 ⌝ }
     ensures { λ r. ⌜ r ≡ a +ℤ pos v ⌝ }
@@ -120,12 +123,14 @@ pub fn attenuation_of(own: &[i16; 61], added: &[i16; 61], velocity: u8) -> i32
     plus(sum_at(own, added, 48), v)
 }
 
+// Generator 37's total, in cB.
 pub fn sustain_of(own: &[i16; 61], added: &[i16; 61]) -> u16
     ensures { λ r. ⌜ r ≡ natAbs (totalIn (now (own .entry)) (now (added .entry)) 37) ⌝ }
 {
     held_at(own, added, 37, 0, 1000) as u16
 }
 
+// Generator 17's total.
 pub fn pan_of(own: &[i16; 61], added: &[i16; 61]) -> i16
     ensures { λ r. ⌜ r ≡ totalIn (now (own .entry)) (now (added .entry)) 17 ⌝ }
 {
@@ -140,6 +145,7 @@ fn bits(x: i64) -> u16
     (((x + 65536) as u64) % 65536) as u16
 }
 
+// Generator 57 of the instrument, as 16 bits: the exclusive class.
 pub fn class_of(own: &[i16; 61]) -> u16
     ensures { λ r. ⌜ r ≡ modZ (at (now (own .entry)) 57) 65536 ⌝ }
 {

@@ -42,6 +42,7 @@ pub fn added_values(b: &[u8], m: Parts, l: Layer) -> [i16; 61]
     records::poured(b, p, l.preset, global)
 }
 
+// A value, widened so that sums of two fit.
 pub fn wide(x: i16) -> i64
     ensures { λ r. ⌜ (r ≡ x) × Within r 32768 ⌝ }
 {

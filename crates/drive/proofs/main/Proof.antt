@@ -1,4 +1,4 @@
--- The measure is the number of turns that are left; nothing has to hold from turn to turn. Assumes nothing.
+-- The measure is the number of turns that are left; nothing has to hold from turn to turn.
 use borrow.Author.Needs.{needs}
 use native.Mathlib.Omega.{arith}
 use Rattle.drive.proofs.main.Statement.{statement}

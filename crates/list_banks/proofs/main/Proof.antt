@@ -1,4 +1,4 @@
--- The measure is the number of turns that are left; nothing has to hold from turn to turn. Assumes nothing.
+-- The measure is the number of turns that are left; nothing has to hold from turn to turn.
 use borrow.Author.Needs.{needs}
 use Rattle.list_banks.proofs.main.Statement.{statement}
 use Rattle.list_banks.proofs.main.Tie as tie

@@ -2,7 +2,6 @@
 use lib.ListN.{length}
 use mathlib.Core.Path.{_≡_}
 use borrow.Author.Needs.{needs}
-use native.Mathlib.Omega.{arith}
 use Prim.Native.Nat.{_≤_, _-_}
 use Rattle.render_bench.proofs.play.Statement.{statement}
 use Rattle.render_bench.proofs.play.Tie as tie

@@ -1,6 +1,5 @@
 -- As many strikes as asked.
 use borrow.Author.Needs.{needs}
-use native.Mathlib.Omega.{arith}
 use Prim.Native.Nat.{_≤_, _-_}
 use Rattle.render_bench.proofs.strike.Statement.{statement}
 use Rattle.render_bench.proofs.strike.Tie as tie

@@ -1,4 +1,4 @@
--- The length of what is lent stays. Assumes nothing.
+-- The length of what is lent stays.
 use lib.Ieee.{nanBits}
 use borrow.Author.Needs.{needs}
 use mathlib.Core.Path.{_≡_}

@@ -1,4 +1,4 @@
--- The part that is rendered into lies within the output. Assumes nothing.
+-- The part that is rendered into lies within the output.
 use mathlib.Core.Path.{sym}
 use native.Mathlib.Omega.{arith}
 use lib.Seq.{length-take-le}

@@ -1,7 +1,6 @@
--- The slots are those below 32. Assumes nothing.
+-- The slots are those below 32.
 use borrow.Author.Needs.{needs}
 use Prim.Native.Nat.{_≤_, _-_}
-use native.Mathlib.Omega.{arith}
 use Rattle.drive.proofs.trace.slots.Statement.{statement}
 use Rattle.drive.proofs.trace.slots.Tie as tie
 

@@ -1,4 +1,4 @@
--- At most 32 voices are read. Assumes nothing.
+-- At most 32 voices are read.
 use borrow.Author.Needs.{needs}
 use Prim.Native.Nat.{_-_, _≤_}
 use Rattle.strike.proofs.lines.voice_lines.Statement.{statement}

@@ -1,4 +1,4 @@
--- A number of 16 bits fits 32. Assumes nothing.
+-- A number of 16 bits fits 32.
 use borrow.Author.Needs.{needs}
 use lib.Dec.{lit<}
 use mir.Facts.{toZ-ofZ}
