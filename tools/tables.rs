@@ -111,11 +111,11 @@ fn source(rule: &str, name: &str, width: &str, entries: &[u64]) -> String {
 }
 
 /// The lists of the definitions, in parts small enough to be tested by one computation each.
-fn lists(rule: &str, size: usize, entries: &[u64]) -> String {
+fn lists(rule: &str, name: &str, size: usize, entries: &[u64]) -> String {
     let mut text = format!("-- {rule}\n-- Made by: {COMMAND}\nuse mathlib.Core.List.{{List, [], _∷_}}\nuse Prim.Native.Nat.{{ℕ}}\n");
     for (k, part) in entries.chunks(size).enumerate() {
         let rows: Vec<String> = part.chunks(10).map(|row| row.iter().map(|n| format!("{n} ∷ ")).collect()).collect();
-        writeln!(text, "\nabbrev pub part{k} : List ℕ\npart{k} =\n    {}[]", rows.join("\n    ")).unwrap();
+        writeln!(text, "\nabbrev pub {name}{k} : List ℕ\n{name}{k} =\n    {}[]", rows.join("\n    ")).unwrap();
     }
     text.replace(" \n", "\n")
 }
@@ -138,16 +138,19 @@ fn main() {
 
     let rule = "The octave table: entry i is the largest T with T^1200 <= 2^(i + 36,000).";
     write("src/octave_table.rt", source(rule, "OCTAVES", "u32", &octaves));
-    write("specs/OctaveList.antt", lists(rule, 150, &octaves));
+    write("specs/OctaveTable.antt", lists(rule, "octaves", 150, &octaves));
 
     let rule = "The gain table: entry a is the largest G with G^200 * 10^a <= 2^4,800.";
     write("src/gain_table.rt", source(rule, "GAINS", "u32", &gains));
-    write("specs/GainList.antt", lists(rule, 400, &gains));
+    write("specs/GainTable.antt", lists(rule, "gains", 400, &gains));
 
     let rule = "The velocity table: the largest a with 10^a * v^400 <= 127^400, for v from 1";
     write(
         "src/velocity_table.rt",
         source(&format!("{rule}; entry 0 is a control's 0."), "VELOCITIES", "u16", &with_control),
     );
-    write("specs/VelocityList.antt", lists(&format!("{rule}."), 127, &velocities));
+    write(
+        "specs/VelocityTable.antt",
+        lists(&format!("{rule}."), "velocities", 127, &velocities),
+    );
 }

@@ -1,16 +1,16 @@
 // What the crates share: the reading between two samples, floors, the exact binary32 of a whole number, the stereo frame, a word as a set of slots, and numbers in bytes.
 ghost use Prim.Native.Nat.{_^_, _<_, _≤_};
-ghost use Rattle.arith.specs.Between.{readingOf};
-ghost use Rattle.arith.specs.Bit.{bit, With};
-ghost use Rattle.arith.specs.Floor.{floorZ};
-ghost use Rattle.arith.specs.Over.{Over, heldTo, levelOf, unitOf};
-ghost use Rattle.arith.specs.Within.{Within};
-ghost use Rattle.arith.specs.Word.{lowestClear};
 ghost use lib.Bits.{bitOr};
 ghost use lib.Count.{ones};
 ghost use lib.Dec.{eqb};
 ghost use lib.IntN.{negsuc, pos, _+ℤ_, _-ℤ_, _*ℤ_};
 ghost use mathlib.Core.Path.{_≡_};
+ghost use Rattle.arith.specs.Floors.{readingOf, floorZ};
+ghost use Rattle.arith.specs.Words.{bit};
+ghost use Rattle.arith.specs.Internal.Words.{With, lowestClear};
+ghost use Rattle.arith.specs.Floats.{Over, levelOf, unitOf};
+ghost use Rattle.arith.specs.Holds.{heldTo};
+ghost use Rattle.arith.specs.Within.{Within};
 
 pub mod bytes;
 

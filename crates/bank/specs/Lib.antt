@@ -1,10 +1,9 @@
--- Admission, its faults and the listing of presets: definitions (Admission, OnePass, Rules, Listing) and their laws.
 pub mod Admission
-pub mod AdmissionLaws
-pub mod IndexLaws
-pub mod OnePass
-pub mod OnePassLaws
-pub mod Rules
-pub mod RulesLaws
-pub mod AdmittedLaws
+pub mod Bounds
+pub mod Framing
+pub mod Indexes
+pub mod Links
 pub mod Listing
+pub mod Rates
+pub mod Rules
+pub mod Internal

@@ -4,7 +4,8 @@ use mathlib.Core.List.{List, [], _∷_}
 use Prim.Native.Nat.{ℕ, _+_, _-_}
 use lib.Dec.{ltb}
 use Rattle.bank.specs.Admission.{admitted}
-use Rattle.records.specs.Sides.{partsOf, programOf, bankOf}
+use Rattle.records.specs.Sides.{partsOf}
+use Rattle.records.specs.Headers.{programOf, bankOf}
 use Rattle.bank.specs.declared.Listed.{Listed}
 use Rattle.bank.specs.declared.Listed.the-variants.{Refused, End, Row}
 

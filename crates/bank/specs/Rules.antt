@@ -1,18 +1,19 @@
 -- 01, "Bank admission", as rules for every record: the same as `admitted`, said without an order of tests.
+use mathlib.Core.Path.{_≡_}
+use Prim.Native.Nat.{ℕ, _+_, _≤_, _<_, _-_, _%_}
 use mathlib.Core.Bool.{true}
 use mathlib.Core.List.{List}
-use mathlib.Core.Path.{_≡_}
-use Prim.Native.Nat.{ℕ, _+_, _-_, _%_, _≤_, _<_}
 use lib.IntN.{pos}
-use lib.ListN.{length, getD}
 use lib.Signed.{_≤ℤ_, _<ℤ_}
-use Rattle.records.specs.Chunks.{names, sizes, leasts, chunkAt, nameAt, bytesIn, records}
-use Rattle.records.specs.Sides.{presets, instruments, partsOf, bagOf, genOf, modOf}
-use Rattle.records.specs.Window.{startOf, endOf, loopStartOf, loopEndOf, modeOf, loops, rateOf}
+use lib.ListN.{length, getD}
+use Rattle.records.specs.Sides.{bagOf, genOf, modOf, instruments, presets, partsOf}
 use Rattle.records.specs.Zones.{zoneAt, globalOf}
-use Rattle.records.specs.declared.Parts.{Parts}
 use Rattle.records.specs.declared.Side.{Side}
+use Rattle.records.specs.Windows.{startOf, endOf, loopStartOf, loopEndOf, modeOf, loops}
+use Rattle.records.specs.declared.Parts.{Parts}
 use Rattle.records.specs.declared.Zone.{Zone}
+use Rattle.records.specs.Headers.{rateOf}
+use Rattle.records.specs.Chunks.{names, sizes, leasts, chunkAt, nameAt, bytesIn, records}
 
 -- n indexes never fall, and the terminal one names the last of m records
 pub record Rising (index : ℕ → ℕ) (n m : ℕ) : Type 0 where

@@ -2,7 +2,7 @@
 ghost use mathlib.Core.Path.{_≡_};
 ghost use Prim.Native.Nat.{_<_};
 ghost use lib.ListN.{getD};
-ghost use Rattle.bank.specs.Admission.{badChunk, chunkFault, badRecords, recordsFault};
+ghost use Rattle.bank.specs.Framing.{badChunk, chunkFault, badRecords, recordsFault};
 ghost use Rattle.records.specs.Chunks.{names, leasts};
 use records::Found;
 

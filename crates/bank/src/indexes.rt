@@ -1,6 +1,6 @@
 // Test 4: an index that falls or ends wrong.
 ghost use mathlib.Core.Path.{_≡_};
-ghost use Rattle.bank.specs.Admission.{fallsAt, endsWrong, badAt, badHead, badBag, headFault, bagFault, indexFault};
+ghost use Rattle.bank.specs.Indexes.{fallsAt, endsWrong, badAt, badHead, badBag, headFault, bagFault, indexFault};
 use crate::less_one;
 use crate::or_else;
 use records::Found;

@@ -1,8 +1,8 @@
 // Admission of a bank as seven tests, and its listing (01, "Bank admission").
 ghost use mathlib.Core.Path.{_≡_};
 ghost use Prim.Native.Nat.{_-_, _<_};
-ghost use Rattle.records.specs.Search.{orElse};
-ghost use Rattle.bank.specs.Admission.{faultOf, numberOf, admitted};
+ghost use Rattle.records.specs.Looking.{orElse};
+ghost use Rattle.bank.specs.Admission.{faultOf, faultNumber, admitted};
 
 mod chunks;
 mod indexes;
@@ -87,7 +87,7 @@ pub fn admission(b: &[u8]) -> Fault
 
 // 01's number for what was found.
 pub fn number_of(f: Fault) -> u8
-    ensures { λ r. ⌜ r ≡ numberOf f ⌝ }
+    ensures { λ r. ⌜ r ≡ faultNumber f ⌝ }
 {
     match f {
         Fault::Fine => 0,
@@ -103,7 +103,7 @@ pub fn number_of(f: Fault) -> u8
 
 // 0 where the bank is admitted, else 1.
 pub fn admission_number(b: &[u8]) -> u8
-    ensures { λ r. ⌜ r ≡ numberOf (faultOf (now (b .entry))) ⌝ }
+    ensures { λ r. ⌜ r ≡ faultNumber (faultOf (now (b .entry))) ⌝ }
 {
     number_of(admission(b))
 }

@@ -1,7 +1,7 @@
 // Test 5: an instrument or sample number too high.
 ghost use mathlib.Core.Path.{_≡_};
-ghost use Rattle.bank.specs.Admission.{badNumber, zoneLinkAt, linkFault, numberFault};
-ghost use Rattle.records.specs.Search.{first, placed};
+ghost use Rattle.bank.specs.Links.{badNumber, zoneLinkAt, linkFault, numberFault};
+ghost use Rattle.records.specs.Looking.{first, placed};
 ghost use Rattle.records.specs.Sides.{bagOf};
 ghost use Rattle.records.specs.Zones.{zoneCount};
 use crate::less_one;

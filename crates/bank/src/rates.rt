@@ -1,11 +1,11 @@
 // Test 6: a sample rate.
 ghost use mathlib.Core.Path.{_≡_};
 ghost use Prim.Native.Nat.{_-_};
-ghost use Rattle.bank.specs.Admission.{badRate, rateFault};
-ghost use Rattle.bank.specs.OnePass.{lower, badRated, withZone, withZones};
-ghost use Rattle.records.specs.Search.{first};
+ghost use Rattle.bank.specs.Rates.{badRate, rateFault};
+ghost use Rattle.bank.specs.Internal.Rates.{lower, badRated, withZone, withZones};
+ghost use Rattle.records.specs.Looking.{first};
 ghost use Rattle.records.specs.Sides.{bagOf};
-ghost use Rattle.records.specs.Whole.{between};
+ghost use Rattle.arith.specs.Whole.{between};
 ghost use Rattle.records.specs.Zones.{zoneCount};
 use crate::less_one;
 use records::Found;

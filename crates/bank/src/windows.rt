@@ -1,13 +1,15 @@
 // Test 7: a window.
 ghost use mathlib.Core.Path.{_≡_};
 ghost use Prim.Native.Nat.{_+_};
-ghost use Rattle.bank.specs.Admission.{badWindow, zoneLinkAt, windowFault};
-ghost use Rattle.bank.specs.OnePass.{goodAmounts, badOver};
-ghost use Rattle.records.specs.Search.{first, placed};
+ghost use Rattle.bank.specs.Bounds.{badWindow, windowFault};
+ghost use Rattle.bank.specs.Links.{zoneLinkAt};
+ghost use Rattle.bank.specs.Internal.Bounds.{goodAmounts, badOver};
+ghost use Rattle.records.specs.Looking.{first, placed};
 ghost use Rattle.arith.specs.Bytes.{u32At};
-ghost use Rattle.records.specs.Sides.{bagOf, sampleAt};
-ghost use Rattle.records.specs.Whole.{modZ};
-ghost use Rattle.records.specs.Window.{shifted, loops};
+ghost use Rattle.records.specs.Sides.{bagOf};
+ghost use Rattle.records.specs.Headers.{sampleAt};
+ghost use Rattle.arith.specs.Whole.{modZ};
+ghost use Rattle.records.specs.Windows.{shifted, loops};
 ghost use Rattle.records.specs.Zones.{zoneCount};
 use crate::less_one;
 use records::Found;

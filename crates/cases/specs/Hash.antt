@@ -1,9 +1,9 @@
 -- The case files' form: the FNV-1a hash of 64 bits over binary32 numbers, each number's 32 bits as four bytes, the low byte first.
-use Prim.Native.Nat.{ℕ, _*_, _/_, _%_, _^_}
+use Prim.Native.Nat.{ℕ, _*_, _%_, _^_, _/_}
 use mathlib.Core.Bool.{cond}
-use mathlib.Core.List.{List, [], _∷_}
-use lib.Bits.{bitXor}
 use lib.Ieee.{Float, binary32, isNan, toBits}
+use lib.Bits.{bitXor}
+use mathlib.Core.List.{List, [], _∷_}
 
 -- A number's bits. A NaN has no bits of its own: it counts as the quiet one, 7fc00000 in hex.
 unfoldable pub bitsOf : Float → ℕ

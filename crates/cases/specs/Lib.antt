@@ -1,3 +1,1 @@
--- What the contracts of `cases` cite.
 pub mod Hash
-pub mod HashLaws

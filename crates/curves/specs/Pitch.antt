@@ -1,10 +1,10 @@
 -- 01, "From a key to layers" (bend, the pitch total's hold) and "Tables and steps" (step).
 use Prim.Native.Nat.{ℕ, _-_, _*_, _/_, _%_, _^_}
-use lib.IntN.{ℤ, pos, negsuc, natAbs, _+ℤ_, _-ℤ_, _*ℤ_}
-use Rattle.arith.specs.Floor.{floorZ}
-use Rattle.arith.specs.Over.{heldTo}
+use lib.IntN.{ℤ, pos, _-ℤ_, _*ℤ_, negsuc, natAbs, _+ℤ_}
 use lib.ListN.{getD}
-use Rattle.curves.specs.Octaves.{octaves}
+use Rattle.arith.specs.Floors.{floorZ}
+use Rattle.arith.specs.Holds.{heldTo}
+use Rattle.curves.specs.Octave.{octaves}
 
 -- floor((bend - 8,192) * 25 / 1,024)
 unfoldable pub bendCents : ℕ → ℤ

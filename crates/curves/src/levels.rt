@@ -1,8 +1,7 @@
 // Levels: the gain table, the gain of an attenuation, the least attenuation for a level, and the attenuation of a velocity or a control.
 ghost use Prim.Native.Nat.{_≤_};
-ghost use Rattle.curves.specs.Decibels.{gainOf, cbOf, leastCb};
-ghost use Rattle.curves.specs.Gains.{gains};
 ghost use mathlib.Core.Path.{_≡_};
+ghost use Rattle.curves.specs.Levels.{gainOf, cbOf, leastCb, gains};
 use crate::gain_table::GAINS;
 use crate::velocity_table::VELOCITIES;
 

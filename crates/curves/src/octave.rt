@@ -1,10 +1,10 @@
 // The octave table, and how cents and timecents come to a place in it.
 ghost use Prim.Native.Nat.{_+_, _%_, _≤_};
-ghost use Rattle.arith.specs.Over.{heldTo};
-ghost use Rattle.curves.specs.Octaves.{octaves};
 ghost use lib.IntN.{pos, negℤ, natAbs, _+ℤ_};
 ghost use lib.ListN.{getD};
 ghost use mathlib.Core.Path.{_≡_};
+ghost use Rattle.arith.specs.Holds.{heldTo};
+ghost use Rattle.curves.specs.Octave.{octaves};
 use crate::octave_table::OCTAVES;
 
 // The table, made once by whoever reads it often.

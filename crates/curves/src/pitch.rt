@@ -1,7 +1,7 @@
 // Pitch: the cents of a bend, and the step of a pitch total.
-ghost use Rattle.curves.specs.Octaves.{octaves};
-ghost use Rattle.curves.specs.Pitch.{bendCents, stepAt};
 ghost use mathlib.Core.Path.{_≡_};
+ghost use Rattle.curves.specs.Octave.{octaves};
+ghost use Rattle.curves.specs.Pitch.{bendCents, stepAt};
 use crate::octave::entry;
 use crate::octave::lift;
 

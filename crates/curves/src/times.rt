@@ -1,9 +1,9 @@
 // Times: the frames of a time in timecents.
 ghost use Prim.Native.Nat.{_≤_, _^_};
-ghost use Rattle.curves.specs.Frames.{framesUp, frames};
-ghost use Rattle.curves.specs.Octaves.{octaves};
 ghost use lib.IntN.{pos};
 ghost use mathlib.Core.Path.{_≡_};
+ghost use Rattle.curves.specs.Times.{framesUp, frames};
+ghost use Rattle.curves.specs.Octave.{octaves};
 use crate::octave::entry;
 use crate::octave::lift;
 

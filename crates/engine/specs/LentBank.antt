@@ -2,7 +2,7 @@
 use Prim.Native.Nat.{ℕ}
 use mathlib.Core.List.{List}
 use Rattle.bank.specs.Admission.{admitted}
-use Rattle.layers.specs.VoiceOf.{hasPreset, struckVoices}
+use Rattle.layers.specs.Voicing.{hasPreset, struckVoices}
 use Rattle.engine.specs.NoteOn.{Bank}
 
 -- admitted or not, its presets, and the voices that a key starts

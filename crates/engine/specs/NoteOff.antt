@@ -1,17 +1,18 @@
 -- 01, "Slots, keys and the clock": note-off.
 use Prim.Native.Nat.{ℕ}
-use mathlib.Core.Bool.{Bool, true, cond, not, _&&_}
-use mathlib.Core.List.{map}
+use mathlib.Core.Bool.{Bool, _&&_, not, true, cond}
 use lib.Dec.{eqb, leb}
-use Rattle.arith.specs.Loops.{countIf}
-use Rattle.voice.specs.declared.Voice.{Voice}
+use mathlib.Core.List.{map}
 use Rattle.voice.specs.declared.Slot.{Slot}
-use Rattle.voice.specs.State.{withMoved}
 use Rattle.voice.specs.Stages.{released}
-use Rattle.voice.specs.Release.{release}
 use Rattle.engine.specs.declared.Engine.{Engine}
+use Rattle.engine.specs.Channels.{channelAt}
+use Rattle.voice.specs.declared.Voice.{Voice}
+use Rattle.voice.specs.Records.{withMoved}
+use Rattle.voice.specs.Release.{release}
+use Rattle.engine.specs.Slots.{slotsOf, withSlots}
+use Rattle.arith.specs.Lists.{countIf}
 use Rattle.engine.specs.declared.Answered.{Answered}
-use Rattle.engine.specs.State.{slotsOf, withSlots, channelAt}
 use Rattle.engine.specs.Answers.{done, answer, pastOne}
 
 -- it sounds, and is of the channel

@@ -1,22 +1,24 @@
 -- 01, "A voice, frame by frame" (output), "Slots, keys and the clock" (clock), and the table: render.
-use Prim.Native.Nat.{ℕ, zero, suc, _+_, _-_, _*_, _%_}
-use mathlib.Core.Bool.{Bool, false, cond, _&&_, _||_}
+use Prim.Native.Nat.{ℕ, _+_, _-_, _%_, _*_, zero, suc}
+use mathlib.Core.Bool.{cond, _&&_, Bool, false, _||_}
 use mathlib.Core.List.{List, [], _∷_, _++_, map}
-use lib.Dec.{eqb, leb, ltb}
+use lib.Dec.{leb, ltb, eqb}
 use lib.IntN.{ℤ, pos, negsuc}
-use lib.Ieee.{Float}
 use lib.ListN.{length, take, drop}
-use Rattle.arith.specs.Loops.{sumOf}
-use Rattle.arith.specs.Over.{heldTo, unitOf}
-use Rattle.voice.specs.declared.Voice.{Voice}
-use Rattle.voice.specs.declared.Slot.{Slot}
-use Rattle.voice.specs.Move.{span}
-use Rattle.voice.specs.Run.{after, leftIn, rightIn}
+use lib.Ieee.{Float}
 use Rattle.engine.specs.declared.Engine.{Engine}
-use Rattle.engine.specs.declared.Answered.{Answered}
-use Rattle.engine.specs.State.{slotsOf, withSlots, withClock, channelAt}
-use Rattle.engine.specs.Answers.{done, answer}
+use Rattle.voice.specs.declared.Voice.{Voice}
+use Rattle.voice.specs.Motion.{span}
 use Rattle.engine.specs.NoteOn.{memory, endsPast}
+use Rattle.voice.specs.declared.Slot.{Slot}
+use Rattle.engine.specs.Slots.{slotsOf, withSlots, withClock}
+use Rattle.arith.specs.Lists.{sumOf}
+use Rattle.voice.specs.Frames.{after, leftIn, rightIn}
+use Rattle.engine.specs.Channels.{channelAt}
+use Rattle.arith.specs.Holds.{heldTo}
+use Rattle.arith.specs.Floats.{unitOf}
+use Rattle.engine.specs.declared.Answered.{Answered}
+use Rattle.engine.specs.Answers.{done, answer}
 
 -- the distance to the asked clock value, modulo 2^32
 unfoldable pub distance : Engine → ℕ → ℕ

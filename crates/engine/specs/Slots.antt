@@ -1,54 +1,53 @@
--- 01, "Slots, keys and the clock": which slot a layer takes. `order` is the slots from the oldest start to the newest.
-use Prim.Native.Nat.{ℕ, suc, _+_, _%_}
+-- 01, "Slots, keys and the clock": the state's 32 slots, and states with one part replaced.
+use Prim.Native.Nat.{ℕ, _/_, _%_, _+_, _*_}
+use mathlib.Core.List.{List, [], _∷_, map}
+use lib.Dec.{eqb}
 use mathlib.Core.Bool.{cond}
-use mathlib.Core.List.{List, [], _∷_, _++_, map}
-use lib.Dec.{eqb, ltb}
-use lib.ListN.{getD, set, take}
-use Rattle.arith.specs.Bit.{bit}
+use lib.ListN.{getD}
 use Rattle.voice.specs.declared.Voice.{Voice}
 use Rattle.voice.specs.declared.Slot.{Slot}
-use Rattle.voice.specs.State.{sounds}
-use Rattle.voice.specs.Stages.{released}
 use Rattle.engine.specs.declared.Engine.{Engine}
-use Rattle.engine.specs.State.{slotsOf, slotAt, withSlots, withOrder}
+use Rattle.voice.specs.Records.{blank, free}
 
--- the lowest free slot; as many as there are slots where none is free
-unfoldable pub lowestFree : List Slot → ℕ
-lowestFree [] = 0
-lowestFree (s ∷ ss) = cond (s .sounding) (suc (lowestFree ss)) 0
+-- the records, each with its bit of the word (the lowest bit is slot 0)
+unfoldable pub paired : ℕ → List Voice → List Slot
+paired word [] = []
+paired word (v ∷ vs) = record { sounding = eqb (word % 2) 1; voice = v } ∷ paired (word / 2) vs
 
--- the order of age, each entry read as a slot (an entry is below 32 as it is: `order-slots`)
-abbrev pub orderOf : Engine → List ℕ
-orderOf e = map (λ (i : ℕ). i % 32) (e .order)
+-- the word of a list of slots
+unfoldable pub wordOf : List Slot → ℕ
+wordOf [] = 0
+wordOf (s ∷ ss) = cond (s .sounding) 1 0 + 2 * wordOf ss
 
--- how soon a slot is taken, lower first: released voices, then by struck velocity; last those started by this note-on
-unfoldable pub claim : Engine → ℕ → ℕ → ℕ
-claim e mine i =
-    cond (eqb (bit mine i) 1) 512
-    (cond (released (slotAt e i .voice .stage)) (slotAt e i .voice .velocity) (256 + slotAt e i .voice .velocity))
+-- the records of a list of slots
+abbrev pub recordsOf : List Slot → List Voice
+recordsOf ss = map (λ (s : Slot). s .voice) ss
 
--- the first of a list at which f is least, b to begin with
-unfoldable pub leastBy : (ℕ → ℕ) → ℕ → List ℕ → ℕ
-leastBy f b [] = b
-leastBy f b (x ∷ xs) = leastBy f (cond (ltb (f x) (f b)) x b) xs
+-- the 32 slots
+abbrev pub slotsOf : Engine → List Slot
+slotsOf e = paired (e .sounding) (e .voices)
 
--- the slot to take where none is free: by claim, then the older
-unfoldable pub taken : Engine → ℕ → ℕ
-taken e mine = leastBy (claim e mine) (getD (orderOf e) 0 0) (orderOf e)
+-- slot i; free past the last
+abbrev pub slotAt : Engine → ℕ → Slot
+slotAt e i = getD (slotsOf e) i (free blank)
 
--- the slot for the next layer; `mine` is the word of the slots that this note-on has started
-unfoldable pub seat : Engine → ℕ → ℕ
-seat e mine = cond (ltb (lowestFree (slotsOf e)) 32) (lowestFree (slotsOf e)) (taken e mine)
+-- the state with other slots
+abbrev pub withSlots : Engine → List Slot → Engine
+withSlots e ss =
+    record {
+      voices = recordsOf ss;
+      channels = e .channels;
+      sounding = wordOf ss;
+      order = e .order;
+      clock = e .clock;
+    }
 
--- a list without the first i in it
-unfoldable pub without : ℕ → List ℕ → List ℕ
-without i [] = []
-without i (x ∷ xs) = cond (eqb x i) xs (x ∷ without i xs)
+-- the state with another order of age
+abbrev pub withOrder : Engine → List ℕ → Engine
+withOrder e o =
+    record { voices = e .voices; channels = e .channels; sounding = e .sounding; order = o; clock = e .clock }
 
--- slot i moved behind all others: it is the newest
-unfoldable pub renewed : ℕ → List ℕ → List ℕ
-renewed i xs = take 32 (without i xs ++ (i ∷ []))
-
--- a voice started in slot i
-unfoldable pub startIn : ℕ → Voice → Engine → Engine
-startIn i v e = withOrder (withSlots e (set (slotsOf e) i (sounds v))) (renewed i (orderOf e))
+-- the state with another clock
+abbrev pub withClock : Engine → ℕ → Engine
+withClock e t =
+    record { voices = e .voices; channels = e .channels; sounding = e .sounding; order = e .order; clock = t }

@@ -1,6 +1,6 @@
 // The panel: what it is told of a slot, and how many voices sound.
 ghost use mathlib.Core.Path.{_≡_};
-ghost use Rattle.engine.specs.PanelAsk.{ask, voiceCount};
+ghost use Rattle.engine.specs.Board.{ask, voiceCount};
 use crate::Engine;
 use crate::slots::slot_of;
 use curves::gains;

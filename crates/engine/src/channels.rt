@@ -1,7 +1,7 @@
 // A channel of a state, program change and pitch bend.
 ghost use mathlib.Core.Path.{_≡_};
 ghost use Prim.Native.Nat.{_<_};
-ghost use Rattle.engine.specs.State.{channelAt, withChannel};
+ghost use Rattle.engine.specs.Channels.{channelAt, withChannel};
 ghost use Rattle.engine.specs.Program.{programChange};
 ghost use Rattle.engine.specs.Bend.{pitchBend};
 use crate::Answered;

@@ -1,9 +1,8 @@
 // Control change.
 ghost use mathlib.Core.Path.{_≡_};
 ghost use Prim.Native.Nat.{_<_};
-ghost use Rattle.engine.specs.Channels.{withStored, withVolume, withExpression};
+ghost use Rattle.engine.specs.Controls.{withStored, withVolume, withExpression, silence, pedal, controlled, controlChange};
 ghost use Rattle.engine.specs.NoteOff.{held, off};
-ghost use Rattle.engine.specs.Controls.{silence, pedal, controlled, controlChange};
 use crate::Answered;
 use crate::Engine;
 use crate::Whom;

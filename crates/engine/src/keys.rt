@@ -1,11 +1,11 @@
 // Note-off, and which voices are let off.
 ghost use mathlib.Core.Path.{_≡_};
 ghost use mathlib.Core.Bool.{cond};
-ghost use Rattle.curves.specs.Gains.{gains};
+ghost use Rattle.curves.specs.Levels.{gains};
 ghost use Rattle.voice.specs.Release.{release};
 ghost use Rattle.engine.specs.NoteOff.{held, heldKey, pedalDown, mark, letOff, offKey, noteOff};
 ghost use Rattle.engine.specs.Controls.{pedalHeld};
-ghost use Rattle.engine.specs.Whom.{picked, offAll};
+ghost use Rattle.engine.specs.Internal.NoteOff.{picked, offAll};
 use crate::Answered;
 use crate::Engine;
 use crate::Whom;

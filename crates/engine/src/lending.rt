@@ -1,12 +1,12 @@
 // What the engine says of a lent bank: admission, and the listing.
 ghost use mathlib.Core.Path.{_≡_};
-ghost use Rattle.bank.specs.Admission.{faultOf, numberOf};
+ghost use Rattle.bank.specs.Admission.{faultOf, faultNumber};
 ghost use Rattle.bank.specs.Listing.{listed};
 use bank::Listed;
 
 // Admission: 0 where the bank is admitted, else 1.
 pub fn admit(bank: &[u8]) -> u8
-    ensures { λ r. ⌜ r ≡ numberOf (faultOf (now (bank .entry))) ⌝ }
+    ensures { λ r. ⌜ r ≡ faultNumber (faultOf (now (bank .entry))) ⌝ }
 {
     bank::admission_number(bank)
 }

@@ -1,7 +1,8 @@
 // The fresh state.
 ghost use mathlib.Core.Path.{_≡_};
-ghost use Rattle.voice.specs.State.{blank};
-ghost use Rattle.engine.specs.State.{fresh, freshChannel};
+ghost use Rattle.voice.specs.Records.{blank};
+ghost use Rattle.engine.specs.Fresh.{fresh};
+ghost use Rattle.engine.specs.Channels.{freshChannel};
 use crate::Engine;
 use voice::Channel;
 use voice::Stage;

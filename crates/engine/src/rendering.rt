@@ -4,7 +4,7 @@ ghost use mathlib.Core.Bool.{_&&_, _||_};
 ghost use mathlib.Core.List.{_++_};
 ghost use Prim.Native.Nat.{_*_, _≤_};
 ghost use lib.ListN.{length, drop};
-ghost use Rattle.engine.specs.State.{slotsOf};
+ghost use Rattle.engine.specs.Slots.{slotsOf};
 ghost use Rattle.engine.specs.NoteOn.{endsPast};
 ghost use Rattle.engine.specs.Render.{distance, lacking, renderNumber, output, played, render, rendered};
 use crate::Answered;

@@ -2,8 +2,9 @@
 ghost use mathlib.Core.Path.{_≡_};
 ghost use mathlib.Core.Bool.{cond};
 ghost use Prim.Native.Nat.{_<_, _^_};
-ghost use Rattle.voice.specs.State.{free};
-ghost use Rattle.engine.specs.State.{withWord, slotAt};
+ghost use Rattle.voice.specs.Records.{free};
+ghost use Rattle.engine.specs.Internal.Slots.{withWord};
+ghost use Rattle.engine.specs.Slots.{slotAt};
 ghost use Rattle.engine.specs.NoteOff.{ofChannel};
 use crate::Engine;
 use arith::has;

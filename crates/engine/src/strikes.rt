@@ -5,7 +5,7 @@ ghost use Prim.Native.Nat.{_≤_};
 ghost use lib.Dec.{eqb};
 ghost use lib.ListN.{take};
 ghost use Rattle.engine.specs.NoteOn.{endsPast, anyPast, classIn, rival, cleared, start, startAll, struck};
-ghost use Rattle.engine.specs.StrikeLaws.{startedOf, begin};
+ghost use Rattle.engine.specs.Internal.Strikes.{startedOf, begin};
 use crate::Begun;
 use crate::Engine;
 use crate::seats::seat_of;

@@ -1,9 +1,9 @@
 // Note-on: its tests, and the layers of a lent bank.
 ghost use mathlib.Core.Path.{_≡_};
-ghost use Rattle.layers.specs.VoiceOf.{voicesOf};
-ghost use Rattle.engine.specs.NoteOn.{bankOf, noteOn};
+ghost use Rattle.layers.specs.Voicing.{voicesOf};
+ghost use Rattle.engine.specs.NoteOn.{channelBank, noteOn};
 ghost use Rattle.engine.specs.LentBank.{bankFrom};
-ghost use Rattle.engine.specs.NoteOnLaws.{layersAnswer, bankAnswer};
+ghost use Rattle.engine.specs.Internal.NoteOn.{layersAnswer, bankAnswer};
 use crate::Answered;
 use crate::Engine;
 use crate::answers::past_two;
@@ -19,7 +19,7 @@ use records::Parts;
 
 // The bank number of a channel: 128 on channel 9.
 fn bank_number(e: Engine, channel: u8) -> u16
-    ensures { λ r. ⌜ r ≡ bankOf e channel ⌝ }
+    ensures { λ r. ⌜ r ≡ channelBank e channel ⌝ }
 {
     if channel == 9 {
         return 128;

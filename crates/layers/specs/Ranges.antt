@@ -1,14 +1,14 @@
 -- 01, "From a key to layers": key and velocity ranges. A range stands in a generator's amount, the low byte first.
-use mathlib.Core.Bool.{Bool, cond, _&&_}
 use mathlib.Core.List.{List}
-use Prim.Native.Nat.{ℕ, _+_, _/_, _%_}
+use Prim.Native.Nat.{ℕ, _/_, _%_, _+_}
+use mathlib.Core.Bool.{Bool, _&&_, cond}
 use lib.Dec.{ltb}
 use Rattle.records.specs.Sides.{amount}
-use Rattle.records.specs.Whole.{between}
-use Rattle.records.specs.Zones.{has}
 use Rattle.records.specs.declared.Side.{Side}
-use Rattle.records.specs.declared.Zone.{Zone}
 use Rattle.layers.specs.declared.Range.{Range}
+use Rattle.arith.specs.Whole.{between}
+use Rattle.records.specs.Zones.{has}
+use Rattle.records.specs.declared.Zone.{Zone}
 
 -- the range in generator g
 unfoldable pub rangeAt : List ℕ → Side → ℕ → Range

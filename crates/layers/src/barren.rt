@@ -1,6 +1,6 @@
 // Instruments in which nothing matches, remembered for one note-on: the search goes into none of them twice.
 ghost use mathlib.Core.Path.{_≡_};
-ghost use Rattle.layers.specs.Barren.{remembered, noted};
+ghost use Rattle.layers.specs.Internal.Barren.{remembered, noted};
 
 // Whether instrument k is remembered; a number past the array never is.
 pub fn is_barren(barren: &[bool], k: u16) -> bool

@@ -1,7 +1,8 @@
 // The layers of a key: the preset, and the search over zones within zones (01, "From a key to layers").
 ghost use mathlib.Core.Path.{_≡_};
-ghost use Rattle.layers.specs.Barren.{entered};
-ghost use Rattle.layers.specs.Layers.{picked, searched, presetFor, isPreset};
+ghost use Rattle.layers.specs.Internal.Barren.{entered};
+ghost use Rattle.layers.specs.LayerSearch.{picked, presetFor, isPreset};
+ghost use Rattle.layers.specs.Internal.LayerSearch.{searched};
 use crate::Layers;
 use crate::Pair;
 use crate::barren::is_barren;

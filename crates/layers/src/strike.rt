@@ -1,9 +1,10 @@
 // The voices that a key starts (01, "From a key to layers").
 ghost use mathlib.Core.Path.{_≡_};
-ghost use Rattle.curves.specs.Octaves.{octaves};
-ghost use Rattle.voice.specs.State.{blank};
-ghost use Rattle.layers.specs.Layers.{layerOf};
-ghost use Rattle.layers.specs.VoiceOf.{voiceBy, struckOf, voicesOf};
+ghost use Rattle.curves.specs.Octave.{octaves};
+ghost use Rattle.voice.specs.Records.{blank};
+ghost use Rattle.layers.specs.LayerSearch.{layerOf};
+ghost use Rattle.layers.specs.Voicing.{voiceBy, voicesOf};
+ghost use Rattle.layers.specs.Internal.Voicing.{struckOf};
 use crate::Pair;
 use crate::Struck;
 use crate::layer_search::search;

@@ -2,11 +2,11 @@
 ghost use mathlib.Core.Path.{_≡_};
 ghost use Prim.Native.Nat.{_+_, _-_, _<_, min};
 ghost use Rattle.arith.specs.Bytes.{u32At};
-ghost use Rattle.records.specs.Sides.{sampleAt};
-ghost use Rattle.records.specs.Whole.{modZ, word32};
-ghost use Rattle.records.specs.Window.{shifted};
-ghost use Rattle.totals.specs.TotalsLaws.{at};
-ghost use Rattle.totals.specs.VoiceNumbers.{playMode};
+ghost use Rattle.records.specs.Headers.{sampleAt};
+ghost use Rattle.arith.specs.Whole.{modZ, word32};
+ghost use Rattle.records.specs.Windows.{shifted};
+ghost use Rattle.totals.specs.Internal.Values.{at};
+ghost use Rattle.totals.specs.Settings.{playMode};
 use records::Parts;
 use totals::wide;
 

@@ -1,7 +1,7 @@
 // The lines of each function, over its list of arguments.
-ghost use Rattle.curves.specs.Gains.{gains};
-ghost use Rattle.curves.specs.Octaves.{octaves};
 ghost use mathlib.Core.Path.{_≡_};
+ghost use Rattle.curves.specs.Levels.{gains};
+ghost use Rattle.curves.specs.Octave.{octaves};
 use crate::line::line;
 use crate::line::print_signed;
 use crate::line::signed_line;

@@ -1,11 +1,11 @@
 -- 01, "Slots, keys and the clock": age. What it means that `order` is the slots from the oldest start to the newest.
 use Prim.Native.Nat.{ℕ, _<_}
-use mathlib.Core.Bool.{Bool, true, false, cond}
 use mathlib.Core.List.{List, [], _∷_}
 use mathlib.Core.Path.{_≡_}
 use lib.Dec.{eqb}
 use lib.ListN.{length}
-use Rattle.arith.specs.Loops.{countIf}
+use mathlib.Core.Bool.{Bool, true, false, cond}
+use Rattle.arith.specs.Lists.{countIf}
 
 -- each entry is a slot
 abbrev pub Slots : List ℕ → Type 0

@@ -1,32 +1,35 @@
 -- Demand 2: every number is right. The definitions are 01's rules; here stands what a doubter asks of them.
-use Prim.Native.Nat.{ℕ, _+_, _*_, _≤_, _<_}
-use mathlib.Core.Bool.{Bool, true, false, cond}
-use mathlib.Core.List.{List, [], _∷_, _++_}
+use Prim.Native.Nat.{ℕ, _≤_, _<_, _+_, _*_}
+use mathlib.Core.Bool.{true, false, cond, Bool}
 use mathlib.Core.Path.{_≡_}
-use lib.Count.{ones}
-use lib.Dec.{eqb, ltb}
-use lib.Ieee.{Float}
+use mathlib.Core.List.{List, [], _∷_, _++_}
 use lib.IntN.{ℤ, pos, negsuc}
-use lib.ListN.{length, getD, take, drop}
-use Rattle.arith.specs.Bit.{bit}
-use Rattle.arith.specs.Loops.{countIf}
-use Rattle.arith.specs.Over.{Over, heldTo}
-use Rattle.arith.specs.Within.{Within}
-use Rattle.voice.specs.declared.Voice.{Voice}
-use Rattle.voice.specs.declared.Slot.{Slot}
-use Rattle.voice.specs.State.{blank, sounds, free}
-use Rattle.voice.specs.Stages.{released}
+use lib.Dec.{eqb, ltb}
+use lib.ListN.{length, getD, drop, take}
+use lib.Count.{ones}
+use lib.Ieee.{Float}
+use Rattle.arith.specs.Lists.{countIf}
 use Rattle.voice.specs.Release.{release}
-use Rattle.voice.specs.Panel.{slotParts}
 use Rattle.engine.specs.declared.Engine.{Engine}
-use Rattle.engine.specs.State.{slotAt, slotsOf, channelAt, fresh}
-use Rattle.engine.specs.NoteOff.{ofChannel, heldKey, pedalDown, mark}
+use Rattle.engine.specs.Slots.{slotAt, slotsOf}
+use Rattle.engine.specs.NoteOff.{heldKey, pedalDown, mark, ofChannel}
+use Rattle.promises.specs.Calls.{noteOff, does, next, voiceIn, noteOn, control, Call, run, program, bend, render, ask, among, history, framesRun, begun, channelOf, startsIn, framesOf, written, told}
 use Rattle.engine.specs.Controls.{pedalHeld}
-use Rattle.engine.specs.Slots.{seat}
+use Rattle.engine.specs.Fresh.{fresh}
+use Rattle.voice.specs.Stages.{released}
+use Rattle.promises.specs.Age.{older, Ordered, startedLast}
+use Rattle.arith.specs.Words.{bit}
+use Rattle.voice.specs.declared.Voice.{Voice}
+use Rattle.engine.specs.Seats.{seat}
 use Rattle.engine.specs.NoteOn.{Started, start, cleared, rival}
+use Rattle.voice.specs.Records.{blank, sounds, free}
+use Rattle.voice.specs.declared.Slot.{Slot}
+use Rattle.engine.specs.Channels.{channelAt}
+use Rattle.arith.specs.Holds.{heldTo}
+use Rattle.arith.specs.Floats.{Over}
+use Rattle.arith.specs.Within.{Within}
 use Rattle.engine.specs.Render.{distance, leftSum, rightSum}
-use Rattle.promises.specs.Age.{Ordered, older, startedLast}
-use Rattle.promises.specs.Calls.{Call, noteOn, noteOff, control, program, bend, render, ask, does, written, told, next, run, voiceIn, frames, framesOf, begun, channelOf, startsIn, among, history}
+use Rattle.voice.specs.Panel.{slotParts}
 
 -- ---- 1. A note-off reaches all held voices of its channel and key
 
@@ -125,7 +128,7 @@ NeverStarts i xs e = among i (history xs e) ≡ false
 abbrev pub FreeInTime : Type 0
 FreeInTime =
     (i : ℕ) (xs : List Call) (e : Engine) → released (voiceIn i e .stage) ≡ true → NeverStarts i xs e
-    → voiceIn i e .release + 1 ≤ frames xs e → slotAt (run xs e) i .sounding ≡ false
+    → voiceIn i e .release + 1 ≤ framesRun xs e → slotAt (run xs e) i .sounding ≡ false
 
 -- ---- 5. Voices started are those of the rule
 

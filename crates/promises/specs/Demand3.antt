@@ -1,16 +1,18 @@
 -- Demand 3: the place of a voice after n frames, over any run of calls.
-use Prim.Native.Nat.{ℕ, _+_, _*_, _^_, _≤_, _<_}
-use mathlib.Core.Bool.{true, false, cond}
-use mathlib.Core.List.{List, [], _∷_}
-use mathlib.Core.Path.{_≡_}
+use Prim.Native.Nat.{ℕ, _<_, _*_, _+_, _^_, _≤_}
 use lib.IntN.{ℤ, pos, _+ℤ_}
-use Rattle.curves.specs.Step.{stepOf}
+use mathlib.Core.Bool.{true, false, cond}
+use mathlib.Core.Path.{_≡_}
+use mathlib.Core.List.{List, [], _∷_}
+use Rattle.voice.specs.Motion.{pitchTotal, folds, folded}
+use Rattle.engine.specs.declared.Engine.{Engine}
+use Rattle.engine.specs.Channels.{channelAt}
+use Rattle.promises.specs.Calls.{voiceIn, Call, next, framesOf, startsIn, among, run, framesRun}
+use Rattle.engine.specs.Slots.{slotAt}
+use Rattle.curves.specs.Pitch.{stepOf, lifted}
 use Rattle.voice.specs.declared.Voice.{Voice}
 use Rattle.voice.specs.Stages.{past, released}
-use Rattle.voice.specs.Move.{pitchTotal, lifted, folds, folded}
-use Rattle.engine.specs.declared.Engine.{Engine}
-use Rattle.engine.specs.State.{slotAt, channelAt, fresh}
-use Rattle.promises.specs.Calls.{Call, next, run, voiceIn, framesOf, frames, startsIn, among}
+use Rattle.engine.specs.Fresh.{fresh}
 
 -- its pitch total as it stands
 abbrev pub centsIn : ℕ → Engine → ℤ
@@ -58,10 +60,10 @@ PlaceHolds =
     slotAt e i .sounding ≡ true →
     past (voiceIn i e .stage) ≡ true →
     (400 ≤ voiceIn i e .rate) × (voiceIn i e .rate ≤ 50000) →
-    0 < frames xs e →
+    0 < framesRun xs e →
     KeepsAll i c xs e →
     (voiceIn i e .mode ≡ 3 → released (voiceIn i (run xs e) .stage) ≡ released (voiceIn i e .stage)) →
-    Moved i c (frames xs e) e (run xs e)
+    Moved i c (framesRun xs e) e (run xs e)
 
 -- every voice that sounds after any run has such a rate
 abbrev pub RatesHold : Type 0
@@ -75,8 +77,8 @@ PlaceHoldsAlways =
     (before : List Call) (i : ℕ) (c : ℤ) (xs : List Call) →
     slotAt (run before fresh) i .sounding ≡ true →
     past (voiceIn i (run before fresh) .stage) ≡ true →
-    0 < frames xs (run before fresh) →
+    0 < framesRun xs (run before fresh) →
     KeepsAll i c xs (run before fresh) →
     (voiceIn i (run before fresh) .mode ≡ 3
     → released (voiceIn i (run xs (run before fresh)) .stage) ≡ released (voiceIn i (run before fresh) .stage)) →
-    Moved i c (frames xs (run before fresh)) (run before fresh) (run xs (run before fresh))
+    Moved i c (framesRun xs (run before fresh)) (run before fresh) (run xs (run before fresh))

@@ -1,27 +1,27 @@
 -- Any two outcomes that a contract allows are one: the answer, the state and all of the output.
+use mathlib.Core.Path.{_≡_}
+use mathlib.Core.List.{List}
+use lib.Ieee.{Float}
 use Prim.Native.Nat.{ℕ}
 use mathlib.Core.Bool.{Bool, cond}
-use mathlib.Core.List.{List}
-use mathlib.Core.Path.{_≡_}
-use lib.Ieee.{Float}
-use lib.IntN.{ℤ}
 use denote.Ref.{RefT, now}
-use Rattle.records.specs.Memory.{partOf}
-use Rattle.bank.specs.declared.Fault.{Fault}
+use lib.IntN.{ℤ}
+use Rattle.engine.specs.declared.Answered.{Answered}
+use Rattle.engine.specs.declared.Engine.{Engine}
+use Rattle.promises.specs.Calls.{Call, does, written}
+use Rattle.voice.specs.declared.Shown.{Shown}
+use Rattle.bank.specs.Admission.{faultOf, faultNumber, admitted}
 use Rattle.bank.specs.declared.Listed.{Listed}
-use Rattle.bank.specs.Admission.{faultOf, numberOf, admitted}
 use Rattle.bank.specs.Listing.{listed}
-use Rattle.reader.specs.declared.Reader.{Reader}
+use Rattle.bank.specs.declared.Fault.{Fault}
 use Rattle.reader.specs.declared.Opened.{Opened}
+use Rattle.reader.specs.Reader.{openedOf, nextOf, nthListed, further}
+use Rattle.reader.specs.declared.Reader.{Reader}
 use Rattle.reader.specs.declared.Taken.{Taken}
 use Rattle.reader.specs.declared.Step.{Step}
-use Rattle.reader.specs.Reading.{further, given, openedOf, nextOf}
-use Rattle.voice.specs.declared.Shown.{Shown}
-use Rattle.engine.specs.declared.Engine.{Engine}
-use Rattle.engine.specs.declared.Answered.{Answered}
-use Rattle.engine.specs.State as State
-use Rattle.engine.specs.PanelAsk as PanelAsk
-use Rattle.promises.specs.Calls.{Call, does, written}
+use Rattle.records.specs.Memory.{partOf}
+use Rattle.engine.specs.Board as EngineBoard
+use Rattle.engine.specs.Fresh as EngineFresh
 
 -- a contract settles an outcome: any two that it allows are one
 abbrev pub Settles : (A : Type 0) → (A → Type 0) → Type 0
@@ -47,19 +47,19 @@ CallsDetermined = (x : Call) (e : Engine) → Settles Outcome (Allowed x e)
 
 -- panel: what the slot is in, or the refusal
 abbrev pub PanelDetermined : Type 0
-PanelDetermined = (slot : ℕ) (e : Engine) → Settles Shown (λ r. r ≡ PanelAsk.ask slot e)
+PanelDetermined = (slot : ℕ) (e : Engine) → Settles Shown (λ r. r ≡ EngineBoard.ask slot e)
 
 -- voice_count: how many voices sound
 abbrev pub VoiceCountDetermined : Type 0
-VoiceCountDetermined = (e : Engine) → Settles ℕ (λ r. r ≡ PanelAsk.voiceCount e)
+VoiceCountDetermined = (e : Engine) → Settles ℕ (λ r. r ≡ EngineBoard.voiceCount e)
 
 -- fresh: the state at the beginning
 abbrev pub FreshDetermined : Type 0
-FreshDetermined = Settles Engine (λ r. r ≡ State.fresh)
+FreshDetermined = Settles Engine (λ r. r ≡ EngineFresh.fresh)
 
 -- admit, and with the same contract bank's admission_number and reader's opens: 01's number for a bank
 abbrev pub AdmitDetermined : Type 0
-AdmitDetermined = (bank : List ℕ) → Settles ℕ (λ r. r ≡ numberOf (faultOf bank))
+AdmitDetermined = (bank : List ℕ) → Settles ℕ (λ r. r ≡ faultNumber (faultOf bank))
 
 -- list, and with the same contract bank's listed_at: what stands at a place of the listing
 abbrev pub ListDetermined : Type 0
@@ -73,7 +73,7 @@ AdmissionDetermined = (bank : List ℕ) → Settles Fault (λ r. r ≡ faultOf b
 
 -- number_of: 01's number for a fault
 abbrev pub NumberOfDetermined : Type 0
-NumberOfDetermined = (f : Fault) → Settles ℕ (λ r. r ≡ numberOf f)
+NumberOfDetermined = (f : Fault) → Settles ℕ (λ r. r ≡ faultNumber f)
 
 -- admitted: whether the number is 0
 abbrev pub AdmittedDetermined : Type 0
@@ -91,7 +91,7 @@ NextDetermined = (r : Reader) → Settles Taken (λ n. n ≡ nextOf r)
 
 -- nth: what the k-th next from opening gives
 abbrev pub NthDetermined : Type 0
-NthDetermined = (bank : List ℕ) (k : ℕ) → Settles Listed (λ r. r ≡ given bank k)
+NthDetermined = (bank : List ℕ) (k : ℕ) → Settles Listed (λ r. r ≡ nthListed bank k)
 
 -- the contract of step_from: what stands at a place, and the place of the next
 pub record AllowedStep (bank : List ℕ) (at : ℕ) (r : Step) : Type 0 where

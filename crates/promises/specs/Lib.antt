@@ -1,24 +1,6 @@
--- The calls, what was promised of them (Demand1 to Determined), the proofs, and examples that are computed.
+pub mod Age
 pub mod Calls
 pub mod Demand1
-pub mod Age
 pub mod Demand2
 pub mod Demand3
 pub mod Determined
-pub mod EachSlot
-pub mod Kept
-pub mod AgeLaws
-pub mod Demand1Proof
-pub mod Demand2Proof
-pub mod Banks
-pub mod Frames
-pub mod Voices
-pub mod NightProof
-pub mod SeatsProof
-pub mod Cuts
-pub mod OutputProof
-pub mod PanelProof
-pub mod Demand3Proof
-pub mod DeterminedProof
-pub mod Demand3Example
-pub mod Runs

@@ -1,9 +1,9 @@
 // The listing reader, which keeps the lent bank and its place (01, "Bank admission"). No function over a struct that holds a
 // reference is covered: each takes it apart, calls a covered one on slice and number, and is proved by a walk of its MIR.
 ghost use mathlib.Core.Path.{_≡_};
-ghost use Rattle.bank.specs.Admission.{numberOf, faultOf};
+ghost use Rattle.bank.specs.Admission.{faultNumber, faultOf};
 ghost use Rattle.bank.specs.Listing.{listed};
-ghost use Rattle.reader.specs.Reading.{further, given, nextOf, openedOf};
+ghost use Rattle.reader.specs.Reader.{further, nthListed, nextOf, openedOf};
 use bank::Listed;
 
 // The lent bank, and the number of the record that is next.
@@ -76,14 +76,14 @@ pub fn next<'a>(r: Reader<'a>) -> Taken<'a>
 
 // 01's number for opening. A caller of this one and of `nth` needs no walk.
 pub fn opens(bank: &[u8]) -> u8
-    ensures { λ r. ⌜ r ≡ numberOf (faultOf (now (bank .entry))) ⌝ }
+    ensures { λ r. ⌜ r ≡ faultNumber (faultOf (now (bank .entry))) ⌝ }
 {
     open(bank).number
 }
 
 // What the k-th next from opening gives, counted from 0.
 pub fn nth(bank: &[u8], k: u32) -> Listed
-    ensures { λ r. ⌜ r ≡ given (now (bank .entry)) k ⌝ }
+    ensures { λ r. ⌜ r ≡ nthListed (now (bank .entry)) k ⌝ }
 {
     next(Reader { bank, place: k }).listed
 }

@@ -1,6 +1,6 @@
 -- 01, "Bank admission": nine sub-chunks, each a four-letter name, a 32-bit size and a body of records.
+use Prim.Native.Nat.{ℕ, _+_, _*_, zero, suc, _/_}
 use mathlib.Core.List.{List, [], _∷_}
-use Prim.Native.Nat.{ℕ, zero, suc, _+_, _*_, _/_}
 use lib.ListN.{getD}
 use Rattle.arith.specs.Bytes.{u32At}
 

@@ -3,10 +3,10 @@
 use mathlib.Core.List.{List}
 use Prim.Native.Nat.{ℕ, _+_, _*_}
 use lib.IntN.{ℤ}
-use Rattle.arith.specs.Bytes.{u16At, i16At}
 use Rattle.records.specs.Chunks.{body, records}
-use Rattle.records.specs.declared.Parts.{Parts}
 use Rattle.records.specs.declared.Side.{Side}
+use Rattle.records.specs.declared.Parts.{Parts}
+use Rattle.arith.specs.Bytes.{u16At, i16At}
 
 -- phdr: 38 bytes, bag index at 24; 41 names an inst record
 unfoldable pub presets : List ℕ → Side
@@ -81,15 +81,3 @@ amount b s g = u16At b (genAt s g + 2)
 -- its amount, signed
 unfoldable pub signed : List ℕ → Side → ℕ → ℤ
 signed b s g = i16At b (genAt s g + 2)
-
--- where the header of sample k stands (shdr, 46 bytes)
-abbrev pub sampleAt : Parts → ℕ → ℕ
-sampleAt m k = m .samples + 46 * k
-
--- the program of preset h
-unfoldable pub programOf : List ℕ → Parts → ℕ → ℕ
-programOf b m h = u16At b (headAt (m .presets) h + 20)
-
--- the bank of preset h
-unfoldable pub bankOf : List ℕ → Parts → ℕ → ℕ
-bankOf b m h = u16At b (headAt (m .presets) h + 22)

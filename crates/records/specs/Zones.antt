@@ -1,14 +1,14 @@
 -- 01, "Bank admission": zones, sounding, global and ignored; and what a generator's value is in a zone.
-use mathlib.Core.Bool.{Bool, true, false, cond, not, _&&_}
 use mathlib.Core.List.{List}
-use Prim.Native.Nat.{ℕ, zero, suc, _+_, _-_}
+use Prim.Native.Nat.{ℕ, _+_, _-_, zero, suc}
+use mathlib.Core.Bool.{Bool, true, false, cond, not, _&&_}
 use lib.Dec.{eqb, leb}
 use lib.IntN.{ℤ}
-use Rattle.records.specs.Search.{orElse, first, last}
-use Rattle.records.specs.Sides.{genAt, bagOf, genOf, operator, amount, signed}
+use Rattle.records.specs.Sides.{bagOf, genOf, operator, amount, genAt, signed}
+use Rattle.records.specs.declared.Side.{Side}
+use Rattle.records.specs.Looking.{first, last, orElse}
 use Rattle.records.specs.declared.Found.{Found}
 use Rattle.records.specs.declared.Found.the-variants.{Nothing, At}
-use Rattle.records.specs.declared.Side.{Side}
 use Rattle.records.specs.declared.Zone.{Zone}
 
 -- the zones of head h: the bags from its bag index up to the next head's

@@ -1,7 +1,7 @@
 // All amounts of a zone in one pass.
 ghost use mathlib.Core.Path.{_≡_};
 ghost use Prim.Native.Nat.{_≤_};
-ghost use Rattle.records.specs.Amounts.{poured};
+ghost use Rattle.records.specs.Internal.Amounts.{poured};
 ghost use Rattle.records.specs.Sides.{operator};
 use crate::Side;
 use crate::Zone;

@@ -2,9 +2,9 @@
 ghost use mathlib.Core.Path.{_≡_};
 ghost use Prim.Native.Nat.{_<_};
 ghost use lib.IntN.{_+ℤ_};
-ghost use Rattle.arith.specs.Over.{heldTo};
+ghost use Rattle.arith.specs.Holds.{heldTo};
 ghost use Rattle.arith.specs.Within.{Within};
-ghost use Rattle.totals.specs.TotalsLaws.{at, defaults, ownValues, addedValues};
+ghost use Rattle.totals.specs.Internal.Values.{at, defaults, ownValues, addedValues};
 use crate::Layer;
 use records::Parts;
 

@@ -1,17 +1,17 @@
 -- 01, "A voice, frame by frame", last paragraph: what the panel is told of a slot.
+use mathlib.Core.Bool.{cond}
 use Prim.Native.Nat.{ℕ}
 use mathlib.Core.List.{List, [], _∷_}
 use lib.Ieee.{Float}
-use mathlib.Core.Bool.{cond}
-use Rattle.arith.specs.Over.{levelOf}
-use Rattle.curves.specs.Decibels.{gainOf}
+use Rattle.arith.specs.Floats.{levelOf}
+use Rattle.curves.specs.Levels.{gainOf}
 use Rattle.voice.specs.declared.Shown.{Shown}
-use Rattle.voice.specs.declared.Shown.the-variants as is
 use Rattle.voice.specs.declared.Stage.{Stage}
 use Rattle.voice.specs.declared.Stage.the-variants.{Delay, Attack, Hold, Decay, Sustain, Release}
 use Rattle.voice.specs.declared.Voice.{Voice}
-use Rattle.voice.specs.declared.Slot.{Slot}
 use Rattle.voice.specs.Stages.{levelAt, envelope}
+use Rattle.voice.specs.declared.Slot.{Slot}
+use Rattle.voice.specs.declared.Shown.the-variants as is
 
 -- a stage, with its level or its envelope's gain over 2^24 (`levelOf n` is n / 2^24, exact)
 abbrev pub stageShown : Voice → Stage → Shown
@@ -27,15 +27,15 @@ unfoldable pub shown : Slot → Shown
 shown s = cond (s .sounding) (stageShown (s .voice) (s .voice .stage)) is.Free
 
 -- 01's number for each answer
-abbrev pub numberOf : Shown → ℕ
-numberOf is.Refused = 2
-numberOf is.Free = 0
-numberOf is.Delay = 0
-numberOf (is.Attack x) = 0
-numberOf is.Hold = 0
-numberOf (is.Decay x) = 0
-numberOf (is.Sustain x) = 0
-numberOf (is.Release x) = 0
+abbrev pub shownNumber : Shown → ℕ
+shownNumber is.Refused = 2
+shownNumber is.Free = 0
+shownNumber is.Delay = 0
+shownNumber (is.Attack x) = 0
+shownNumber is.Hold = 0
+shownNumber (is.Decay x) = 0
+shownNumber (is.Sustain x) = 0
+shownNumber (is.Release x) = 0
 
 -- 01's values for each answer: the level, where the stage has one
 abbrev pub levelsOf : Shown → List Float

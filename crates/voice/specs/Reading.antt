@@ -1,11 +1,11 @@
 -- 01, "A voice, frame by frame": the reading between two samples of the window.
 use Prim.Native.Nat.{ℕ, _+_, _/_, _%_}
-use mathlib.Core.Bool.{Bool, cond, _&&_}
 use mathlib.Core.List.{List}
-use lib.Dec.{eqb}
 use lib.IntN.{ℤ, pos}
 use lib.ListN.{getD}
-use Rattle.arith.specs.Between.{readingOf}
+use mathlib.Core.Bool.{Bool, cond, _&&_}
+use lib.Dec.{eqb}
+use Rattle.arith.specs.Floors.{readingOf}
 
 -- the sample at i of the window; behind its last stands 0
 abbrev pub sample : List ℤ → ℕ → ℤ
@@ -16,10 +16,10 @@ unfoldable pub behind : Bool → ℕ → ℕ → ℕ → ℕ
 behind folding from to i = cond (folding && eqb (i + 1) to) from (i + 1)
 
 -- x0 + floor((x1 - x0) * fraction / 2^24)
-abbrev pub between : ℤ → ℤ → ℕ → ℤ
-between = readingOf
+abbrev pub interpolated : ℤ → ℤ → ℕ → ℤ
+interpolated = readingOf
 
 -- the reading of window w at a place in 2^-24 samples, with the loop from..to where it folds
 unfoldable pub reading : Bool → ℕ → ℕ → List ℤ → ℕ → ℤ
 reading folding from to w place =
-    between (sample w (place / 16777216)) (sample w (behind folding from to (place / 16777216))) (place % 16777216)
+    interpolated (sample w (place / 16777216)) (sample w (behind folding from to (place / 16777216))) (place % 16777216)

@@ -1,14 +1,14 @@
 -- 01, "A voice, frame by frame": attenuation, gain, level, pan.
+use lib.IntN.{ℤ, pos, _+ℤ_, negsuc, _*ℤ_, _-ℤ_}
 use Prim.Native.Nat.{ℕ}
-use lib.IntN.{ℤ, pos, negsuc, _+ℤ_, _-ℤ_, _*ℤ_}
-use Rattle.arith.specs.Floor.{floorZ}
-use Rattle.arith.specs.Over.{heldTo}
-use Rattle.curves.specs.Decibels.{gainOf, cbOf}
-use Rattle.voice.specs.declared.Stage.{Stage}
-use Rattle.voice.specs.declared.Stage.the-variants.{Delay, Attack, Hold, Decay, Sustain, Release}
+use Rattle.curves.specs.Levels.{cbOf, gainOf}
 use Rattle.voice.specs.declared.Voice.{Voice}
 use Rattle.voice.specs.declared.Channel.{Channel}
+use Rattle.arith.specs.Floors.{floorZ}
+use Rattle.voice.specs.declared.Stage.{Stage}
+use Rattle.voice.specs.declared.Stage.the-variants.{Delay, Attack, Hold, Decay, Sustain, Release}
 use Rattle.voice.specs.Stages.{levelAt}
+use Rattle.arith.specs.Holds.{heldTo}
 
 -- generator 48 and velocity, 7 and 11 as they stand
 unfoldable pub loss : Channel → Voice → ℤ
@@ -20,8 +20,8 @@ least0 (pos n) = n
 least0 (negsuc n) = 0
 
 -- the attenuation, at least 0
-abbrev pub total : ℤ → ℕ → ℕ
-total loss envelope = least0 (loss +ℤ pos envelope)
+abbrev pub wholeLoss : ℤ → ℕ → ℕ
+wholeLoss loss envelope = least0 (loss +ℤ pos envelope)
 
 -- floor(reading * gain / 2^16)
 unfoldable pub gained : ℤ → ℕ → ℤ

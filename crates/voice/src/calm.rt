@@ -2,7 +2,7 @@
 ghost use mathlib.Core.Path.{_≡_};
 ghost use Prim.Native.Nat.{_+_, _-_, _<_};
 ghost use Rattle.voice.specs.Stages.{decayAt};
-ghost use Rattle.voice.specs.Stretch.{spentBy, RoomBy, Steady, Calms};
+ghost use Rattle.voice.specs.Internal.Calm.{spentBy, RoomBy, Steady, Calms};
 use crate::Stage;
 use crate::Voice;
 use crate::stages::decay_at;

@@ -26,7 +26,7 @@ pub use stages::is_waiting;
 pub use stages::level_at;
 pub use stages::release_at;
 ghost use mathlib.Core.Path.{_≡_};
-ghost use Rattle.voice.specs.State.{withMoved};
+ghost use Rattle.voice.specs.Records.{withMoved};
 
 // A stage, with the frames already spent in it (in delay: those left).
 pub enum Stage {

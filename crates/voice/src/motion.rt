@@ -1,12 +1,12 @@
 // The step, the move by it, and the fold or the end.
 ghost use mathlib.Core.Path.{_≡_};
 ghost use lib.IntN.{_+ℤ_};
-ghost use Rattle.curves.specs.Octaves.{octaves};
-ghost use Rattle.curves.specs.Pitch.{bendCents, pitchHeld, stepAt};
 ghost use Prim.Native.Nat.{_+_, _<_};
-ghost use Rattle.voice.specs.Move.{folds, fold, span};
-ghost use Rattle.voice.specs.StageLaws.{Room};
-ghost use Rattle.voice.specs.Frame.{goOn};
+ghost use Rattle.curves.specs.Octave.{octaves};
+ghost use Rattle.curves.specs.Pitch.{bendCents, pitchHeld, stepAt};
+ghost use Rattle.voice.specs.Motion.{folds, fold, span};
+ghost use Rattle.voice.specs.Internal.Stages.{Room};
+ghost use Rattle.voice.specs.Frames.{goOn};
 use crate::Slot;
 use crate::Stage;
 use crate::Voice;

@@ -1,8 +1,7 @@
 // What the panel is told of a slot.
 ghost use mathlib.Core.Path.{_≡_};
-ghost use Rattle.arith.specs.Over.{levelOf};
-ghost use Rattle.curves.specs.Gains.{gains};
-ghost use Rattle.curves.specs.Decibels.{gainOf};
+ghost use Rattle.arith.specs.Floats.{levelOf};
+ghost use Rattle.curves.specs.Levels.{gains, gainOf};
 ghost use Rattle.voice.specs.Panel.{stageShown, shown};
 use crate::Shown;
 use crate::Slot;

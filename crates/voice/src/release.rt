@@ -1,6 +1,6 @@
 // The release.
 ghost use mathlib.Core.Path.{_≡_};
-ghost use Rattle.curves.specs.Gains.{gains};
+ghost use Rattle.curves.specs.Levels.{gains};
 ghost use Rattle.voice.specs.Release.{letGo, release};
 use crate::Stage;
 use crate::Voice;

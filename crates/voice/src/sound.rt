@@ -3,11 +3,10 @@ ghost use mathlib.Core.Path.{_≡_};
 ghost use Prim.Native.Nat.{_≤_, _<_};
 ghost use lib.IntN.{pos, _+ℤ_, _*ℤ_};
 ghost use Rattle.arith.specs.Within.{Within};
-ghost use Rattle.arith.specs.Floor.{floorZ};
-ghost use Rattle.curves.specs.Gains.{gains};
-ghost use Rattle.curves.specs.Decibels.{cbOf};
-ghost use Rattle.voice.specs.Sound.{total, shaped, panOf, leftOf, rightOf};
-ghost use Rattle.voice.specs.Frame.{loud};
+ghost use Rattle.arith.specs.Floors.{floorZ};
+ghost use Rattle.curves.specs.Levels.{gains, cbOf};
+ghost use Rattle.voice.specs.Sound.{wholeLoss, shaped, panOf, leftOf, rightOf};
+ghost use Rattle.voice.specs.Frames.{loud};
 use crate::Stage;
 use crate::Voice;
 use crate::motion::is_folding;
@@ -37,7 +36,7 @@ pub fn loss_of(v: Voice, volume: u8, expression: u8) -> i64
 // The attenuation, at least 0.
 pub fn total_of(l: i64, e: u64) -> u64
     requires { ⌜ Within l 1099511627776 × (e < 8796093022208) ⌝ }
-    ensures { λ r. ⌜ r ≡ total l e ⌝ }
+    ensures { λ r. ⌜ r ≡ wholeLoss l e ⌝ }
 {
     let a = l + (e as i64);
     if a < 0 { 0 } else { a as u64 }

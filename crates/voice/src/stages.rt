@@ -1,7 +1,7 @@
 // Stages: the envelope, the attack's level, leaving spent stages, one frame more spent.
 ghost use mathlib.Core.Path.{_≡_};
 ghost use Prim.Native.Nat.{_-_, _≤_, _<_};
-ghost use Rattle.voice.specs.StageLaws.{Room, Roomy};
+ghost use Rattle.voice.specs.Internal.Stages.{Room, Roomy};
 ghost use Rattle.voice.specs.Stages.{levelAt, decayAt, releaseAt, envelope, fromDecay, fromHold, fromAttack, fromDelay, entered, dead, waiting, released, spent};
 use crate::Stage;
 use crate::Voice;

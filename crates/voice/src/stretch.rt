@@ -4,9 +4,9 @@ ghost use mathlib.Core.List.{[], _∷_};
 ghost use Prim.Native.Nat.{ℕ, _+_, _*_, _/_, _%_, _<_, _≤_};
 ghost use lib.ListN.{length};
 ghost use Rattle.arith.specs.Within.{Within};
-ghost use Rattle.voice.specs.Reading.{sample, between};
-ghost use Rattle.voice.specs.Sums.{addAt, From, Small, loudest};
-ghost use Rattle.voice.specs.Stretch.{top, Clear, plains};
+ghost use Rattle.voice.specs.Reading.{sample, interpolated};
+ghost use Rattle.voice.specs.Internal.Sums.{addAt, From, Small, loudest};
+ghost use Rattle.voice.specs.Internal.Stretch.{top, Clear, plains};
 use crate::Stage;
 use crate::Voice;
 use crate::motion::is_folding;
@@ -66,7 +66,7 @@ pub fn limit_of(v: Voice, s: Stage, st: u32, w: &[i16]) -> u64
 // The reading between a sample and the next.
 fn read_on(w: &[i16], p: u64) -> i64
     requires { ⌜ p / 16777216 + 1 < length (now w) ⌝ }
-    ensures { λ r. ⌜ (r ≡ between (sample (now (w .entry)) (p / 16777216)) (sample (now (w .entry)) (p / 16777216 + 1)) (p % 16777216)) × Within r 100000 ⌝ }
+    ensures { λ r. ⌜ (r ≡ interpolated (sample (now (w .entry)) (p / 16777216)) (sample (now (w .entry)) (p / 16777216 + 1)) (p % 16777216)) × Within r 100000 ⌝ }
 {
     let i = (p / 16777216) as usize;
     let f = (p % 16777216) as u32;

@@ -2,9 +2,9 @@
 ghost use mathlib.Core.Path.{_≡_};
 ghost use Prim.Native.Nat.{_≤_, _<_};
 ghost use lib.ListN.{length};
-ghost use Rattle.curves.specs.Gains.{gains};
-ghost use Rattle.curves.specs.Octaves.{octaves};
-ghost use Rattle.voice.specs.Sums.{Small};
+ghost use Rattle.curves.specs.Levels.{gains};
+ghost use Rattle.curves.specs.Octave.{octaves};
+ghost use Rattle.voice.specs.Internal.Sums.{Small};
 use voice::Channel;
 use voice::Slot;
 use voice::Stage;

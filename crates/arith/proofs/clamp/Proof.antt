@@ -2,8 +2,8 @@
 use mathlib.Core.Path.{sym}
 use lib.IntN.{pos, negsuc}
 use mir.Facts.{toZ-ofZ}
-use Rattle.arith.specs.Within.{w-lit}
-use Rattle.arith.specs.Clamp.{clamp-low, clamp-high, clamp-in, amid}
+use Rattle.arith.proofs.WithinLaws.{w-lit}
+use Rattle.arith.proofs.HoldsLaws.{clamp-low, clamp-high, clamp-in, amid}
 use Rattle.arith.proofs.clamp.Statement.{statement}
 use Rattle.arith.proofs.clamp.Tie as tie
 

@@ -1,6 +1,6 @@
 -- A slot put in by a mask.
 use mathlib.Core.Path.{refl}
-use Rattle.arith.specs.Bit.{insert, one-shl}
+use Rattle.arith.proofs.WordsLaws.{insert, one-shl}
 use Rattle.arith.proofs.insert.Statement.{statement}
 use Rattle.arith.proofs.insert.Tie as tie
 

@@ -6,9 +6,9 @@ use lib.IntN.{pos, negsuc}
 use lib.Count.{trailingZeros}
 use Prim.Native.Nat.{ℕ, _≤_}
 use lib.Ieee.{fin, binary32, mul, ofInt, ofBits, ofFields, odd}
-use Rattle.arith.specs.Within.{w-nat}
-use Rattle.arith.specs.Over.{levelOf}
-use Rattle.arith.specs.Scaled.{scaled, in-float, level-made}
+use Rattle.arith.proofs.WithinLaws.{w-nat}
+use Rattle.arith.specs.Floats.{levelOf}
+use Rattle.arith.proofs.FloatsLaws.{scaled, in-float, level-made}
 use Rattle.arith.proofs.level_unit.Statement.{statement}
 use Rattle.arith.proofs.level_unit.Tie as tie
 

@@ -1,5 +1,5 @@
 -- The trailing zeros of the complement are the lowest clear slot.
-use Rattle.arith.specs.WordLaws.{lowest-zeros}
+use Rattle.arith.proofs.WordsLaws.{lowest-zeros}
 use Rattle.arith.proofs.lowest_clear.Statement.{statement}
 use Rattle.arith.proofs.lowest_clear.Tie as tie
 

@@ -2,8 +2,8 @@
 use mathlib.Core.List.{List, [], _∷_}
 use lib.Dec.{lit≤}
 use mir.Syntax.{w64}
-use Rattle.arith.specs.Expr.{E, var, add, sub, mul, shr, Var, given, fits, back, within}
-use Rattle.arith.specs.Within.{w-le}
+use Rattle.arith.proofs.Expressions.{E, var, add, sub, mul, shr, Var, given, fits, back, within}
+use Rattle.arith.proofs.WithinLaws.{w-le}
 use Rattle.arith.proofs.reading.Statement.{statement}
 use Rattle.arith.proofs.reading.Tie as tie
 

@@ -6,7 +6,7 @@ use mir.Val.{SFits, toZ, ofZ}
 use lib.Dec.{lit<}
 use mir.Facts.{toZ-ofZ}
 use mir.Syntax.{w16, w64}
-use Rattle.arith.specs.Within.{w-of, w-nat, w-fits, w-back}
+use Rattle.arith.proofs.WithinLaws.{w-of, w-nat, w-fits, w-back}
 use Rattle.arith.proofs.reading_of.Statement.{statement}
 use Rattle.arith.proofs.reading_of.Tie as tie
 

@@ -7,9 +7,10 @@ use lib.Count.{trailingZeros}
 use lib.Ieee.{fin, binary32, mul, ofInt, ofBits, ofFields, odd}
 use native.Mathlib.Nat.{le-trans}
 use mir.Facts.{toZ-ofZ}
-use Rattle.arith.specs.Over.{unitOf}
-use Rattle.arith.specs.Scaled.{scaled, in-float, unit-made}
-use Rattle.arith.specs.Within.{Within, w-le}
+use Rattle.arith.specs.Floats.{unitOf}
+use Rattle.arith.proofs.FloatsLaws.{scaled, in-float, unit-made}
+use Rattle.arith.specs.Within.{Within}
+use Rattle.arith.proofs.WithinLaws.{w-le}
 use Rattle.arith.proofs.to_unit.Statement.{statement}
 use Rattle.arith.proofs.to_unit.Tie as tie
 

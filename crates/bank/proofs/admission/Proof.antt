@@ -7,9 +7,14 @@ use Rattle.records.specs.declared.Found.{Found}
 use Rattle.records.specs.declared.Found.the-variants.{Nothing}
 use Rattle.records.specs.declared.Parts.{Parts}
 use Rattle.records.specs.Sides.{partsOf}
-use Rattle.bank.specs.RulesLaws.{long-none, long-some, whole-bank}
-use Rattle.bank.specs.AdmissionLaws.{fault-long, fault-chunk, fault-records, fault-index, fault-number, fault-rate, fault-window, fault-none}
-use Rattle.bank.specs.Admission.{longFault, chunkFault, recordsFault, indexFault, numberFault, rateFault, windowFault}
+use Rattle.bank.proofs.RulesLaws.{long-none, long-some, whole-bank}
+use Rattle.bank.proofs.AdmissionLaws.{fault-long, fault-chunk, fault-records, fault-index, fault-number, fault-rate, fault-window, fault-none}
+use Rattle.bank.specs.Admission.{longFault}
+use Rattle.bank.specs.Framing.{chunkFault, recordsFault}
+use Rattle.bank.specs.Indexes.{indexFault}
+use Rattle.bank.specs.Links.{numberFault}
+use Rattle.bank.specs.Rates.{rateFault}
+use Rattle.bank.specs.Bounds.{windowFault}
 use Rattle.bank.proofs.admission.Statement.{statement}
 use Rattle.bank.proofs.admission.Tie as tie
 

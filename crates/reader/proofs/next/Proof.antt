@@ -30,7 +30,6 @@ use denote.Signature.{namedLft}
 use denote.Slice.{sliceVal, ShrSlice}
 use denote.Steps.{only, owned, peeks, heard, nothing}
 use denote.Struct.Declared.{Declared}
-use denote.Struct.Laws as LL
 use denote.Struct.Rest.{all-own, ownAt, rest, own-open, own-out, own-put, own-shut}
 use denote.Struct.Values.{Values}
 use denote.Triple.Statement.{Contract, Triple}
@@ -42,11 +41,14 @@ use denote.Triple.Walked.{says, Stays, stay-none, walkOf, goes-none, Walks, ends
 use denote.Exit.{yes}
 use denote.Triple.Clauses.{ensured, lasts}
 use Rattle.bank.specs.Listing.{listed}
-use Rattle.reader.specs.Reading.{further}
+use Rattle.reader.specs.Reader.{further}
 use Rattle.reader.specs.declared.Reader.{Reader}
 use Rattle.reader.specs.declared.Step.{Step}
 use Rattle.reader.specs.declared.Taken.{Taken}
-use Rattle.reader.proofs.Reader as T
+use Rattle.reader.proofs.step_from.Symbol.{name as #reader·step-from}
+use Rattle.reader.proofs.next.Key.{name as #reader·next}
+use denote.Struct.Laws as LL
+use Rattle.reader.proofs.ReaderLaws as T
 use Rattle.reader.proofs.Reader.Laws as T′
 use Rattle.reader.proofs.Step as S
 use Rattle.reader.proofs.Step.Laws as S′
@@ -54,9 +56,7 @@ use Rattle.reader.proofs.Taken as N
 use Rattle.reader.proofs.Taken.Laws as N′
 use Rattle.reader.proofs.step_from as callee
 use Rattle.reader.proofs.step_from.Symbol as callee-def
-use Rattle.reader.proofs.step_from.Symbol.{name as #reader·step-from}
 use Rattle.reader.proofs.step_from.Met as callee-thm
-use Rattle.reader.proofs.next.Key.{name as #reader·next}
 use Rattle.reader.proofs.next as next
 use Rattle.reader.proofs.next.Statement as stated
 use Rattle.reader.proofs.next.Code as code

@@ -29,7 +29,6 @@ use denote.Slice.{sliceVal, ShrSlice, slice-vals, shr-slice-tells, shr-slice-law
 use denote.Steps.{only, owned, peeks, heard, nothing}
 use denote.Struct.At.{valAt}
 use denote.Struct.Declared.{Declared}
-use denote.Struct.Laws as LL
 use denote.Struct.Rest.{all-own, own-open, own-shut}
 use denote.Struct.Values.{Values}
 use denote.Triple.Statement.{Contract, Triple}
@@ -40,19 +39,20 @@ use denote.Triple.Table.{entered, cited}
 use denote.Triple.Walked.{says, Stays, stay-none, stay-none-slice, walkOf, goes-none, goes-none-slice, Walks, ends-at, walked, walk-meets}
 use denote.Exit.{yes}
 use denote.Triple.Clauses.{ensured, lasts}
-use Rattle.reader.specs.Reading.{nextOf}
-use Rattle.reader.specs.ReadingLaws.{given-listed}
+use Rattle.reader.specs.Reader.{nextOf}
+use Rattle.reader.proofs.ReaderLaws.{given-listed}
 use Rattle.reader.specs.declared.Reader.{Reader}
 use Rattle.reader.specs.declared.Taken.{Taken}
-use Rattle.reader.proofs.Reader as T
+use Rattle.reader.proofs.next.Symbol.{name as #reader·next}
+use Rattle.reader.proofs.nth.Key.{name as #reader·nth}
+use denote.Struct.Laws as LL
+use Rattle.reader.proofs.ReaderLaws as T
 use Rattle.reader.proofs.Reader.Laws as T′
 use Rattle.reader.proofs.Taken as N
 use Rattle.reader.proofs.Taken.Laws as N′
 use Rattle.reader.proofs.next as next
 use Rattle.reader.proofs.next.Symbol as next-def
-use Rattle.reader.proofs.next.Symbol.{name as #reader·next}
 use Rattle.reader.proofs.next.Met as next-thm
-use Rattle.reader.proofs.nth.Key.{name as #reader·nth}
 use Rattle.reader.proofs.nth as nth
 use Rattle.reader.proofs.nth.Statement as stated
 use Rattle.reader.proofs.nth.Code as code

@@ -38,18 +38,18 @@ use denote.Triple.Table.{entered, cited}
 use denote.Triple.Walked.{says, Stays, stay-none-slice, walkOf, goes-none-slice, Walks, ends-at, walked, walk-meets}
 use denote.Exit.{yes}
 use denote.Triple.Clauses.{ensured, lasts}
-use Rattle.bank.specs.Admission.{numberOf, faultOf}
-use Rattle.bank.proofs.admission_number as callee
-use Rattle.bank.proofs.admission_number.Symbol as callee-def
+use Rattle.bank.specs.Admission.{faultNumber, faultOf}
 use Rattle.bank.proofs.admission_number.Symbol.{name as #bank·admission-number}
-use Rattle.bank.proofs.admission_number.Met as callee-thm
 use Rattle.reader.specs.declared.Reader.{Reader}
 use Rattle.reader.specs.declared.Opened.{Opened}
-use Rattle.reader.proofs.Reader as T
+use Rattle.reader.proofs.open.Key.{name as #reader·open}
+use Rattle.bank.proofs.admission_number as callee
+use Rattle.bank.proofs.admission_number.Symbol as callee-def
+use Rattle.bank.proofs.admission_number.Met as callee-thm
+use Rattle.reader.proofs.ReaderLaws as T
 use Rattle.reader.proofs.Reader.Laws as T′
 use Rattle.reader.proofs.Opened as O
 use Rattle.reader.proofs.Opened.Laws as O′
-use Rattle.reader.proofs.open.Key.{name as #reader·open}
 use Rattle.reader.proofs.open as opening
 use Rattle.reader.proofs.open.Statement as stated
 use Rattle.reader.proofs.open.Code as code
@@ -77,7 +77,7 @@ module _ {M : Type 1} (𝓤 : URA M) (H : Heap 𝓤) (A : Atoms 𝓤) (W : Given
   made n = record { number = n; reader = start }
 
   abbrev number : ℕ
-  number = numberOf (faultOf (now s))
+  number = faultNumber (faultOf (now s))
 
   abbrev Post : Val → SProp 𝓤
   Post = walkOf 𝓤 H A opening.ended stayed (opening.clauses 𝓤 H A mem run) .post (((κ, tt), (q, tt), tt, (s, tt), (v ∷ [], tt)), tt)

@@ -27,7 +27,6 @@ use denote.Signature.{plain, namedLft}
 use denote.Slice.{sliceVal, ShrSlice, slice-vals, shr-slice-tells, shr-slice-lawful, shr-slice-copy}
 use denote.Steps.{only, peeks, heard, nothing}
 use denote.Struct.Declared.{Declared}
-use denote.Struct.Laws as LL
 use denote.Struct.Rest.{all-own, own-open}
 use denote.Struct.Values.{Values}
 use denote.Triple.Statement.{Contract, Triple}
@@ -38,15 +37,16 @@ use denote.Triple.Table.{entered, cited}
 use denote.Triple.Walked.{says, Stays, stay-none-slice, walkOf, goes-none-slice, Walks, ends-at, walked, walk-meets}
 use denote.Exit.{yes}
 use denote.Triple.Clauses.{ensured, lasts}
-use Rattle.reader.specs.Reading.{openedOf}
+use Rattle.reader.specs.Reader.{openedOf}
 use Rattle.reader.specs.declared.Opened.{Opened}
+use Rattle.reader.proofs.open.Symbol.{name as #reader·open}
+use Rattle.reader.proofs.opens.Key.{name as #reader·opens}
+use denote.Struct.Laws as LL
 use Rattle.reader.proofs.Opened as O
 use Rattle.reader.proofs.Opened.Laws as O′
 use Rattle.reader.proofs.open as opening
 use Rattle.reader.proofs.open.Symbol as opening-def
-use Rattle.reader.proofs.open.Symbol.{name as #reader·open}
 use Rattle.reader.proofs.open.Met as opening-thm
-use Rattle.reader.proofs.opens.Key.{name as #reader·opens}
 use Rattle.reader.proofs.opens as opens
 use Rattle.reader.proofs.opens.Statement as stated
 use Rattle.reader.proofs.opens.Code as code

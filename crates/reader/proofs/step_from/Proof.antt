@@ -2,8 +2,8 @@
 use mathlib.Core.Path.{sym, ap, _∙_}
 use borrow.Author.Needs.{needs}
 use Rattle.bank.specs.declared.Listed.{Listed}
-use Rattle.reader.specs.Reading.{behind}
-use Rattle.reader.specs.ReadingLaws.{row-fits}
+use Rattle.reader.specs.Reader.{placeBehind}
+use Rattle.reader.proofs.ReaderLaws.{row-fits}
 use Rattle.reader.proofs.step_from.Statement.{statement}
 use Rattle.reader.proofs.step_from.Tie as tie
 
@@ -28,17 +28,17 @@ returns : tie.Need-returns
 returns c =
     let t = c .before .before .before in
     let e = sym (c .before .listed .given .1) ∙ t .listed-at .ensures in
-    (e, ap (λ (l : Listed). behind l (t .before .before .args .place)) e)
+    (e, ap (λ (l : Listed). placeBehind l (t .before .before .args .place)) e)
 
 returns-2 : tie.Need-returns-2
 returns-2 c =
     let t = c .before .before in
-    (t .listed-at .ensures, ap (λ (l : Listed). behind l (t .before .before .args .place)) (sym (c .enum-told .given .1) ∙ t .listed-at .ensures))
+    (t .listed-at .ensures, ap (λ (l : Listed). placeBehind l (t .before .before .args .place)) (sym (c .enum-told .given .1) ∙ t .listed-at .ensures))
 
 returns-3 : tie.Need-returns-3
 returns-3 c =
     let t = c .before .before in
-    (t .listed-at .ensures, ap (λ (l : Listed). behind l (t .before .before .args .place)) (sym (c .enum-told2 .given .1) ∙ t .listed-at .ensures))
+    (t .listed-at .ensures, ap (λ (l : Listed). placeBehind l (t .before .before .args .place)) (sym (c .enum-told2 .given .1) ∙ t .listed-at .ensures))
 
 pub step-from-spec : {M : Type 1} → statement M
 step-from-spec =

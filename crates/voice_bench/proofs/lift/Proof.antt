@@ -5,10 +5,10 @@ use lib.Dec.{lit<, lit≤}
 use lib.IntN.{pos}
 use mir.Facts.{toZ-ofZ}
 use mir.Syntax.{w32, w64}
-use Rattle.arith.specs.Within.{w-of, w-fits}
-use Rattle.arith.specs.Expr.{E, Var, var, lit, add, given, fits, back, within}
-use Rattle.curves.specs.LiftLaws.{lifts}
 use borrow.Author.Needs.{needs}
+use Rattle.arith.proofs.WithinLaws.{w-of, w-fits}
+use Rattle.arith.proofs.Expressions.{E, Var, var, lit, add, given, fits, back, within}
+use Rattle.curves.proofs.OctaveLaws.{lifts}
 use Rattle.voice_bench.proofs.lift.Statement.{statement}
 use Rattle.voice_bench.proofs.lift.Tie as tie
 

@@ -1,7 +1,7 @@
 -- A round starts at sums of zeros.
 use lib.Dec.{lit≤}
-use Rattle.voice.specs.Sums.{zeros-small}
 use borrow.Author.Needs.{needs}
+use Rattle.voice.proofs.SumsLaws.{zeros-small}
 use Rattle.voice_bench.proofs.one.Statement.{statement}
 use Rattle.voice_bench.proofs.one.Tie as tie
 

@@ -2,9 +2,9 @@
 use mathlib.Core.Path.{_≡_}
 use Prim.Native.Nat.{_-_, _≤_}
 use lib.ListN.{length}
-use Rattle.curves.specs.Gains.{gains}
-use Rattle.curves.specs.Octaves.{octaves}
 use borrow.Author.Needs.{needs}
+use Rattle.curves.specs.Levels.{gains}
+use Rattle.curves.specs.Octave.{octaves}
 use Rattle.voice_bench.proofs.play.Statement.{statement}
 use Rattle.voice_bench.proofs.play.Tie as tie
 

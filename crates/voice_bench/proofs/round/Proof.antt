@@ -3,11 +3,12 @@ use Prim.Native.Nat.{_≤_, _-_, _+_}
 use mathlib.Core.Path.{_≡_, refl, sym, ap, _∙_, subst}
 use native.Mathlib.Omega.{arith}
 use lib.ListN.{length}
-use Rattle.arith.specs.Within.{w-le}
-use Rattle.curves.specs.Gains.{gains}
-use Rattle.curves.specs.Octaves.{octaves}
-use Rattle.voice.specs.Sums.{Small, addTo-small, addTo-length}
 use borrow.Author.Needs.{needs}
+use Rattle.arith.proofs.WithinLaws.{w-le}
+use Rattle.curves.specs.Levels.{gains}
+use Rattle.curves.specs.Octave.{octaves}
+use Rattle.voice.specs.Internal.Sums.{Small}
+use Rattle.voice.proofs.SumsLaws.{addTo-small, addTo-length}
 use Rattle.voice_bench.proofs.round.Statement.{statement}
 use Rattle.voice_bench.proofs.round.Tie as tie
 

@@ -4,9 +4,9 @@ use native.Mathlib.Omega.{arith}
 use lib.Dec.{lit<}
 use lib.IntN.{pos}
 use mir.Syntax.{w16, w32}
-use Rattle.arith.specs.Within.{w-nat, w-fits}
-use Rattle.arith.specs.Expr.{E, Var, var, lit, sub, given, fits, back, within}
 use borrow.Author.Needs.{needs}
+use Rattle.arith.proofs.WithinLaws.{w-nat, w-fits}
+use Rattle.arith.proofs.Expressions.{E, Var, var, lit, sub, given, fits, back, within}
 use Rattle.voice_bench.proofs.sample_of.Statement.{statement}
 use Rattle.voice_bench.proofs.sample_of.Tie as tie
 

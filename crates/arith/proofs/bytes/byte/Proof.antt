@@ -1,9 +1,9 @@
 -- `arith::bytes::byte` meets its contract.
-use Rattle.arith.specs.Bytes.{u8At}
 use native.Mathlib.Omega.{arith}
 use mathlib.Core.Path.{refl, sym}
 use lib.ListN.{List·getD-eq-default}
 use borrow.Author.Needs.{needs}
+use Rattle.arith.specs.Bytes.{u8At}
 use Rattle.arith.proofs.bytes.byte.Statement.{statement}
 use Rattle.arith.proofs.bytes.byte.Tie as tie
 

@@ -1,6 +1,6 @@
 -- `arith::bytes::u16_at` meets its contract.
-use Rattle.arith.specs.Bytes.{u16At}
 use borrow.Author.Needs.{needs}
+use Rattle.arith.specs.Bytes.{u16At}
 use Rattle.arith.proofs.bytes.u16_at.Statement.{statement}
 use Rattle.arith.proofs.bytes.u16_at.Tie as tie
 

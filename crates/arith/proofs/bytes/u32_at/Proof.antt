@@ -1,6 +1,6 @@
 -- `arith::bytes::u32_at` meets its contract.
-use Rattle.arith.specs.Bytes.{u32At}
 use borrow.Author.Needs.{needs}
+use Rattle.arith.specs.Bytes.{u32At}
 use Rattle.arith.proofs.bytes.u32_at.Statement.{statement}
 use Rattle.arith.proofs.bytes.u32_at.Tie as tie
 

@@ -1,12 +1,12 @@
 -- `bank::chunks::bad_chunk` meets its contract.
-use Rattle.arith.specs.Bytes.{u32At}
-use Rattle.records.specs.Chunks.{names, nameAt}
-use Rattle.bank.specs.Admission.{badChunk}
 use lib.ListN.{getD, length}
 use lib.Dec.{eqb, ltb}
 use borrow.Author.Tests.{ne-eqb, eq-eqb}
 use mathlib.Core.Path.{_≡_, refl, sym, ap, ap₂, _∙_}
 use borrow.Author.Needs.{needs}
+use Rattle.arith.specs.Bytes.{u32At}
+use Rattle.records.specs.Chunks.{names, nameAt}
+use Rattle.bank.specs.Framing.{badChunk}
 use Rattle.bank.proofs.chunks.bad_chunk.Statement.{statement}
 use Rattle.bank.proofs.chunks.bad_chunk.Tie as tie
 

@@ -1,13 +1,13 @@
 -- `bank::chunks::bad_records` meets its contract.
-use Rattle.arith.specs.Bytes.{u32At}
-use Rattle.records.specs.Chunks.{sizes, bytesIn}
-use Rattle.bank.specs.Admission.{badRecords}
 use lib.ListN.{getD}
 use lib.Dec.{ltb}
 use Prim.Native.Nat.{ℕ, _+_, _%_}
 use borrow.Author.Tests.{ne-eqb, eq-eqb}
 use mathlib.Core.Path.{_≡_, refl, ap, ap₂, _∙_}
 use borrow.Author.Needs.{needs}
+use Rattle.arith.specs.Bytes.{u32At}
+use Rattle.records.specs.Chunks.{sizes, bytesIn}
+use Rattle.bank.specs.Framing.{badRecords}
 use Rattle.bank.proofs.chunks.bad_records.Statement.{statement}
 use Rattle.bank.proofs.chunks.bad_records.Tie as tie
 

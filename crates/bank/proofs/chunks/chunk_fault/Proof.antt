@@ -1,15 +1,15 @@
 -- `bank::chunks::chunk_fault` meets its contract.
-use Rattle.records.specs.declared.Found.the-variants.{Nothing, At}
-use Rattle.records.specs.SearchLaws.{first-none, first-miss0, first-hit0}
-use Rattle.records.specs.Search.{first}
-use Rattle.records.specs.Chunks.{chunkAt}
-use Rattle.bank.specs.Admission.{badChunk, chunkFault}
 use lib.ListN.{length}
 use Prim.Native.Nat.{_-_, _≤_}
 use borrow.Author.Tests.{lt-ltb, le-ltb}
 use native.Mathlib.Omega.{arith}
 use mathlib.Core.Path.{_≡_, sym, ap, _∙_}
 use borrow.Author.Needs.{needs}
+use Rattle.records.specs.declared.Found.the-variants.{Nothing, At}
+use Rattle.records.proofs.LookingLaws.{first-none, first-miss0, first-hit0}
+use Rattle.records.specs.Looking.{first}
+use Rattle.records.specs.Chunks.{chunkAt}
+use Rattle.bank.specs.Framing.{badChunk, chunkFault}
 use Rattle.bank.proofs.chunks.chunk_fault.Statement.{statement}
 use Rattle.bank.proofs.chunks.chunk_fault.Tie as tie
 

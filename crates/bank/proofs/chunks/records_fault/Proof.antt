@@ -1,12 +1,12 @@
 -- `bank::chunks::records_fault` meets its contract.
-use Rattle.records.specs.declared.Found.the-variants.{Nothing, At}
-use Rattle.records.specs.SearchLaws.{first-none, first-miss0, first-hit0}
-use Rattle.records.specs.Search.{first}
-use Rattle.bank.specs.Admission.{badRecords, recordsFault}
 use Prim.Native.Nat.{_-_, _≤_}
 use native.Mathlib.Omega.{arith}
 use mathlib.Core.Path.{_≡_, sym, ap, _∙_}
 use borrow.Author.Needs.{needs}
+use Rattle.records.specs.declared.Found.the-variants.{Nothing, At}
+use Rattle.records.proofs.LookingLaws.{first-none, first-miss0, first-hit0}
+use Rattle.records.specs.Looking.{first}
+use Rattle.bank.specs.Framing.{badRecords, recordsFault}
 use Rattle.bank.proofs.chunks.records_fault.Statement.{statement}
 use Rattle.bank.proofs.chunks.records_fault.Tie as tie
 

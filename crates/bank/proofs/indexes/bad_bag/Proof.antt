@@ -1,10 +1,10 @@
 -- `bank::indexes::bad_bag` meets its contract.
-use Rattle.records.specs.Sides.{genOf, modOf}
 use Prim.Native.Nat.{_-_}
 use mathlib.Core.Path.{_≡_, refl, sym, _∙_}
-use Rattle.bank.specs.Admission.{badAt, badBag}
-use Rattle.bank.specs.IndexLaws.{index-read}
 use borrow.Author.Needs.{needs}
+use Rattle.records.specs.Sides.{genOf, modOf}
+use Rattle.bank.specs.Indexes.{badAt, badBag}
+use Rattle.bank.proofs.IndexesLaws.{index-read}
 use Rattle.bank.proofs.indexes.bad_bag.Statement.{statement}
 use Rattle.bank.proofs.indexes.bad_bag.Tie as tie
 

@@ -1,8 +1,8 @@
 -- `bank::indexes::bad_head` meets its contract.
-use Rattle.bank.specs.Admission.{badHead}
-use Rattle.records.specs.Sides.{bagOf}
-use Rattle.bank.specs.IndexLaws.{index-read}
 use borrow.Author.Needs.{needs}
+use Rattle.bank.specs.Indexes.{badHead}
+use Rattle.records.specs.Sides.{bagOf}
+use Rattle.bank.proofs.IndexesLaws.{index-read}
 use Rattle.bank.proofs.indexes.bad_head.Statement.{statement}
 use Rattle.bank.proofs.indexes.bad_head.Tie as tie
 

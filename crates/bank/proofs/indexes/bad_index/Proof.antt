@@ -1,7 +1,7 @@
 -- `bank::indexes::bad_index` meets its contract.
-use Rattle.bank.specs.Admission.{badAt}
 use mathlib.Core.Path.{sym, _∙_}
 use borrow.Author.Needs.{needs}
+use Rattle.bank.specs.Indexes.{badAt}
 use Rattle.bank.proofs.indexes.bad_index.Statement.{statement}
 use Rattle.bank.proofs.indexes.bad_index.Tie as tie
 

@@ -3,9 +3,9 @@ use borrow.Author.Needs.{needs}
 use mathlib.Core.Path.{_≡_, sym, ap, _∙_}
 use native.Mathlib.Omega.{arith}
 use Prim.Native.Nat.{_-_, _≤_}
-use Rattle.bank.specs.Admission.{badBag, bagFault}
-use Rattle.records.specs.Search.{first, placed}
-use Rattle.records.specs.SearchLaws.{first-none, first-miss0, first-hit0}
+use Rattle.bank.specs.Indexes.{badBag, bagFault}
+use Rattle.records.specs.Looking.{first, placed}
+use Rattle.records.proofs.LookingLaws.{first-none, first-miss0, first-hit0}
 use Rattle.records.specs.Sides.{bagAt}
 use Rattle.records.specs.declared.Found.the-variants.{Nothing}
 use Rattle.bank.proofs.indexes.bag_fault.Statement.{statement}

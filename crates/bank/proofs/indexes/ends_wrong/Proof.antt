@@ -1,7 +1,7 @@
 -- `bank::indexes::ends_wrong` meets its contract.
-use Rattle.bank.specs.Admission.{endsWrong}
 use borrow.Author.Tests.{eq-eqb, ne-eqb}
 use borrow.Author.Needs.{needs}
+use Rattle.bank.specs.Indexes.{endsWrong}
 use Rattle.bank.proofs.indexes.ends_wrong.Statement.{statement}
 use Rattle.bank.proofs.indexes.ends_wrong.Tie as tie
 

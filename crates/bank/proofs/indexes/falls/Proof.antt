@@ -1,6 +1,6 @@
 -- `bank::indexes::falls` meets its contract.
-use Rattle.bank.specs.Admission.{fallsAt}
 use borrow.Author.Tests.{lt-ltb, le-ltb}
+use Rattle.bank.specs.Indexes.{fallsAt}
 use Rattle.bank.proofs.indexes.falls.Statement.{statement}
 use Rattle.bank.proofs.indexes.falls.Tie as tie
 

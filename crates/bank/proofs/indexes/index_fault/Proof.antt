@@ -1,8 +1,8 @@
 -- `bank::indexes::index_fault` meets its contract.
-use Rattle.bank.specs.Admission.{indexFault}
-use Rattle.records.specs.Search.{orElse}
 use mathlib.Core.Path.{ap₂, _∙_}
 use borrow.Author.Needs.{needs}
+use Rattle.bank.specs.Indexes.{indexFault}
+use Rattle.records.specs.Looking.{orElse}
 use Rattle.bank.proofs.indexes.index_fault.Statement.{statement}
 use Rattle.bank.proofs.indexes.index_fault.Tie as tie
 

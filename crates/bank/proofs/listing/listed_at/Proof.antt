@@ -1,14 +1,15 @@
 -- `bank::listing::listed_at` meets its contract.
 use mathlib.Core.Bool.{true, false}
 use Prim.Native.Nat.{ℕ, _+_, _-_, _≤_, _<_}
-use Rattle.bank.specs.Admission.{admitted}
 use borrow.Author.Needs.{needs}
 use borrow.Author.Tests.{lt-ltb, le-ltb}
 use mathlib.Core.Path.{_≡_, refl, sym, ap, ap₂, _∙_}
-use Rattle.bank.specs.AdmittedLaws.{admitted-room}
+use Rattle.bank.specs.Admission.{admitted}
+use Rattle.bank.proofs.AdmittedLaws.{admitted-room}
 use Rattle.bank.specs.Listing.{listed}
 use Rattle.bank.specs.declared.Listed.the-variants.{Row}
-use Rattle.records.specs.Sides.{partsOf, programOf, bankOf}
+use Rattle.records.specs.Sides.{partsOf}
+use Rattle.records.specs.Headers.{programOf, bankOf}
 use Rattle.records.specs.declared.Parts.{Parts}
 use Rattle.bank.proofs.listing.listed_at.Statement.{statement}
 use Rattle.bank.proofs.listing.listed_at.Tie as tie

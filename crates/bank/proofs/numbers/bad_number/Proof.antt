@@ -3,8 +3,8 @@ use mathlib.Core.Bool.{not}
 use mathlib.Core.Path.{refl, ap}
 use Prim.Native.Nat.{ℕ}
 use lib.Dec.{ltb}
-use Rattle.bank.specs.Admission.{badNumber}
 use borrow.Author.Needs.{needs}
+use Rattle.bank.specs.Links.{badNumber}
 use Rattle.bank.proofs.numbers.bad_number.Statement.{statement}
 use Rattle.bank.proofs.numbers.bad_number.Tie as tie
 

@@ -1,8 +1,8 @@
 -- `bank::numbers::number_fault` meets its contract.
-use Rattle.bank.specs.Admission.{numberFault}
-use Rattle.records.specs.Search.{orElse}
 use mathlib.Core.Path.{ap₂, _∙_}
 use borrow.Author.Needs.{needs}
+use Rattle.bank.specs.Links.{numberFault}
+use Rattle.records.specs.Looking.{orElse}
 use Rattle.bank.proofs.numbers.number_fault.Statement.{statement}
 use Rattle.bank.proofs.numbers.number_fault.Tie as tie
 

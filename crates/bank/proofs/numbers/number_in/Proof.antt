@@ -3,9 +3,9 @@ use borrow.Author.Needs.{needs}
 use mathlib.Core.Path.{_≡_, refl, sym, ap, _∙_}
 use native.Mathlib.Omega.{arith}
 use Prim.Native.Nat.{_-_, _≤_, _<_}
-use Rattle.bank.specs.Admission.{badNumber, zoneLinkAt}
-use Rattle.records.specs.Search.{first}
-use Rattle.records.specs.SearchLaws.{first-none, first-miss, first-hit}
+use Rattle.bank.specs.Links.{badNumber, zoneLinkAt}
+use Rattle.records.specs.Looking.{first}
+use Rattle.records.proofs.LookingLaws.{first-none, first-miss, first-hit}
 use Rattle.records.specs.Zones.{linkAt}
 use Rattle.records.specs.declared.Found.the-variants.{Nothing, At}
 use Rattle.bank.proofs.numbers.number_in.Statement.{statement}

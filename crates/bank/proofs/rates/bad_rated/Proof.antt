@@ -3,9 +3,9 @@ use mathlib.Core.Bool.{Bool, not, _&&_}
 use mathlib.Core.Path.{ap, ap₂, _∙_}
 use Prim.Native.Nat.{ℕ}
 use lib.Dec.{ltb}
-use Rattle.records.specs.Whole.{between}
-use Rattle.bank.specs.OnePass.{badRated}
 use borrow.Author.Needs.{needs}
+use Rattle.arith.specs.Whole.{between}
+use Rattle.bank.specs.Internal.Rates.{badRated}
 use Rattle.bank.proofs.rates.bad_rated.Statement.{statement}
 use Rattle.bank.proofs.rates.bad_rated.Tie as tie
 

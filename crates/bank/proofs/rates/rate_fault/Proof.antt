@@ -2,11 +2,11 @@
 use mathlib.Core.Path.{_≡_, refl, sym, _∙_}
 use native.Mathlib.Omega.{arith}
 use Prim.Native.Nat.{ℕ, _+_, _-_, _*_, _<_}
-use Rattle.bank.specs.Admission.{badRate, rateFault}
-use Rattle.records.specs.Search.{first}
-use Rattle.records.specs.SearchLaws.{first-is}
-use Rattle.records.specs.declared.Found.the-variants.{At}
 use borrow.Author.Needs.{needs}
+use Rattle.bank.specs.Rates.{badRate, rateFault}
+use Rattle.records.specs.Looking.{first}
+use Rattle.records.proofs.LookingLaws.{first-is}
+use Rattle.records.specs.declared.Found.the-variants.{At}
 use Rattle.bank.proofs.rates.rate_fault.Statement.{statement}
 use Rattle.bank.proofs.rates.rate_fault.Tie as tie
 

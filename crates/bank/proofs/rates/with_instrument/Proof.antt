@@ -3,8 +3,8 @@ use borrow.Author.Needs.{needs}
 use mathlib.Core.Path.{_≡_, refl, sym, _∙_}
 use native.Mathlib.Omega.{arith}
 use Prim.Native.Nat.{_-_, _≤_, _<_}
-use Rattle.bank.specs.OnePass.{withZones}
-use Rattle.bank.specs.OnePassLaws.{zones-none, zones-next}
+use Rattle.bank.specs.Internal.Rates.{withZones}
+use Rattle.bank.proofs.OnePassLaws.{zones-none, zones-next}
 use Rattle.bank.proofs.rates.with_instrument.Statement.{statement}
 use Rattle.bank.proofs.rates.with_instrument.Tie as tie
 

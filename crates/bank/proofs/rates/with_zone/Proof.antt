@@ -1,8 +1,8 @@
 -- `bank::rates::with_zone` meets its contract.
 use mathlib.Core.Path.{refl, sym, ap, _∙_}
-use Rattle.records.specs.declared.Zone.{Zone}
-use Rattle.bank.specs.OnePass.{lower, withZone}
 use borrow.Author.Needs.{needs}
+use Rattle.records.specs.declared.Zone.{Zone}
+use Rattle.bank.specs.Internal.Rates.{lower, withZone}
 use Rattle.bank.proofs.rates.with_zone.Statement.{statement}
 use Rattle.bank.proofs.rates.with_zone.Tie as tie
 

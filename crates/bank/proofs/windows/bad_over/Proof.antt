@@ -1,10 +1,10 @@
 -- `bank::windows::bad_over` meets its contract.
 use mathlib.Core.Bool.{Bool, true, not, _&&_}
 use mathlib.Core.Path.{_≡_, refl, sym, ap, _∙_}
-use Rattle.records.specs.declared.Zone.{Zone}
-use Rattle.records.specs.Amounts.{poured}
-use Rattle.bank.specs.OnePass.{goodAmounts, badOver}
 use borrow.Author.Needs.{needs}
+use Rattle.records.specs.declared.Zone.{Zone}
+use Rattle.records.specs.Internal.Amounts.{poured}
+use Rattle.bank.specs.Internal.Bounds.{goodAmounts, badOver}
 use Rattle.bank.proofs.windows.bad_over.Statement.{statement}
 use Rattle.bank.proofs.windows.bad_over.Tie as tie
 

@@ -6,10 +6,10 @@ use Prim.Native.Nat.{ℕ, _+_}
 use lib.IntN.{ℤ}
 use mir.Facts.{toZ-ofZ}
 use Rattle.arith.specs.Bytes.{u32At}
-use Rattle.records.specs.Sides.{sampleAt}
-use Rattle.records.specs.Whole.{modZ}
-use Rattle.records.specs.Window.{shifted, goodPlaces, loops}
-use Rattle.bank.specs.OnePass.{movedBy, goodAmounts}
+use Rattle.records.specs.Headers.{sampleAt}
+use Rattle.arith.specs.Whole.{modZ}
+use Rattle.records.specs.Windows.{shifted, goodPlaces, loops}
+use Rattle.bank.specs.Internal.Bounds.{movedBy, goodAmounts}
 use Rattle.bank.proofs.windows.good_amounts.Statement.{statement}
 use Rattle.bank.proofs.windows.good_amounts.Tie as tie
 

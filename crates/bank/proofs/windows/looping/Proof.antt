@@ -4,8 +4,8 @@ use mathlib.Core.Path.{ap, _∙_}
 use lib.Dec.{lit<}
 use mir.Facts.{toZ-ofZ}
 use mir.Syntax.{w16, w64}
-use Rattle.arith.specs.Within.{w-of, w-fits, w-back}
-use Rattle.records.specs.Window.{loops}
+use Rattle.arith.proofs.WithinLaws.{w-of, w-fits, w-back}
+use Rattle.records.specs.Windows.{loops}
 use Rattle.bank.proofs.windows.looping.Statement.{statement}
 use Rattle.bank.proofs.windows.looping.Tie as tie
 

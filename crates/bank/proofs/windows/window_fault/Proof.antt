@@ -3,9 +3,10 @@ use borrow.Author.Needs.{needs}
 use mathlib.Core.Path.{_≡_, sym, _∙_}
 use native.Mathlib.Omega.{arith}
 use Prim.Native.Nat.{_-_, _≤_}
-use Rattle.bank.specs.Admission.{badWindow, zoneLinkAt, windowFault}
-use Rattle.records.specs.SearchLaws.{placed-none}
-use Rattle.records.specs.ZoneLaws.{below-none, below-next, zone-placed, none-found}
+use Rattle.bank.specs.Bounds.{badWindow, windowFault}
+use Rattle.bank.specs.Links.{zoneLinkAt}
+use Rattle.records.proofs.LookingLaws.{placed-none}
+use Rattle.records.proofs.ZonesLaws.{below-none, below-next, zone-placed, none-found}
 use Rattle.records.specs.Zones.{zoneBelow}
 use Rattle.records.specs.declared.Found.the-variants.{Nothing}
 use Rattle.bank.proofs.windows.window_fault.Statement.{statement}

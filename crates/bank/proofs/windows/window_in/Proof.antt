@@ -3,13 +3,14 @@ use borrow.Author.Needs.{needs}
 use mathlib.Core.Path.{_≡_, refl, sym, ap, _∙_}
 use native.Mathlib.Omega.{arith}
 use Prim.Native.Nat.{_+_, _-_, _≤_, _<_}
-use Rattle.bank.specs.Admission.{badWindow, zoneLinkAt}
-use Rattle.records.specs.Search.{first}
-use Rattle.records.specs.SearchLaws.{first-none, first-miss, first-hit}
+use Rattle.bank.specs.Bounds.{badWindow}
+use Rattle.bank.specs.Links.{zoneLinkAt}
+use Rattle.records.specs.Looking.{first}
+use Rattle.records.proofs.LookingLaws.{first-none, first-miss, first-hit}
 use Rattle.records.specs.Zones.{linkAt, globalOf}
 use Rattle.records.specs.declared.Found.the-variants.{Nothing, At}
-use Rattle.bank.specs.OnePassLaws.{blank, bad-over}
-use Rattle.records.specs.Amounts.{poured}
+use Rattle.bank.proofs.OnePassLaws.{blank, bad-over}
+use Rattle.records.specs.Internal.Amounts.{poured}
 use Rattle.bank.proofs.windows.window_in.Statement.{statement}
 use Rattle.bank.proofs.windows.window_in.Tie as tie
 

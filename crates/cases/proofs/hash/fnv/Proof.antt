@@ -4,9 +4,9 @@ use mathlib.Core.Path.{_≡_, refl, ap, _∙_}
 use Prim.Native.Nat.{_≤_, _<_, _-_}
 use native.Mathlib.Omega.{arith}
 use lib.ListN.{length, take}
-use Rattle.cases.specs.Hash.{hashAll}
-use Rattle.cases.specs.HashLaws.{hash-step}
 use lib.Seq.{take-all}
+use Rattle.cases.specs.Hash.{hashAll}
+use Rattle.cases.proofs.HashLaws.{hash-step}
 use Rattle.cases.proofs.hash.fnv.Statement.{statement}
 use Rattle.cases.proofs.hash.fnv.Tie as tie
 

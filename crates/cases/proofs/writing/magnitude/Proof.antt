@@ -10,10 +10,10 @@ use native.Mathlib.Omega.{arith}
 use lib.Dec.{T}
 use lib.IntN.{ℤ, pos, negsuc, natAbs, _-ℤ_}
 use lib.Signed.{ltZ, mag, nonNeg}
-use Rattle.arith.specs.Rounding.{sub-pos}
 use mir.Facts.{toZ-ofZ}
 use mir.Syntax.{w32, w64}
 use mir.Val.{SFits, Fits}
+use Rattle.arith.proofs.FloorsLaws.{sub-pos}
 use Rattle.cases.proofs.writing.magnitude.Statement.{statement}
 use Rattle.cases.proofs.writing.magnitude.Tie as tie
 

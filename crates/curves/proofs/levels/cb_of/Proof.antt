@@ -3,9 +3,8 @@ use mathlib.Core.Path.{_≡_, refl, sym}
 use native.Mathlib.Omega.{arith}
 use borrow.Author.Needs.{needs}
 use lib.ListN.{length, List·getD-eq-default}
-use Rattle.curves.specs.BoundLaws.{cb-le}
-use Rattle.curves.specs.Decibels.{cbOf}
-use Rattle.curves.specs.Velocities.{velocities}
+use Rattle.curves.proofs.PitchLaws.{cb-le}
+use Rattle.curves.specs.Levels.{cbOf, velocities}
 use Rattle.curves.proofs.levels.cb_of.Statement.{statement}
 use Rattle.curves.proofs.levels.cb_of.Tie as tie
 

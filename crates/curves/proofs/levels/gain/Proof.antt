@@ -1,13 +1,12 @@
 -- The gain that is read is one of the gain table, and 0 behind its end.
 use mathlib.Core.List.{List}
 use Prim.Native.Nat.{ℕ}
-use Rattle.curves.specs.BoundLaws.{gain-le}
-use Rattle.curves.specs.Decibels.{gainOf}
-use Rattle.curves.specs.Gains.{gains}
 use lib.ListN.{getD, length, List·getD-eq-default}
 use native.Mathlib.Omega.{arith}
 use mathlib.Core.Path.{_≡_, refl, sym, ap}
 use borrow.Author.Needs.{needs}
+use Rattle.curves.proofs.PitchLaws.{gain-le}
+use Rattle.curves.specs.Levels.{gainOf, gains}
 use Rattle.curves.proofs.levels.gain.Statement.{statement}
 use Rattle.curves.proofs.levels.gain.Tie as tie
 

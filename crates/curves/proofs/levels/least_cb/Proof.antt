@@ -1,13 +1,12 @@
 -- The search along the table finds the least attenuation.
-use Rattle.curves.specs.LeastLaws.{here, more, least-found, least-none}
-use Rattle.curves.specs.Decibels.{above}
-use Rattle.curves.specs.Gains.{gains}
 use lib.ListN.{length, getD}
 use borrow.Author.Needs.{needs}
 use mathlib.Core.List.{List}
 use Prim.Native.Nat.{ℕ, _-_, _≤_, _<_}
 use native.Mathlib.Omega.{arith}
 use mathlib.Core.Path.{_≡_, refl, ap, subst}
+use Rattle.curves.proofs.LevelsLaws.{here, more, least-found, least-none}
+use Rattle.curves.specs.Levels.{above, gains}
 use Rattle.curves.proofs.levels.least_cb.Statement.{statement}
 use Rattle.curves.proofs.levels.least_cb.Tie as tie
 

@@ -6,8 +6,8 @@ use native.Mathlib.Nat.{lt-of-le-of-lt}
 use borrow.Author.Needs.{needs}
 use lib.Dec.{lit<}
 use lib.ListN.{getD}
-use Rattle.curves.specs.BoundLaws.{octave-le}
-use Rattle.curves.specs.Octaves.{octaves}
+use Rattle.curves.proofs.PitchLaws.{octave-le}
+use Rattle.curves.specs.Octave.{octaves}
 use Rattle.curves.proofs.octave.entry.Statement.{statement}
 use Rattle.curves.proofs.octave.entry.Tie as tie
 

@@ -11,8 +11,9 @@ use lib.Signed.{ltZ}
 use mir.Facts.{toZ-ofZ}
 use mir.Syntax.{w32}
 use mir.Val.{toZ, ofZ}
-use Rattle.arith.specs.Within.{Within, w-nat, w-neg, w-le, w-fits, w-back}
-use Rattle.curves.specs.LiftLaws.{up-low, up-high, up-in, lifts, lifts-le}
+use Rattle.arith.specs.Within.{Within}
+use Rattle.arith.proofs.WithinLaws.{w-nat, w-neg, w-le, w-fits, w-back}
+use Rattle.curves.proofs.OctaveLaws.{up-low, up-high, up-in, lifts, lifts-le}
 use Rattle.curves.proofs.octave.lift.Statement.{statement}
 use Rattle.curves.proofs.octave.lift.Tie as tie
 

@@ -4,8 +4,8 @@ use native.Mathlib.Omega.{arith}
 use borrow.Author.Needs.{needs}
 use lib.IntN.{pos}
 use mir.Syntax.{w32}
-use Rattle.arith.specs.Expr.{E, Var, var, lit, sub, mul, shr, given, fits, back}
-use Rattle.arith.specs.Within.{w-nat}
+use Rattle.arith.proofs.Expressions.{E, Var, var, lit, sub, mul, shr, given, fits, back}
+use Rattle.arith.proofs.WithinLaws.{w-nat}
 use Rattle.curves.specs.Pitch.{bendCents}
 use Rattle.curves.proofs.pitch.bend_cents.Statement.{statement}
 use Rattle.curves.proofs.pitch.bend_cents.Tie as tie

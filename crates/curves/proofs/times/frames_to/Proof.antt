@@ -3,8 +3,8 @@ use mathlib.Core.Path.{sym, ap, _∙_}
 use borrow.Author.Needs.{needs}
 use lib.IntN.{pos}
 use mir.Facts.{toZ-ofZ}
-use Rattle.curves.specs.Frames.{framesUp}
-use Rattle.curves.specs.FramesLaws.{no-frames, some-frames}
+use Rattle.curves.specs.Times.{framesUp}
+use Rattle.curves.proofs.TimesLaws.{no-frames, some-frames}
 use Rattle.curves.proofs.times.frames_to.Statement.{statement}
 use Rattle.curves.proofs.times.frames_to.Tie as tie
 

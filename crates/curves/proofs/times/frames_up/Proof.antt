@@ -6,8 +6,8 @@ use native.Mathlib.Omega.{arith}
 use borrow.Author.Needs.{needs}
 use lib.Dec.{lit<}
 use lib.ListN.{getD}
-use Rattle.curves.specs.Frames.{framesUp}
-use Rattle.curves.specs.Octaves.{octaves}
+use Rattle.curves.specs.Times.{framesUp}
+use Rattle.curves.specs.Octave.{octaves}
 use Rattle.curves.proofs.times.frames_up.Statement.{statement}
 use Rattle.curves.proofs.times.frames_up.Tie as tie
 

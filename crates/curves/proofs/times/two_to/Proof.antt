@@ -2,7 +2,7 @@
 use native.Mathlib.Omega.{arith}
 use borrow.Author.Needs.{needs}
 use lib.Pow.{pow-mono}
-use Rattle.arith.specs.Bit.{one-shl}
+use Rattle.arith.proofs.WordsLaws.{one-shl}
 use Rattle.curves.proofs.times.two_to.Statement.{statement}
 use Rattle.curves.proofs.times.two_to.Tie as tie
 

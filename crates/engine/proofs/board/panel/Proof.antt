@@ -1,9 +1,9 @@
 -- Past 31 refused, else as the slot is shown.
 use mathlib.Core.Path.{ap, _∙_}
 use borrow.Author.Tests.{lt-ltb, le-ltb}
-use Rattle.voice.specs.Panel.{shown}
-use Rattle.engine.specs.PanelAsk.{ask}
 use borrow.Author.Needs.{needs}
+use Rattle.voice.specs.Panel.{shown}
+use Rattle.engine.specs.Board.{ask}
 use Rattle.engine.proofs.board.panel.Statement.{statement}
 use Rattle.engine.proofs.board.panel.Tie as tie
 

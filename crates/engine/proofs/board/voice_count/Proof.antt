@@ -3,8 +3,8 @@ use mathlib.Core.Path.{_≡_, ap, _∙_}
 use native.Mathlib.Omega.{arith}
 use Prim.Native.Nat.{ℕ, _^_}
 use lib.ListN.{length, length-map}
-use Rattle.engine.specs.SeatLaws.{ones-voices}
 use borrow.Author.Needs.{needs}
+use Rattle.engine.proofs.SeatsLaws.{ones-voices}
 use Rattle.engine.proofs.board.voice_count.Statement.{statement}
 use Rattle.engine.proofs.board.voice_count.Tie as tie
 

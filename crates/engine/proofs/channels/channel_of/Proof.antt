@@ -2,8 +2,8 @@
 use mathlib.Core.Path.{_≡_, sym}
 use lib.ListN.{length, length-map, List·getD-eq-default}
 use native.Mathlib.Omega.{arith}
-use Rattle.engine.specs.State.{noChannel}
 use borrow.Author.Needs.{needs}
+use Rattle.engine.specs.Channels.{noChannel}
 use Rattle.engine.proofs.channels.channel_of.Statement.{statement}
 use Rattle.engine.proofs.channels.channel_of.Tie as tie
 

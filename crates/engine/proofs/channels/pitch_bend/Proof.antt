@@ -1,12 +1,11 @@
 -- Past its test, the channel is the old one with one part replaced.
 use mathlib.Core.Path.{sym, ap, _∙_}
-use Rattle.voice.specs.declared.Channel.{Channel}
-use Rattle.engine.specs.State.{withChannel}
-use Rattle.engine.specs.Channels.{withBend}
-use Rattle.engine.specs.Answers.{done, pastBend}
-use Rattle.engine.specs.AnswerLaws.{refuses, passes, bend-low}
-use Rattle.engine.specs.Bend.{pitchBend}
 use borrow.Author.Needs.{needs}
+use Rattle.voice.specs.declared.Channel.{Channel}
+use Rattle.engine.specs.Channels.{withChannel}
+use Rattle.engine.specs.Bend.{withBend, pitchBend}
+use Rattle.engine.specs.Answers.{done, pastBend}
+use Rattle.engine.proofs.AnswersLaws.{refuses, passes, bend-low}
 use Rattle.engine.proofs.channels.pitch_bend.Statement.{statement}
 use Rattle.engine.proofs.channels.pitch_bend.Tie as tie
 

@@ -1,12 +1,11 @@
 -- Past its test, the channel is the old one with one part replaced.
 use mathlib.Core.Path.{sym, ap, _∙_}
-use Rattle.voice.specs.declared.Channel.{Channel}
-use Rattle.engine.specs.State.{withChannel}
-use Rattle.engine.specs.Channels.{withProgram}
-use Rattle.engine.specs.Answers.{done, pastOne}
-use Rattle.engine.specs.AnswerLaws.{refuses, passes, one-low}
-use Rattle.engine.specs.Program.{programChange}
 use borrow.Author.Needs.{needs}
+use Rattle.voice.specs.declared.Channel.{Channel}
+use Rattle.engine.specs.Channels.{withChannel}
+use Rattle.engine.specs.Program.{withProgram, programChange}
+use Rattle.engine.specs.Answers.{done, pastOne}
+use Rattle.engine.proofs.AnswersLaws.{refuses, passes, one-low}
 use Rattle.engine.proofs.channels.program_change.Statement.{statement}
 use Rattle.engine.proofs.channels.program_change.Tie as tie
 

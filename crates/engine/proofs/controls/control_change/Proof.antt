@@ -1,9 +1,9 @@
 -- Refused past its ranges, else by its control.
 use mathlib.Core.Path.{sym, ap, _∙_}
-use Rattle.engine.specs.Answers.{done, pastTwo}
-use Rattle.engine.specs.AnswerLaws.{refuses, passes, two-low}
-use Rattle.engine.specs.Controls.{controlChange}
 use borrow.Author.Needs.{needs}
+use Rattle.engine.specs.Answers.{done, pastTwo}
+use Rattle.engine.proofs.AnswersLaws.{refuses, passes, two-low}
+use Rattle.engine.specs.Controls.{controlChange}
 use Rattle.engine.proofs.controls.control_change.Statement.{statement}
 use Rattle.engine.proofs.controls.control_change.Tie as tie
 

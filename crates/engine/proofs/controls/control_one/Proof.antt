@@ -2,11 +2,10 @@
 use mathlib.Core.Path.{sym, ap, _∙_}
 use Prim.Native.Nat.{ℕ}
 use borrow.Author.Tests.{ne-eqb}
-use Rattle.voice.specs.declared.Channel.{Channel}
-use Rattle.engine.specs.State.{withChannel}
-use Rattle.engine.specs.Channels.{withStored, withVolume, withExpression}
-use Rattle.engine.specs.Controls.{controlled}
 use borrow.Author.Needs.{needs}
+use Rattle.voice.specs.declared.Channel.{Channel}
+use Rattle.engine.specs.Channels.{withChannel}
+use Rattle.engine.specs.Controls.{withStored, withVolume, withExpression, controlled}
 use Rattle.engine.proofs.controls.control_one.Statement.{statement}
 use Rattle.engine.proofs.controls.control_one.Tie as tie
 

@@ -1,11 +1,11 @@
 -- Letting off all the held ones, as the pedal stands.
 use mathlib.Core.Path.{ap, _∙_}
 use mathlib.Core.Bool.{Bool}
+use borrow.Author.Needs.{needs}
 use Rattle.engine.specs.declared.Answered.{Answered}
 use Rattle.engine.specs.declared.Whom.the-variants.{Every}
 use Rattle.engine.specs.NoteOff.{off}
-use Rattle.engine.specs.Whom.{offAll}
-use borrow.Author.Needs.{needs}
+use Rattle.engine.specs.Internal.NoteOff.{offAll}
 use Rattle.engine.proofs.controls.every_off.Statement.{statement}
 use Rattle.engine.proofs.controls.every_off.Tie as tie
 

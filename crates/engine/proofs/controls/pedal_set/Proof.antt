@@ -2,15 +2,14 @@
 use mathlib.Core.Path.{ap, _∙_}
 use mathlib.Core.Bool.{false}
 use borrow.Author.Tests.{le-ltb, lt-ltb}
+use borrow.Author.Needs.{needs}
 use Rattle.voice.specs.declared.Channel.{Channel}
 use Rattle.engine.specs.declared.Engine.{Engine}
 use Rattle.engine.specs.declared.Answered.{Answered}
 use Rattle.engine.specs.declared.Whom.the-variants.{Marked}
-use Rattle.engine.specs.State.{withChannel}
-use Rattle.engine.specs.Channels.{withPedal}
-use Rattle.engine.specs.Controls.{pedal}
-use Rattle.engine.specs.Whom.{offAll}
-use borrow.Author.Needs.{needs}
+use Rattle.engine.specs.Channels.{withChannel}
+use Rattle.engine.specs.Controls.{withPedal, pedal}
+use Rattle.engine.specs.Internal.NoteOff.{offAll}
 use Rattle.engine.proofs.controls.pedal_set.Statement.{statement}
 use Rattle.engine.proofs.controls.pedal_set.Tie as tie
 

@@ -4,11 +4,11 @@ use mathlib.Core.Path.{_≡_, sym, _∙_}
 use Prim.Native.Nat.{_+_, _-_, _≤_}
 use native.Mathlib.Omega.{arith}
 use lib.ListN.{length, length-map}
-use Rattle.voice.specs.State.{blank}
-use Rattle.engine.specs.State.{slotsOf}
+use Rattle.voice.specs.Records.{blank}
+use Rattle.engine.specs.Slots.{slotsOf}
 use Rattle.engine.specs.NoteOff.{ofChannel}
 use Rattle.engine.specs.Controls.{cut, silence}
-use Rattle.engine.specs.SlotLoop.{paired-length, wordTo, word-none, cut-turn, word-fits, cut-all, cut-free}
+use Rattle.engine.proofs.SlotLoopLaws.{paired-length, wordTo, word-none, cut-turn, word-fits, cut-all, cut-free}
 use Rattle.engine.proofs.controls.silenced.Statement.{statement}
 use Rattle.engine.proofs.controls.silenced.Tie as tie
 

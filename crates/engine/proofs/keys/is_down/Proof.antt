@@ -1,8 +1,8 @@
 -- The pedal of the channel as it stands.
 use mathlib.Core.Path.{ap}
 use lib.Dec.{leb}
-use Rattle.voice.specs.declared.Channel.{Channel}
 use borrow.Author.Needs.{needs}
+use Rattle.voice.specs.declared.Channel.{Channel}
 use Rattle.engine.proofs.keys.is_down.Statement.{statement}
 use Rattle.engine.proofs.keys.is_down.Tie as tie
 

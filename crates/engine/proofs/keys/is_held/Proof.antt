@@ -1,8 +1,8 @@
 -- It is of the channel, not released and not marked.
 use mathlib.Core.Path.{sym, _∙_}
 use borrow.Author.Tests.{not-true, not-false}
-use Rattle.engine.specs.NoteOff.{held}
 use borrow.Author.Needs.{needs}
+use Rattle.engine.specs.NoteOff.{held}
 use Rattle.engine.proofs.keys.is_held.Statement.{statement}
 use Rattle.engine.proofs.keys.is_held.Tie as tie
 

@@ -1,8 +1,8 @@
 -- It is held, and of the key.
 use mathlib.Core.Path.{sym, _∙_}
 use borrow.Author.Tests.{not-true, not-false}
-use Rattle.engine.specs.NoteOff.{heldKey}
 use borrow.Author.Needs.{needs}
+use Rattle.engine.specs.NoteOff.{heldKey}
 use Rattle.engine.proofs.keys.is_held_key.Statement.{statement}
 use Rattle.engine.proofs.keys.is_held_key.Tie as tie
 

@@ -1,8 +1,8 @@
 -- It is of the channel, and marked.
 use mathlib.Core.Path.{sym, _∙_}
 use borrow.Author.Tests.{not-true, not-false}
-use Rattle.engine.specs.Controls.{pedalHeld}
 use borrow.Author.Needs.{needs}
+use Rattle.engine.specs.Controls.{pedalHeld}
 use Rattle.engine.proofs.keys.is_pedal_held.Statement.{statement}
 use Rattle.engine.proofs.keys.is_pedal_held.Tie as tie
 

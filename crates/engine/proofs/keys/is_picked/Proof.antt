@@ -1,8 +1,8 @@
 -- Each case has its own test.
 use mathlib.Core.Path.{sym, ap, _∙_}
-use Rattle.engine.specs.declared.Whom.{Whom}
-use Rattle.engine.specs.Whom.{picked}
 use borrow.Author.Needs.{needs}
+use Rattle.engine.specs.declared.Whom.{Whom}
+use Rattle.engine.specs.Internal.NoteOff.{picked}
 use Rattle.engine.proofs.keys.is_picked.Statement.{statement}
 use Rattle.engine.proofs.keys.is_picked.Tie as tie
 

@@ -1,9 +1,9 @@
 -- Refused past its ranges, else the key is let off.
 use mathlib.Core.Path.{sym, _∙_}
-use Rattle.engine.specs.Answers.{pastOne}
-use Rattle.engine.specs.AnswerLaws.{refuses, passes}
-use Rattle.engine.specs.NoteOff.{noteOff}
 use borrow.Author.Needs.{needs}
+use Rattle.engine.specs.Answers.{pastOne}
+use Rattle.engine.proofs.AnswersLaws.{refuses, passes}
+use Rattle.engine.specs.NoteOff.{noteOff}
 use Rattle.engine.proofs.keys.note_off.Statement.{statement}
 use Rattle.engine.proofs.keys.note_off.Tie as tie
 

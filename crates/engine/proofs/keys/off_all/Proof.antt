@@ -5,21 +5,22 @@ use Prim.Native.Nat.{ℕ, _+_, _-_, _≤_}
 use mathlib.Core.Bool.{Bool, cond}
 use native.Mathlib.Omega.{arith}
 use lib.ListN.{length, length-map, getD}
-use Rattle.arith.specs.Loops.{upto, countIf, countTo, count-step, count-le, count-all}
-use Rattle.voice.specs.State.{blank, free}
-use Rattle.engine.specs.State.{slotsOf, voicesOf}
+use Rattle.arith.proofs.Loops.{upto, countTo, count-step, count-le, count-all}
+use Rattle.arith.specs.Lists.{countIf}
+use Rattle.voice.specs.Records.{blank, free}
+use Rattle.engine.specs.Slots.{slotsOf, recordsOf}
 use Rattle.engine.specs.Answers.{done}
 use Rattle.engine.specs.NoteOff.{letOff}
-use Rattle.engine.specs.Whom.{picked, offAll}
-use Rattle.engine.specs.WhomLaws.{picked-free, off-keeps}
-use Rattle.engine.specs.SlotLoop.{paired-length, wordTo, word-none, flag-turn, word-fits, withVoices, store-none, store-turn, store-all}
+use Rattle.engine.specs.Internal.NoteOff.{picked, offAll}
+use Rattle.engine.proofs.NoteOffLaws.{picked-free, off-keeps}
+use Rattle.engine.proofs.SlotLoopLaws.{paired-length, wordTo, word-none, flag-turn, word-fits, withVoices, store-none, store-turn, store-all}
 use Rattle.engine.proofs.keys.off_all.Statement.{statement}
 use Rattle.engine.proofs.keys.off_all.Tie as tie
 
 abbrev Inv-loop : tie.InvT-loop
 Inv-loop e channel whom down g x₀ word₀ count₀ i₀ x word count i =
     (length (slotsOf e) ≡ 32)
-    × (x ≡ withVoices e (voicesOf (upto (letOff down (picked channel whom)) i (slotsOf e))))
+    × (x ≡ withVoices e (recordsOf (upto (letOff down (picked channel whom)) i (slotsOf e))))
     × (word ≡ wordTo (letOff down (picked channel whom)) i (slotsOf e))
     × (count ≡ countTo (picked channel whom) i (slotsOf e))
     × (i ≤ 32)

@@ -1,10 +1,10 @@
 -- Letting off the held ones of the key, as the pedal stands.
 use mathlib.Core.Path.{ap, _∙_}
 use mathlib.Core.Bool.{Bool}
+use borrow.Author.Needs.{needs}
 use Rattle.engine.specs.declared.Whom.the-variants.{Key}
 use Rattle.engine.specs.NoteOff.{off, offKey}
-use Rattle.engine.specs.Whom.{offAll}
-use borrow.Author.Needs.{needs}
+use Rattle.engine.specs.Internal.NoteOff.{offAll}
 use Rattle.engine.proofs.keys.off_key.Statement.{statement}
 use Rattle.engine.proofs.keys.off_key.Tie as tie
 

@@ -1,10 +1,10 @@
 -- What is not picked stays.
 use mathlib.Core.Path.{sym, ap, _∙_}
 use borrow.Author.Tests.{not-true, not-false}
-use Rattle.engine.specs.NoteOff.{withVoice, letOff}
-use Rattle.engine.specs.Whom.{picked}
-use Rattle.engine.specs.WhomLaws.{off-keeps}
 use borrow.Author.Needs.{needs}
+use Rattle.engine.specs.NoteOff.{withVoice, letOff}
+use Rattle.engine.specs.Internal.NoteOff.{picked}
+use Rattle.engine.proofs.NoteOffLaws.{off-keeps}
 use Rattle.engine.proofs.keys.off_one.Statement.{statement}
 use Rattle.engine.proofs.keys.off_one.Tie as tie
 

@@ -1,6 +1,6 @@
 -- Blank slots, fresh channels, and the slots in order.
-use Rattle.engine.specs.State.{fresh}
 use borrow.Author.Needs.{needs}
+use Rattle.engine.specs.Fresh.{fresh}
 use Rattle.engine.proofs.quiet.fresh.Statement.{statement}
 use Rattle.engine.proofs.quiet.fresh.Tie as tie
 

@@ -7,9 +7,10 @@ use mathlib.Core.List.{List, _++_}
 use lib.Ieee.{Float}
 use lib.IntN.{ℤ, pos}
 use lib.ListN.{drop, replicate}
-use Rattle.voice.specs.Sums.{zeros-small}
-use Rattle.engine.specs.RenderLaws.{mixedTo, output-mixed, zeros-at}
 use borrow.Author.Needs.{needs}
+use Rattle.voice.proofs.SumsLaws.{zeros-small}
+use Rattle.engine.specs.Internal.Sums.{mixedTo}
+use Rattle.engine.proofs.RenderLaws.{output-mixed, zeros-at}
 use Rattle.engine.proofs.rendering.play.Statement.{statement}
 use Rattle.engine.proofs.rendering.play.Tie as tie
 

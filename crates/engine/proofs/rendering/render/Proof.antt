@@ -6,12 +6,12 @@ use mathlib.Core.List.{_++_}
 use borrow.Author.Tests.{eq-eqb, ne-eqb}
 use lib.Dec.{eqb}
 use lib.ListN.{length, drop}
+use borrow.Author.Needs.{needs}
 use Rattle.engine.specs.declared.Engine.{Engine}
-use Rattle.engine.specs.State.{withClock}
+use Rattle.engine.specs.Slots.{withClock}
 use Rattle.engine.specs.Answers.{done, refused}
 use Rattle.engine.specs.Render.{output, played, render, rendered}
-use Rattle.engine.specs.RenderLaws.{zero-low, clock-there}
-use borrow.Author.Needs.{needs}
+use Rattle.engine.proofs.RenderLaws.{zero-low, clock-there}
 use Rattle.engine.proofs.rendering.render.Statement.{statement}
 use Rattle.engine.proofs.rendering.render.Tie as tie
 

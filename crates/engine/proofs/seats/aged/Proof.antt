@@ -1,9 +1,9 @@
 -- An entry of the order, read as a slot.
 use mathlib.Core.Path.{refl, sym}
 use native.Mathlib.Omega.{arith}
-use Rattle.engine.specs.StateLaws.{map-at}
-use Rattle.engine.specs.SeatLaws.{asSlot}
 use borrow.Author.Needs.{needs}
+use Rattle.engine.proofs.SlotsLaws.{map-at}
+use Rattle.engine.specs.Internal.Seats.{asSlot}
 use Rattle.engine.proofs.seats.aged.Statement.{statement}
 use Rattle.engine.proofs.seats.aged.Tie as tie
 

@@ -1,10 +1,10 @@
 -- Those of this note-on last; the released first; then by struck velocity.
 use mathlib.Core.Path.{sym, ap, _∙_}
 use Prim.Native.Nat.{_+_}
+use borrow.Author.Needs.{needs}
 use Rattle.voice.specs.declared.Slot.{Slot}
 use Rattle.voice.specs.Stages.{released}
-use Rattle.engine.specs.Slots.{claim}
-use borrow.Author.Needs.{needs}
+use Rattle.engine.specs.Seats.{claim}
 use Rattle.engine.proofs.seats.claim_of.Statement.{statement}
 use Rattle.engine.proofs.seats.claim_of.Tie as tie
 

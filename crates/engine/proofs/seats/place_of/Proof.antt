@@ -5,8 +5,9 @@ use native.Mathlib.Omega.{arith}
 use Prim.Native.Nat.{_-_, _≤_}
 use mathlib.Core.List.{map}
 use lib.ListN.{length, length-map}
-use Rattle.engine.specs.StateLaws.{map-at}
-use Rattle.engine.specs.SeatLaws.{asSlot, firstAt, first-le, first-here, first-on}
+use Rattle.engine.proofs.SlotsLaws.{map-at}
+use Rattle.engine.specs.Internal.Seats.{asSlot, firstAt}
+use Rattle.engine.proofs.SeatsLaws.{first-le, first-here, first-on}
 use Rattle.engine.proofs.seats.place_of.Statement.{statement}
 use Rattle.engine.proofs.seats.place_of.Tie as tie
 

@@ -6,8 +6,9 @@ use Prim.Native.Nat.{_-_, _≤_}
 use mathlib.Core.List.{map}
 use lib.ListN.{length, take, length-map, length-set}
 use lib.Seq.{take-all}
-use Rattle.engine.specs.Slots.{renewed}
-use Rattle.engine.specs.SeatLaws.{asSlot, renewed-length, fill-turn}
+use Rattle.engine.specs.Seats.{renewed}
+use Rattle.engine.specs.Internal.Seats.{asSlot}
+use Rattle.engine.proofs.SeatsLaws.{renewed-length, fill-turn}
 use Rattle.engine.proofs.seats.renewed_order.Statement.{statement}
 use Rattle.engine.proofs.seats.renewed_order.Tie as tie
 

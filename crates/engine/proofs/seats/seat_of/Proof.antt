@@ -4,11 +4,11 @@ use native.Mathlib.Omega.{arith}
 use Prim.Native.Nat.{ℕ}
 use borrow.Author.Tests.{lt-ltb, le-ltb}
 use lib.ListN.{length, length-map}
-use Rattle.arith.specs.Word.{lowestClear}
-use Rattle.engine.specs.State.{slotsOf}
-use Rattle.engine.specs.Slots.{lowestFree, seat}
-use Rattle.engine.specs.SeatLaws.{lowest-free}
 use borrow.Author.Needs.{needs}
+use Rattle.arith.specs.Internal.Words.{lowestClear}
+use Rattle.engine.specs.Slots.{slotsOf}
+use Rattle.engine.specs.Seats.{lowestFree, seat}
+use Rattle.engine.proofs.SeatsLaws.{lowest-free}
 use Rattle.engine.proofs.seats.seat_of.Statement.{statement}
 use Rattle.engine.proofs.seats.seat_of.Tie as tie
 

@@ -8,10 +8,11 @@ use borrow.Author.Tests.{lt-ltb, le-ltb}
 use lib.Dec.{ltb}
 use lib.ListN.{length, getD, length-map, List·getD-append}
 use lib.Seq.{getD-at}
-use Rattle.engine.specs.Slots.{renewed}
-use Rattle.engine.specs.StateLaws.{map-at}
-use Rattle.engine.specs.SeatLaws.{asSlot, firstAt, renewed-at}
 use borrow.Author.Needs.{needs}
+use Rattle.engine.specs.Seats.{renewed}
+use Rattle.engine.proofs.SlotsLaws.{map-at}
+use Rattle.engine.specs.Internal.Seats.{asSlot, firstAt}
+use Rattle.engine.proofs.SeatsLaws.{renewed-at}
 use Rattle.engine.proofs.seats.shifted.Statement.{statement}
 use Rattle.engine.proofs.seats.shifted.Tie as tie
 

@@ -4,11 +4,11 @@ use native.Mathlib.Omega.{arith}
 use Prim.Native.Nat.{ℕ, _^_}
 use mathlib.Core.List.{List}
 use lib.ListN.{length, length-map, set}
-use Rattle.voice.specs.State.{sounds}
-use Rattle.engine.specs.State.{slotsOf, withSlots, withOrder}
-use Rattle.engine.specs.Slots.{startIn}
-use Rattle.engine.specs.SeatLaws.{seated}
 use borrow.Author.Needs.{needs}
+use Rattle.voice.specs.Records.{sounds}
+use Rattle.engine.specs.Slots.{slotsOf, withSlots, withOrder}
+use Rattle.engine.specs.Seats.{startIn}
+use Rattle.engine.proofs.SeatsLaws.{seated}
 use Rattle.engine.proofs.seats.start_in.Statement.{statement}
 use Rattle.engine.proofs.seats.start_in.Tie as tie
 

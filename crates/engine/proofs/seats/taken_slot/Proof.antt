@@ -8,8 +8,8 @@ use mathlib.Core.List.{List}
 use lib.Dec.{ltb}
 use lib.ListN.{length, take, length-map}
 use lib.Seq.{take-all}
-use Rattle.engine.specs.Slots.{orderOf, claim, leastBy, taken}
-use Rattle.engine.specs.SeatLaws.{least-none, least-turn}
+use Rattle.engine.specs.Seats.{orderOf, claim, leastBy, taken}
+use Rattle.engine.proofs.SeatsLaws.{least-none, least-turn}
 use Rattle.engine.proofs.seats.taken_slot.Statement.{statement}
 use Rattle.engine.proofs.seats.taken_slot.Tie as tie
 

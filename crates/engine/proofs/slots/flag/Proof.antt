@@ -1,6 +1,6 @@
 -- `1 << i` is the bit of slot i.
-use Rattle.arith.specs.Bit.{one-shl}
 use borrow.Author.Needs.{needs}
+use Rattle.arith.proofs.WordsLaws.{one-shl}
 use Rattle.engine.proofs.slots.flag.Statement.{statement}
 use Rattle.engine.proofs.slots.flag.Tie as tie
 

@@ -3,11 +3,11 @@ use mathlib.Core.Path.{_≡_, sym, ap, _∙_}
 use native.Mathlib.Omega.{arith}
 use mathlib.Core.Bool.{Bool}
 use lib.ListN.{length, getD, length-map}
+use borrow.Author.Needs.{needs}
 use Rattle.voice.specs.declared.Slot.{Slot}
 use Rattle.voice.specs.declared.Voice.{Voice}
-use Rattle.voice.specs.State.{blank}
-use Rattle.engine.specs.SlotLoop.{paired-at}
-use borrow.Author.Needs.{needs}
+use Rattle.voice.specs.Records.{blank}
+use Rattle.engine.proofs.SlotLoopLaws.{paired-at}
 use Rattle.engine.proofs.slots.slot_of.Statement.{statement}
 use Rattle.engine.proofs.slots.slot_of.Tie as tie
 

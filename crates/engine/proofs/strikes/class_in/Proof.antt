@@ -5,9 +5,9 @@ use native.Mathlib.Omega.{arith}
 use Prim.Native.Nat.{ℕ, _-_, _≤_}
 use mathlib.Core.Bool.{Bool, _||_}
 use lib.ListN.{length, getD, take}
-use Rattle.voice.specs.State.{blank}
+use Rattle.voice.specs.Records.{blank}
 use Rattle.engine.specs.NoteOn.{classIn}
-use Rattle.engine.specs.StrikeLaws.{sameClass, class-none, class-turn}
+use Rattle.engine.proofs.StrikesLaws.{sameClass, class-none, class-turn}
 use Rattle.engine.proofs.strikes.class_in.Statement.{statement}
 use Rattle.engine.proofs.strikes.class_in.Tie as tie
 

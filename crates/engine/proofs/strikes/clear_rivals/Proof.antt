@@ -4,12 +4,12 @@ use mathlib.Core.Path.{_≡_, sym, _∙_}
 use Prim.Native.Nat.{_+_, _-_, _≤_}
 use native.Mathlib.Omega.{arith}
 use lib.ListN.{length, length-map, take}
-use Rattle.voice.specs.State.{blank}
-use Rattle.engine.specs.State.{slotsOf}
+use Rattle.voice.specs.Records.{blank}
+use Rattle.engine.specs.Slots.{slotsOf}
 use Rattle.engine.specs.Controls.{cut}
 use Rattle.engine.specs.NoteOn.{rival, cleared}
-use Rattle.engine.specs.SlotLoop.{paired-length, wordTo, word-none, cut-turn, word-fits, cut-all}
-use Rattle.engine.specs.StrikeLaws.{rival-free}
+use Rattle.engine.proofs.SlotLoopLaws.{paired-length, wordTo, word-none, cut-turn, word-fits, cut-all}
+use Rattle.engine.proofs.StrikesLaws.{rival-free}
 use Rattle.engine.proofs.strikes.clear_rivals.Statement.{statement}
 use Rattle.engine.proofs.strikes.clear_rivals.Tie as tie
 

@@ -1,8 +1,8 @@
 -- It is of the channel, and its class is one of the layers'.
 use mathlib.Core.Path.{sym, _∙_}
 use borrow.Author.Tests.{not-true, not-false}
-use Rattle.engine.specs.NoteOn.{rival}
 use borrow.Author.Needs.{needs}
+use Rattle.engine.specs.NoteOn.{rival}
 use Rattle.engine.proofs.strikes.is_rival.Statement.{statement}
 use Rattle.engine.proofs.strikes.is_rival.Tie as tie
 

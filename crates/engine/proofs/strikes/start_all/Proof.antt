@@ -4,9 +4,10 @@ use mathlib.Core.Path.{_≡_, sym, ap, _∙_}
 use native.Mathlib.Omega.{arith}
 use Prim.Native.Nat.{ℕ, _-_, _≤_}
 use lib.ListN.{length, getD, take}
-use Rattle.voice.specs.State.{blank}
+use Rattle.voice.specs.Records.{blank}
 use Rattle.engine.specs.NoteOn.{start, startAll}
-use Rattle.engine.specs.StrikeLaws.{startedOf, begin, start-none, start-turn}
+use Rattle.engine.specs.Internal.Strikes.{startedOf, begin}
+use Rattle.engine.proofs.StrikesLaws.{start-none, start-turn}
 use Rattle.engine.proofs.strikes.start_all.Statement.{statement}
 use Rattle.engine.proofs.strikes.start_all.Tie as tie
 

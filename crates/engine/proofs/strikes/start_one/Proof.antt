@@ -2,10 +2,10 @@
 use mathlib.Core.Path.{ap, _∙_, ap₂}
 use Prim.Native.Nat.{ℕ, _^_}
 use lib.Bits.{bitOr}
-use Rattle.engine.specs.declared.Engine.{Engine}
-use Rattle.engine.specs.Slots.{startIn}
-use Rattle.engine.specs.NoteOn.{Started, start}
 use borrow.Author.Needs.{needs}
+use Rattle.engine.specs.declared.Engine.{Engine}
+use Rattle.engine.specs.Seats.{startIn}
+use Rattle.engine.specs.NoteOn.{Started, start}
 use Rattle.engine.proofs.strikes.start_one.Statement.{statement}
 use Rattle.engine.proofs.strikes.start_one.Tie as tie
 

@@ -1,10 +1,10 @@
 -- Rivals first, then the layers.
 use mathlib.Core.Path.{ap, _∙_}
 use lib.ListN.{take}
+use borrow.Author.Needs.{needs}
 use Rattle.engine.specs.declared.Engine.{Engine}
 use Rattle.engine.specs.NoteOn.{Started, startAll, struck}
-use Rattle.engine.specs.StrikeLaws.{begin}
-use borrow.Author.Needs.{needs}
+use Rattle.engine.specs.Internal.Strikes.{begin}
 use Rattle.engine.proofs.strikes.strike.Statement.{statement}
 use Rattle.engine.proofs.strikes.strike.Tie as tie
 

@@ -1,14 +1,14 @@
 -- 128 on channel 9, else the bank that was taken.
 use mathlib.Core.Path.{ap, _∙_}
 use borrow.Author.Tests.{eq-eqb, ne-eqb}
-use Rattle.voice.specs.declared.Channel.{Channel}
-use Rattle.engine.specs.NoteOn.{bankOf}
 use borrow.Author.Needs.{needs}
+use Rattle.voice.specs.declared.Channel.{Channel}
+use Rattle.engine.specs.NoteOn.{channelBank}
 use Rattle.engine.proofs.striking.bank_number.Statement.{statement}
 use Rattle.engine.proofs.striking.bank_number.Tie as tie
 
 returns : tie.Need-returns
-unfolding bankOf
+unfolding channelBank
 returns c = simp (eq-eqb _ _ (c .if1 .taken))
 
 channel-of-requires : tie.Need-channel-of-requires
@@ -18,7 +18,7 @@ cast-result : tie.Need-cast-result
 cast-result c = search needs
 
 returns-2 : tie.Need-returns-2
-unfolding bankOf
+unfolding channelBank
 returns-2 c =
     let k = c .before in
     ap (λ (x : Channel). x .bank) (k .channel-of .ensures) ∙ simp (ne-eqb _ _ (k .before .if1 .left))

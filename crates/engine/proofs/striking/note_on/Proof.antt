@@ -1,11 +1,11 @@
 -- 2; velocity 0 as a note-off; then the bank.
 use mathlib.Core.Path.{sym, _∙_}
 use borrow.Author.Tests.{eq-eqb, ne-eqb}
-use Rattle.engine.specs.Answers.{pastTwo}
-use Rattle.engine.specs.AnswerLaws.{refuses, passes}
-use Rattle.engine.specs.NoteOn.{noteOn}
-use Rattle.engine.specs.NoteOnLaws.{bankAnswer}
 use borrow.Author.Needs.{needs}
+use Rattle.engine.specs.Answers.{pastTwo}
+use Rattle.engine.proofs.AnswersLaws.{refuses, passes}
+use Rattle.engine.specs.NoteOn.{noteOn}
+use Rattle.engine.specs.Internal.NoteOn.{bankAnswer}
 use Rattle.engine.proofs.striking.note_on.Statement.{statement}
 use Rattle.engine.proofs.striking.note_on.Tie as tie
 

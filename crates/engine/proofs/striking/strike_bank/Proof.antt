@@ -4,17 +4,18 @@ use native.Mathlib.Omega.{arith}
 use Prim.Native.Nat.{ℕ, _<_}
 use mathlib.Core.Bool.{true}
 use borrow.Author.Tests.{not-true, not-false}
+use borrow.Author.Needs.{needs}
 use Rattle.bank.specs.Admission.{admitted}
-use Rattle.bank.specs.AdmittedLaws.{admitted-room}
-use Rattle.layers.specs.Layers.{presetFor}
-use Rattle.layers.specs.VoiceOf.{voicesOf}
+use Rattle.bank.proofs.AdmittedLaws.{admitted-room}
+use Rattle.layers.specs.LayerSearch.{presetFor}
+use Rattle.layers.specs.Voicing.{voicesOf}
 use Rattle.records.specs.Sides.{partsOf}
 use Rattle.records.specs.declared.Parts.{Parts}
 use Rattle.voice.specs.declared.Channel.{Channel}
-use Rattle.engine.specs.State.{channelAt}
-use Rattle.engine.specs.NoteOn.{bankOf}
-use Rattle.engine.specs.NoteOnLaws.{layersAnswer, answer-bad, answer-none, answer-found, preset-low}
-use borrow.Author.Needs.{needs}
+use Rattle.engine.specs.Channels.{channelAt}
+use Rattle.engine.specs.NoteOn.{channelBank}
+use Rattle.engine.specs.Internal.NoteOn.{layersAnswer}
+use Rattle.engine.proofs.NoteOnLaws.{answer-bad, answer-none, answer-found, preset-low}
 use Rattle.engine.proofs.striking.strike_bank.Statement.{statement}
 use Rattle.engine.proofs.striking.strike_bank.Tie as tie
 
@@ -31,7 +32,7 @@ fine p =
 
 found : (p : tie.After-preset-for)
     → p .preset-for .result
-    ≡ presetFor (start p .args .bank .now) (partsOf (start p .args .bank .now)) (bankOf (start p .args .e) (start p .args .channel))
+    ≡ presetFor (start p .args .bank .now) (partsOf (start p .args .bank .now)) (channelBank (start p .args .e) (start p .args .channel))
     (channelAt (start p .args .e) (start p .args .channel) .program)
 found p =
     let b = start p .args .bank .now in
@@ -41,7 +42,7 @@ found p =
     p .preset-for .ensures
     ∙ ap (λ (x : Parts). presetFor b x (n .bank-number .result) (k .channel-of .result .program)) (m .ensures)
     ∙ ap (λ (x : ℕ). presetFor b (partsOf b) x (k .channel-of .result .program)) (n .bank-number .ensures)
-    ∙ ap (λ (x : Channel). presetFor b (partsOf b) (bankOf (start p .args .e) (start p .args .channel)) (x .program)) (k .channel-of .ensures)
+    ∙ ap (λ (x : Channel). presetFor b (partsOf b) (channelBank (start p .args .e) (start p .args .channel)) (x .program)) (k .channel-of .ensures)
 
 admitted-requires : tie.Need-admitted-requires
 admitted-requires c κs = search needs

@@ -4,12 +4,13 @@ use native.Mathlib.Omega.{arith}
 use mathlib.Core.List.{List}
 use borrow.Author.Tests.{lt-ltb, le-ltb}
 use lib.ListN.{length}
-use Rattle.layers.specs.VoiceOf.{voicesOf}
+use borrow.Author.Needs.{needs}
+use Rattle.layers.specs.Voicing.{voicesOf}
 use Rattle.voice.specs.declared.Voice.{Voice}
 use Rattle.engine.specs.Answers.{done}
 use Rattle.engine.specs.NoteOn.{anyPast, struck}
-use Rattle.engine.specs.NoteOnLaws.{layersAnswer, few-count, few-by}
-use borrow.Author.Needs.{needs}
+use Rattle.engine.specs.Internal.NoteOn.{layersAnswer}
+use Rattle.engine.proofs.NoteOnLaws.{few-count, few-by}
 use Rattle.engine.proofs.striking.strike_layers.Statement.{statement}
 use Rattle.engine.proofs.striking.strike_layers.Tie as tie
 

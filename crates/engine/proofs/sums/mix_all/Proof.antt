@@ -10,9 +10,10 @@ use lib.ListN.{length, getD, set, drop, length-set}
 use mir.Syntax.{w32}
 use mir.Val.{toZ, ofZ}
 use mir.Facts.{toZ-ofZ}
-use Rattle.arith.specs.Put.{put2}
+use Rattle.arith.proofs.Put.{put2}
 use Rattle.engine.specs.Render.{mixed}
-use Rattle.engine.specs.RenderLaws.{mixedTo, mixed-none, mixed-turn, mixed-length}
+use Rattle.engine.specs.Internal.Sums.{mixedTo}
+use Rattle.engine.proofs.RenderLaws.{mixed-none, mixed-turn, mixed-length}
 use Rattle.engine.proofs.sums.mix_all.Statement.{statement}
 use Rattle.engine.proofs.sums.mix_all.Tie as tie
 

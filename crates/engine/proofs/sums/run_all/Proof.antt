@@ -6,22 +6,24 @@ use Prim.Native.Nat.{_+_, _-_, _*_, _≤_}
 use mathlib.Core.List.{List}
 use lib.ListN.{length, length-map, getD, take}
 use lib.Seq.{take-all}
-use Rattle.arith.specs.Loops.{upto}
-use Rattle.arith.specs.Within.{w-le}
+use Rattle.arith.proofs.Loops.{upto}
+use Rattle.arith.proofs.WithinLaws.{w-le}
 use Rattle.voice.specs.declared.Slot.{Slot}
-use Rattle.voice.specs.State.{blank, free}
-use Rattle.voice.specs.Sums.{addTo, addTo-length, addTo-small, Small}
-use Rattle.engine.specs.State.{slotsOf, voicesOf}
+use Rattle.voice.specs.Records.{blank, free}
+use Rattle.voice.specs.Internal.Sums.{addTo, Small}
+use Rattle.voice.proofs.SumsLaws.{addTo-length, addTo-small}
+use Rattle.engine.specs.Slots.{slotsOf, recordsOf}
 use Rattle.engine.specs.Render.{slotAfter, played}
-use Rattle.engine.specs.SlotLoop.{paired-length, wordTo, word-none, flag-turn, word-fits, withVoices, store-none, store-turn, store-all}
-use Rattle.engine.specs.RenderLaws.{slotHeard, slot-stays, addAll, add-none, add-turn}
+use Rattle.engine.proofs.SlotLoopLaws.{paired-length, wordTo, word-none, flag-turn, word-fits, withVoices, store-none, store-turn, store-all}
+use Rattle.engine.specs.Internal.Sums.{slotHeard, addAll}
+use Rattle.engine.proofs.RenderLaws.{slot-stays, add-none, add-turn}
 use Rattle.engine.proofs.sums.run_all.Statement.{statement}
 use Rattle.engine.proofs.sums.run_all.Tie as tie
 
 abbrev Inv-loop : tie.InvT-loop
 Inv-loop e g o ram rom acc₀ n x₀ word₀ i₀ acc x word i =
     (length (slotsOf e) ≡ 32)
-    × (x ≡ withVoices e (voicesOf (upto (slotAfter ram rom e n) i (slotsOf e))))
+    × (x ≡ withVoices e (recordsOf (upto (slotAfter ram rom e n) i (slotsOf e))))
     × (word ≡ wordTo (slotAfter ram rom e n) i (slotsOf e))
     × (acc ≡ addAll (slotHeard ram rom e n) (take i (slotsOf e)) acc₀)
     × Small i acc

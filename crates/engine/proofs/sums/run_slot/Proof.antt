@@ -3,13 +3,14 @@ use mathlib.Core.Path.{sym, ap, _∙_, ap₂, subst}
 use borrow.Author.Tests.{not-true}
 use mathlib.Core.List.{List}
 use lib.IntN.{ℤ}
-use Rattle.voice.specs.declared.Channel.{Channel}
-use Rattle.voice.specs.Run.{after, heard}
-use Rattle.voice.specs.Sums.{addTo, Small}
-use Rattle.engine.specs.State.{channelAt}
-use Rattle.engine.specs.Render.{window}
-use Rattle.engine.specs.RenderLaws.{window-part, free-after, free-adds, free-small}
 use borrow.Author.Needs.{needs}
+use Rattle.voice.specs.declared.Channel.{Channel}
+use Rattle.voice.specs.Frames.{after}
+use Rattle.voice.specs.Internal.Frames.{heard}
+use Rattle.voice.specs.Internal.Sums.{addTo, Small}
+use Rattle.engine.specs.Channels.{channelAt}
+use Rattle.engine.specs.Render.{window}
+use Rattle.engine.proofs.RenderLaws.{window-part, free-after, free-adds, free-small}
 use Rattle.engine.proofs.sums.run_slot.Statement.{statement}
 use Rattle.engine.proofs.sums.run_slot.Tie as tie
 

@@ -3,7 +3,7 @@ use borrow.Author.Needs.{needs}
 use mathlib.Core.Bool.{false}
 use mathlib.Core.Path.{refl, sym}
 use lib.ListN.{List·getD-eq-default}
-use Rattle.layers.specs.Barren.{remembered}
+use Rattle.layers.specs.Internal.Barren.{remembered}
 use Rattle.layers.proofs.barren.is_barren.Statement.{statement}
 use Rattle.layers.proofs.barren.is_barren.Tie as tie
 

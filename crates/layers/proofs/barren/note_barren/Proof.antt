@@ -4,7 +4,7 @@ use mathlib.Core.Bool.{true}
 use mathlib.Core.Path.{sym}
 use lib.Seq.{set-out}
 use borrow.Author.Tests.{not-true, not-false}
-use Rattle.layers.specs.Barren.{noted}
+use Rattle.layers.specs.Internal.Barren.{noted}
 use Rattle.layers.proofs.barren.note_barren.Statement.{statement}
 use Rattle.layers.proofs.barren.note_barren.Tie as tie
 

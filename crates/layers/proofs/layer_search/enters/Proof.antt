@@ -2,7 +2,7 @@
 use borrow.Author.Needs.{needs}
 use mathlib.Core.Bool.{not}
 use mathlib.Core.Path.{sym, ap, _∙_}
-use Rattle.layers.specs.Barren.{entered}
+use Rattle.layers.specs.Internal.Barren.{entered}
 use Rattle.layers.proofs.layer_search.enters.Statement.{statement}
 use Rattle.layers.proofs.layer_search.enters.Tie as tie
 

@@ -1,6 +1,6 @@
 -- `is_preset` meets its contract.
 use borrow.Author.Needs.{needs}
-use Rattle.layers.specs.LayersLaws.{preset-yes, preset-no}
+use Rattle.layers.proofs.LayerSearchLaws.{preset-yes, preset-no}
 use Rattle.layers.proofs.layer_search.is_preset.Statement.{statement}
 use Rattle.layers.proofs.layer_search.is_preset.Tie as tie
 

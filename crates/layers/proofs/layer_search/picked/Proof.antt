@@ -1,6 +1,6 @@
 -- `picked` meets its contract.
-use Rattle.layers.specs.Layers.{picked}
 use borrow.Author.Needs.{needs}
+use Rattle.layers.specs.LayerSearch.{picked}
 use Rattle.layers.proofs.layer_search.picked.Statement.{statement}
 use Rattle.layers.proofs.layer_search.picked.Tie as tie
 

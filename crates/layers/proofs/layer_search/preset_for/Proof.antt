@@ -3,10 +3,10 @@ use borrow.Author.Needs.{needs}
 use mathlib.Core.Path.{_≡_, sym, _∙_}
 use native.Mathlib.Omega.{arith}
 use Prim.Native.Nat.{_-_, _≤_}
-use Rattle.records.specs.Search.{first}
-use Rattle.records.specs.SearchLaws.{first-none, first-miss0, first-hit0}
+use Rattle.records.specs.Looking.{first}
+use Rattle.records.proofs.LookingLaws.{first-none, first-miss0, first-hit0}
 use Rattle.records.specs.declared.Found.the-variants.{Nothing}
-use Rattle.layers.specs.Layers.{isPreset, presetFor}
+use Rattle.layers.specs.LayerSearch.{isPreset, presetFor}
 use Rattle.layers.proofs.layer_search.preset_for.Statement.{statement}
 use Rattle.layers.proofs.layer_search.preset_for.Tie as tie
 

@@ -1,7 +1,7 @@
 -- `has_as` meets its contract.
-use Rattle.layers.specs.Ranges.{hasAs}
 use borrow.Author.Tests.{lt-ltb, le-ltb}
 use borrow.Author.Needs.{needs}
+use Rattle.layers.specs.Ranges.{hasAs}
 use Rattle.layers.proofs.ranges.has_as.Statement.{statement}
 use Rattle.layers.proofs.ranges.has_as.Tie as tie
 

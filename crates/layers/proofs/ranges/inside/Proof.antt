@@ -1,7 +1,7 @@
 -- `inside` meets its contract.
-use Rattle.records.specs.Whole.{between}
-use Rattle.layers.specs.Ranges.{inside}
 use borrow.Author.Tests.{le-leb, lt-leb}
+use Rattle.arith.specs.Whole.{between}
+use Rattle.layers.specs.Ranges.{inside}
 use Rattle.layers.proofs.ranges.inside.Statement.{statement}
 use Rattle.layers.proofs.ranges.inside.Tie as tie
 

@@ -1,6 +1,6 @@
 -- `range_at` meets its contract.
-use Rattle.layers.specs.Ranges.{rangeAt}
 use borrow.Author.Needs.{needs}
+use Rattle.layers.specs.Ranges.{rangeAt}
 use Rattle.layers.proofs.ranges.range_at.Statement.{statement}
 use Rattle.layers.proofs.ranges.range_at.Tie as tie
 

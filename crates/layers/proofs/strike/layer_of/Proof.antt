@@ -1,6 +1,6 @@
 -- `layer_of` meets its contract.
 use borrow.Author.Needs.{needs}
-use Rattle.layers.specs.Layers.{layerOf}
+use Rattle.layers.specs.LayerSearch.{layerOf}
 use Rattle.layers.proofs.strike.layer_of.Statement.{statement}
 use Rattle.layers.proofs.strike.layer_of.Tie as tie
 

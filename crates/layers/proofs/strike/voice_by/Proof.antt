@@ -5,10 +5,10 @@ use mathlib.Core.Path.{ap, ap₂, _∙_}
 use mir.Facts.{toZ-ofZ}
 use mir.Syntax.{w8, w16, w32}
 use Prim.Native.Nat.{_-_, min}
-use Rattle.curves.specs.Frames.{frames}
-use Rattle.totals.specs.TotalsLaws.{totalIn}
-use Rattle.layers.specs.VoiceLaws.{made-same, voiceIn, voice-in}
-use Rattle.totals.specs.VoiceNumbers.{pitchOf}
+use Rattle.curves.specs.Times.{frames}
+use Rattle.totals.specs.Internal.Values.{totalIn}
+use Rattle.layers.proofs.VoicingLaws.{made-same, voiceIn, voice-in}
+use Rattle.totals.specs.Settings.{pitchOf}
 use Rattle.layers.proofs.strike.voice_by.Statement.{statement}
 use Rattle.layers.proofs.strike.voice_by.Tie as tie
 

@@ -4,11 +4,12 @@ use mathlib.Core.Path.{_≡_, ap, _∙_}
 use native.Mathlib.Omega.{arith}
 use Prim.Native.Nat.{_-_, _≤_, _<_}
 use lib.ListN.{replicate}
-use Rattle.curves.specs.Octaves.{octaves}
+use Rattle.curves.specs.Octave.{octaves}
 use Rattle.voice.specs.declared.Voice.{Voice}
-use Rattle.layers.specs.Layers.{layersOf, upTo33, searched}
-use Rattle.layers.specs.StruckLaws.{struckBy, filled, filled-none, filled-set, found-length, found-at, struck-few, struck-many}
-use Rattle.layers.specs.VoiceOf.{voiceBy, voiceOf, voicesOf}
+use Rattle.layers.specs.LayerSearch.{layersOf}
+use Rattle.layers.specs.Internal.LayerSearch.{upTo33, searched}
+use Rattle.layers.proofs.StruckLaws.{struckBy, filled, filled-none, filled-set, found-length, found-at, struck-few, struck-many}
+use Rattle.layers.specs.Voicing.{voiceBy, voiceOf, voicesOf}
 use Rattle.totals.specs.declared.Layer.{Layer}
 use Rattle.layers.specs.declared.Layers.{Layers}
 use Rattle.layers.proofs.strike.voices_for.Statement.{statement}

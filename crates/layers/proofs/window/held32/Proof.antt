@@ -1,7 +1,7 @@
 -- `held32` meets its contract.
 use mathlib.Core.Path.{sym}
 use mir.Facts.{toZ-ofZ}
-use Rattle.totals.specs.NumberLaws.{word-low, word-high, word-in, word-fits}
+use Rattle.totals.proofs.SettingsLaws.{word-low, word-high, word-in, word-fits}
 use Rattle.layers.proofs.window.held32.Statement.{statement}
 use Rattle.layers.proofs.window.held32.Tie as tie
 

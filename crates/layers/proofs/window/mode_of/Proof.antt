@@ -5,10 +5,10 @@ use lib.IntN.{ℤ}
 use mathlib.Core.Path.{ap, _∙_}
 use mir.Facts.{toZ-ofZ}
 use mir.Syntax.{w64}
-use Rattle.records.specs.Whole.{modZ}
-use Rattle.arith.specs.Within.{w-back}
-use Rattle.totals.specs.NumberLaws.{mod4-lt}
-use Rattle.totals.specs.VoiceNumbers.{playMode}
+use Rattle.arith.specs.Whole.{modZ}
+use Rattle.arith.proofs.WithinLaws.{w-back}
+use Rattle.totals.proofs.SettingsLaws.{mod4-lt}
+use Rattle.totals.specs.Settings.{playMode}
 use Rattle.layers.proofs.window.mode_of.Statement.{statement}
 use Rattle.layers.proofs.window.mode_of.Tie as tie
 

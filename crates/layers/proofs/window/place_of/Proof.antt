@@ -3,7 +3,7 @@ use borrow.Author.Needs.{needs, sfits-of}
 use mathlib.Core.Path.{ap, _∙_}
 use mir.Facts.{toZ-ofZ}
 use mir.Syntax.{w64}
-use Rattle.records.specs.Whole.{word32}
+use Rattle.arith.specs.Whole.{word32}
 use Rattle.layers.proofs.window.place_of.Statement.{statement}
 use Rattle.layers.proofs.window.place_of.Tie as tie
 

@@ -1,7 +1,7 @@
 -- `play` meets its contract.
 use borrow.Author.Needs.{needs}
 use borrow.Author.Tests.{eq-eqb, ne-eqb}
-use Rattle.totals.specs.VoiceNumbers.{playMode}
+use Rattle.totals.specs.Settings.{playMode}
 use Rattle.layers.proofs.window.play.Statement.{statement}
 use Rattle.layers.proofs.window.play.Tie as tie
 

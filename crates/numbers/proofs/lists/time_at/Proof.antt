@@ -4,9 +4,9 @@ use Prim.Native.Nat.{_-_, _*_}
 use native.Mathlib.Omega.{arith}
 use lib.IntN.{pos}
 use mir.Syntax.{w32}
-use Rattle.arith.specs.Expr.{var, lit, sub, given, fits}
-use Rattle.arith.specs.Within.{w-nat}
 use borrow.Author.Needs.{needs}
+use Rattle.arith.proofs.Expressions.{var, lit, sub, given, fits}
+use Rattle.arith.proofs.WithinLaws.{w-nat}
 use Rattle.numbers.proofs.lists.time_at.Statement.{statement}
 use Rattle.numbers.proofs.lists.time_at.Tie as tie
 

@@ -2,7 +2,7 @@
 use borrow.Author.Needs.{needs}
 use Prim.Native.Nat.{_-_, _≤_}
 use mathlib.Core.Path.{_≡_}
-use Rattle.curves.specs.Gains.{gains}
+use Rattle.curves.specs.Levels.{gains}
 use Rattle.numbers.proofs.loops.levels.Statement.{statement}
 use Rattle.numbers.proofs.loops.levels.Tie as tie
 

@@ -2,7 +2,7 @@
 use borrow.Author.Needs.{needs}
 use Prim.Native.Nat.{_-_, _≤_}
 use mathlib.Core.Path.{_≡_}
-use Rattle.curves.specs.Octaves.{octaves}
+use Rattle.curves.specs.Octave.{octaves}
 use Rattle.numbers.proofs.loops.steps_at.Statement.{statement}
 use Rattle.numbers.proofs.loops.steps_at.Tie as tie
 

@@ -10,8 +10,8 @@ use mir.Syntax.{w16}
 use mir.Val.{toZ}
 use Rattle.arith.specs.Bytes.{i16At}
 use Rattle.records.specs.Sides.{signed, amount}
-use Rattle.records.specs.Amounts.{poured}
-use Rattle.records.specs.AmountLaws.{front, poured-none, poured-front, pour-store, pour-pass}
+use Rattle.records.specs.Internal.Amounts.{poured}
+use Rattle.records.proofs.AmountsLaws.{front, poured-none, poured-front, pour-store, pour-pass}
 use Rattle.records.proofs.amounts.poured.Statement.{statement}
 use Rattle.records.proofs.amounts.poured.Tie as tie
 

@@ -1,10 +1,10 @@
 -- `records::chunks::body` meets its contract.
-use Rattle.records.specs.ChunkLaws.{chunk-room}
-use Rattle.records.specs.Chunks.{body}
 use Prim.Native.Nat.{ℕ, _+_}
 use native.Mathlib.Omega.{arith}
 use mathlib.Core.Path.{ap}
 use borrow.Author.Needs.{needs}
+use Rattle.records.proofs.ChunksLaws.{chunk-room}
+use Rattle.records.specs.Chunks.{body}
 use Rattle.records.proofs.chunks.body.Statement.{statement}
 use Rattle.records.proofs.chunks.body.Tie as tie
 

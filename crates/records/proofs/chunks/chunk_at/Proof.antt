@@ -1,10 +1,10 @@
 -- `records::chunks::chunk_at` meets its contract.
-use Rattle.records.specs.Chunks.{chunkAt}
-use Rattle.records.specs.ChunkLaws.{chunk-first, chunk-next}
 use Prim.Native.Nat.{_+_, _-_, _*_, _≤_}
 use native.Mathlib.Omega.{arith}
 use mathlib.Core.Path.{_≡_, sym}
 use borrow.Author.Needs.{needs}
+use Rattle.records.specs.Chunks.{chunkAt}
+use Rattle.records.proofs.ChunksLaws.{chunk-first, chunk-next}
 use Rattle.records.proofs.chunks.chunk_at.Statement.{statement}
 use Rattle.records.proofs.chunks.chunk_at.Tie as tie
 

@@ -1,6 +1,6 @@
 -- `records::chunks::records_in` meets its contract.
-use Rattle.records.specs.Chunks.{records, bytesIn}
 use borrow.Author.Needs.{needs}
+use Rattle.records.specs.Chunks.{records, bytesIn}
 use Rattle.records.proofs.chunks.records_in.Statement.{statement}
 use Rattle.records.proofs.chunks.records_in.Tie as tie
 

@@ -1,7 +1,7 @@
 -- `records::chunks::size` meets its contract.
-use Rattle.records.specs.ChunkLaws.{sizes-pos}
 use mathlib.Core.Path.{refl}
 use borrow.Author.Needs.{needs}
+use Rattle.records.proofs.ChunksLaws.{sizes-pos}
 use Rattle.records.proofs.chunks.size.Statement.{statement}
 use Rattle.records.proofs.chunks.size.Tie as tie
 

@@ -1,6 +1,6 @@
 -- `records::headers::bank_of` meets its contract.
 use borrow.Author.Needs.{needs}
-use Rattle.records.specs.Sides.{bankOf}
+use Rattle.records.specs.Headers.{bankOf}
 use Rattle.records.proofs.headers.bank_of.Statement.{statement}
 use Rattle.records.proofs.headers.bank_of.Tie as tie
 

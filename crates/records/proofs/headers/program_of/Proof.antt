@@ -1,6 +1,6 @@
 -- `records::headers::program_of` meets its contract.
 use borrow.Author.Needs.{needs}
-use Rattle.records.specs.Sides.{programOf}
+use Rattle.records.specs.Headers.{programOf}
 use Rattle.records.proofs.headers.program_of.Statement.{statement}
 use Rattle.records.proofs.headers.program_of.Tie as tie
 

@@ -1,6 +1,6 @@
 -- `records::headers::rate_of` meets its contract.
 use borrow.Author.Needs.{needs}
-use Rattle.records.specs.Window.{rateOf}
+use Rattle.records.specs.Headers.{rateOf}
 use Rattle.records.proofs.headers.rate_of.Statement.{statement}
 use Rattle.records.proofs.headers.rate_of.Tie as tie
 

@@ -1,6 +1,6 @@
 -- `records::headers::rom_of` meets its contract.
 use borrow.Author.Needs.{needs}
-use Rattle.records.specs.Window.{romOf}
+use Rattle.records.specs.Headers.{romOf}
 use Rattle.records.proofs.headers.rom_of.Statement.{statement}
 use Rattle.records.proofs.headers.rom_of.Tie as tie
 

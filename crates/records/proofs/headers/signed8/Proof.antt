@@ -10,8 +10,8 @@ use lib.IntN.{pos, negsuc, _-ℤ_}
 use mir.Facts.{toZ-ofZ}
 use mir.Syntax.{w8, w16}
 use mir.Val.{SFits, toZ, sel}
-use Rattle.arith.specs.Rounding.{sub-neg}
-use Rattle.arith.specs.Within.{w-nat, w-back}
+use Rattle.arith.proofs.FloorsLaws.{sub-neg}
+use Rattle.arith.proofs.WithinLaws.{w-nat, w-back}
 use Rattle.records.proofs.headers.signed8.Statement.{statement}
 use Rattle.records.proofs.headers.signed8.Tie as tie
 

@@ -1,6 +1,6 @@
 -- `records::sides::bag_of` meets its contract.
-use Rattle.records.specs.Sides.{bagOf}
 use borrow.Author.Needs.{needs}
+use Rattle.records.specs.Sides.{bagOf}
 use Rattle.records.proofs.sides.bag_of.Statement.{statement}
 use Rattle.records.proofs.sides.bag_of.Tie as tie
 

@@ -1,6 +1,6 @@
 -- `records::sides::gen_of` meets its contract.
-use Rattle.records.specs.Sides.{genOf}
 use borrow.Author.Needs.{needs}
+use Rattle.records.specs.Sides.{genOf}
 use Rattle.records.proofs.sides.gen_of.Statement.{statement}
 use Rattle.records.proofs.sides.gen_of.Tie as tie
 

@@ -1,6 +1,6 @@
 -- `records::sides::instruments` meets its contract.
-use Rattle.records.specs.Sides.{instruments}
 use borrow.Author.Needs.{needs}
+use Rattle.records.specs.Sides.{instruments}
 use Rattle.records.proofs.sides.instruments.Statement.{statement}
 use Rattle.records.proofs.sides.instruments.Tie as tie
 

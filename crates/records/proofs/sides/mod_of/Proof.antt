@@ -1,6 +1,6 @@
 -- `records::sides::mod_of` meets its contract.
-use Rattle.records.specs.Sides.{modOf}
 use borrow.Author.Needs.{needs}
+use Rattle.records.specs.Sides.{modOf}
 use Rattle.records.proofs.sides.mod_of.Statement.{statement}
 use Rattle.records.proofs.sides.mod_of.Tie as tie
 

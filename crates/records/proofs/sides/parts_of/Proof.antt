@@ -1,6 +1,6 @@
 -- `records::sides::parts_of` meets its contract.
-use Rattle.records.specs.Sides.{partsOf}
 use borrow.Author.Needs.{needs}
+use Rattle.records.specs.Sides.{partsOf}
 use Rattle.records.proofs.sides.parts_of.Statement.{statement}
 use Rattle.records.proofs.sides.parts_of.Tie as tie
 

@@ -1,6 +1,6 @@
 -- `records::sides::presets` meets its contract.
-use Rattle.records.specs.Sides.{presets}
 use borrow.Author.Needs.{needs}
+use Rattle.records.specs.Sides.{presets}
 use Rattle.records.proofs.sides.presets.Statement.{statement}
 use Rattle.records.proofs.sides.presets.Tie as tie
 

@@ -1,7 +1,7 @@
 -- `records::windows::good_places` meets its contract.
-use Rattle.records.specs.Window.{goodPlaces}
 use mir.Facts.{toZ-ofZ}
 use borrow.Author.Needs.{needs}
+use Rattle.records.specs.Windows.{goodPlaces}
 use Rattle.records.proofs.windows.good_places.Statement.{statement}
 use Rattle.records.proofs.windows.good_places.Tie as tie
 

@@ -1,6 +1,6 @@
 -- `records::windows::loops` meets its contract.
-use Rattle.records.specs.Window.{loops}
 use borrow.Author.Tests.{eq-eqb, ne-eqb}
+use Rattle.records.specs.Windows.{loops}
 use Rattle.records.proofs.windows.loops.Statement.{statement}
 use Rattle.records.proofs.windows.loops.Tie as tie
 

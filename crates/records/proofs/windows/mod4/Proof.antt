@@ -1,12 +1,13 @@
 -- `records::windows::mod4` meets its contract.
-use Rattle.records.specs.WholeLaws.{mod-lift}
-use Rattle.arith.specs.Rounding.{bias-nonneg}
-use Rattle.arith.specs.Within.{Within, w-lit, w-add, w-fits, w-back}
 use mir.Syntax.{w64}
 use mir.Facts.{toZ-ofZ}
 use lib.IntN.{pos, _+ℤ_}
 use lib.Dec.{lit<}
 use native.Mathlib.Nat.{lt-of-le-of-lt}
+use Rattle.arith.proofs.WholeLaws.{mod-lift}
+use Rattle.arith.proofs.FloorsLaws.{bias-nonneg}
+use Rattle.arith.specs.Within.{Within}
+use Rattle.arith.proofs.WithinLaws.{w-lit, w-add, w-fits, w-back}
 use Rattle.records.proofs.windows.mod4.Statement.{statement}
 use Rattle.records.proofs.windows.mod4.Tie as tie
 

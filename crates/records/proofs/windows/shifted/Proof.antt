@@ -1,6 +1,4 @@
 -- `records::windows::shifted` meets its contract.
-use Rattle.records.specs.Window.{shifted}
-use Rattle.arith.specs.Within.{w-of, w-nat, w-fits, w-back}
 use mir.Val.{SFits, toZ, ofZ}
 use mir.Syntax.{w16, w64}
 use mir.Facts.{toZ-ofZ}
@@ -9,6 +7,8 @@ use lib.Dec.{lit<}
 use mathlib.Core.Path.{_≡_}
 use native.Mathlib.Omega.{arith}
 use borrow.Author.Needs.{needs}
+use Rattle.records.specs.Windows.{shifted}
+use Rattle.arith.proofs.WithinLaws.{w-of, w-nat, w-fits, w-back}
 use Rattle.records.proofs.windows.shifted.Statement.{statement}
 use Rattle.records.proofs.windows.shifted.Tie as tie
 

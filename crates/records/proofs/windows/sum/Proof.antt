@@ -1,10 +1,10 @@
 -- `records::windows::sum` meets its contract.
-use Rattle.arith.specs.Within.{w-le}
-use Rattle.arith.specs.Expr.{E, var, lit, add, mul, Var, given, fits, back, within}
 use mir.Syntax.{w64}
 use lib.IntN.{pos}
 use lib.Dec.{lit≤}
 use mathlib.Core.List.{List, [], _∷_}
+use Rattle.arith.proofs.WithinLaws.{w-le}
+use Rattle.arith.proofs.Expressions.{E, var, lit, add, mul, Var, given, fits, back, within}
 use Rattle.records.proofs.windows.sum.Statement.{statement}
 use Rattle.records.proofs.windows.sum.Tie as tie
 

@@ -1,6 +1,6 @@
 -- `records::zones::amount` meets its contract.
-use Rattle.records.specs.Sides.{amount}
 use borrow.Author.Needs.{needs}
+use Rattle.records.specs.Sides.{amount}
 use Rattle.records.proofs.zones.amount.Statement.{statement}
 use Rattle.records.proofs.zones.amount.Tie as tie
 

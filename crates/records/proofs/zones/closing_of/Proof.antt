@@ -3,8 +3,8 @@ use borrow.Author.Needs.{needs}
 use mathlib.Core.Path.{_≡_, sym, ap₂, _∙_}
 use native.Mathlib.Omega.{arith}
 use Prim.Native.Nat.{_-_, _≤_, _<_}
-use Rattle.records.specs.Search.{first}
-use Rattle.records.specs.SearchLaws.{first-none, first-miss, first-hit}
+use Rattle.records.specs.Looking.{first}
+use Rattle.records.proofs.LookingLaws.{first-none, first-miss, first-hit}
 use Rattle.records.specs.Zones.{has, closingOf}
 use Rattle.records.specs.declared.Found.the-variants.{Nothing}
 use Rattle.records.proofs.zones.closing_of.Statement.{statement}

@@ -1,6 +1,6 @@
 -- `records::zones::gen_count` meets its contract.
-use Rattle.records.specs.Zones.{genCount}
 use borrow.Author.Needs.{needs}
+use Rattle.records.specs.Zones.{genCount}
 use Rattle.records.proofs.zones.gen_count.Statement.{statement}
 use Rattle.records.proofs.zones.gen_count.Tie as tie
 

@@ -1,11 +1,11 @@
 -- `records::zones::global_of` meets its contract.
-use Rattle.records.specs.Zones.{zoneAt, globalOf, zoneCount}
 use mathlib.Core.Path.{_≡_, ap, _∙_}
 use native.Mathlib.Omega.{arith}
 use lib.Dec.{leb}
 use mathlib.Core.Bool.{true, false}
 use borrow.Author.Tests.{lt-leb, le-leb}
 use borrow.Author.Needs.{needs}
+use Rattle.records.specs.Zones.{zoneAt, globalOf, zoneCount}
 use Rattle.records.proofs.zones.global_of.Statement.{statement}
 use Rattle.records.proofs.zones.global_of.Tie as tie
 

@@ -1,6 +1,6 @@
 -- `records::zones::has` meets its contract.
-use Rattle.records.specs.Zones.{has}
 use borrow.Author.Needs.{needs}
+use Rattle.records.specs.Zones.{has}
 use Rattle.records.proofs.zones.has.Statement.{statement}
 use Rattle.records.proofs.zones.has.Tie as tie
 

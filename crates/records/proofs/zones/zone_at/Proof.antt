@@ -1,10 +1,10 @@
 -- `records::zones::zone_at` meets its contract.
-use Rattle.records.specs.declared.Found.the-variants.{Nothing, At}
-use Rattle.records.specs.Zones.{zoneAt, closingOf}
-use Rattle.records.specs.ZoneLaws.{closing-is}
 use native.Mathlib.Omega.{arith}
 use mathlib.Core.Path.{_≡_}
 use borrow.Author.Needs.{needs}
+use Rattle.records.specs.declared.Found.the-variants.{Nothing, At}
+use Rattle.records.specs.Zones.{zoneAt, closingOf}
+use Rattle.records.proofs.ZonesLaws.{closing-is}
 use Rattle.records.proofs.zones.zone_at.Statement.{statement}
 use Rattle.records.proofs.zones.zone_at.Tie as tie
 

@@ -1,6 +1,6 @@
 -- `records::zones::zone_count` meets its contract.
-use Rattle.records.specs.Zones.{zoneCount}
 use borrow.Author.Needs.{needs}
+use Rattle.records.specs.Zones.{zoneCount}
 use Rattle.records.proofs.zones.zone_count.Statement.{statement}
 use Rattle.records.proofs.zones.zone_count.Tie as tie
 

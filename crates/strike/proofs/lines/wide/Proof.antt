@@ -3,7 +3,7 @@ use borrow.Author.Needs.{needs}
 use lib.Dec.{lit<}
 use mir.Facts.{toZ-ofZ}
 use mir.Syntax.{w16, w32}
-use Rattle.arith.specs.Within.{w-of, w-fits}
+use Rattle.arith.proofs.WithinLaws.{w-of, w-fits}
 use Rattle.strike.proofs.lines.wide.Statement.{statement}
 use Rattle.strike.proofs.lines.wide.Tie as tie
 

@@ -5,11 +5,11 @@ use lib.IntN.{pos, _+ℤ_}
 use mathlib.Core.Path.{ap, ap₂, _∙_}
 use mir.Facts.{toZ-ofZ}
 use mir.Syntax.{w32, w64}
-use Rattle.curves.specs.Decibels.{cbOf}
-use Rattle.records.specs.Whole.{between}
-use Rattle.arith.specs.Within.{w-back}
-use Rattle.totals.specs.Totals.{totalOf, held, instrumentOnly}
-use Rattle.totals.specs.VoiceNumbers.{attenuationOf}
+use Rattle.curves.specs.Levels.{cbOf}
+use Rattle.arith.specs.Whole.{between}
+use Rattle.arith.proofs.WithinLaws.{w-back}
+use Rattle.totals.specs.Values.{totalOf, heldTotal, instrumentOnly}
+use Rattle.totals.specs.Settings.{attenuationOf}
 use Rattle.totals.proofs.numbers.attenuation_of.Statement.{statement}
 use Rattle.totals.proofs.numbers.attenuation_of.Tie as tie
 
@@ -26,7 +26,7 @@ plus-requires : tie.Need-plus-requires
 plus-requires c κs = search needs
 
 returns : tie.Need-returns
-unfolding attenuationOf totalOf held instrumentOnly between
+unfolding attenuationOf totalOf heldTotal instrumentOnly between
 returns c =
     let sum = c .before .sum-at in
     let v = c .before .before .cb-of .ensures .0 ∙ ap cbOf (c .before .before .before .soft-of .ensures) in

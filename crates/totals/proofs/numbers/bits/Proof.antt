@@ -5,9 +5,10 @@ use lib.IntN.{pos, _+ℤ_}
 use mir.Facts.{toZ-ofZ}
 use mir.Syntax.{w64}
 use native.Mathlib.Nat.{lt-of-le-of-lt}
-use Rattle.arith.specs.Rounding.{bias-nonneg}
-use Rattle.arith.specs.Within.{Within, w-lit, w-le, w-add, w-fits, w-back}
-use Rattle.totals.specs.NumberLaws.{bits-lift}
+use Rattle.arith.proofs.FloorsLaws.{bias-nonneg}
+use Rattle.arith.specs.Within.{Within}
+use Rattle.arith.proofs.WithinLaws.{w-lit, w-le, w-add, w-fits, w-back}
+use Rattle.totals.proofs.SettingsLaws.{bits-lift}
 use Rattle.totals.proofs.numbers.bits.Statement.{statement}
 use Rattle.totals.proofs.numbers.bits.Tie as tie
 

@@ -5,8 +5,8 @@ use lib.IntN.{ℤ}
 use mathlib.Core.Path.{ap, _∙_}
 use mir.Facts.{toZ-ofZ}
 use mir.Syntax.{w64}
-use Rattle.records.specs.Whole.{modZ}
-use Rattle.arith.specs.Within.{w-back}
+use Rattle.arith.specs.Whole.{modZ}
+use Rattle.arith.proofs.WithinLaws.{w-back}
 use Rattle.totals.proofs.numbers.class_of.Statement.{statement}
 use Rattle.totals.proofs.numbers.class_of.Tie as tie
 

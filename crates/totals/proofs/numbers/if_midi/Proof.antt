@@ -7,8 +7,8 @@ use mir.Facts.{toZ-ofZ}
 use mir.Syntax.{w16}
 use mir.Val.{toZ}
 use native.Mathlib.Omega.{arith}
-use Rattle.arith.specs.Within.{w-nat, w-back}
-use Rattle.totals.specs.NumberLaws.{midi-low, midi-high, midi-in, midi-byte}
+use Rattle.arith.proofs.WithinLaws.{w-nat, w-back}
+use Rattle.totals.proofs.SettingsLaws.{midi-low, midi-high, midi-in, midi-byte}
 use Rattle.totals.proofs.numbers.if_midi.Statement.{statement}
 use Rattle.totals.proofs.numbers.if_midi.Tie as tie
 

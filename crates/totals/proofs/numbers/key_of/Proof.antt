@@ -1,9 +1,9 @@
 -- `key_of` meets its contract.
 use borrow.Author.Needs.{needs, sfits-of}
 use mir.Facts.{toZ-ofZ}
-use Rattle.records.specs.Whole.{between}
-use Rattle.totals.specs.Totals.{totalOf, held, instrumentOnly}
-use Rattle.totals.specs.VoiceNumbers.{keyOf}
+use Rattle.arith.specs.Whole.{between}
+use Rattle.totals.specs.Values.{totalOf, heldTotal, instrumentOnly}
+use Rattle.totals.specs.Settings.{keyOf}
 use Rattle.totals.proofs.numbers.key_of.Statement.{statement}
 use Rattle.totals.proofs.numbers.key_of.Tie as tie
 
@@ -14,7 +14,7 @@ if-midi-requires : tie.Need-if-midi-requires
 if-midi-requires c κs = search needs
 
 returns : tie.Need-returns
-unfolding keyOf totalOf held instrumentOnly between
+unfolding keyOf totalOf heldTotal instrumentOnly between
 returns c = rw (toZ-ofZ (sfits-of (c .before .if-midi-arg .given))) at (c .if-midi .ensures)
 
 pub key-of-spec : {M : Type 1} → statement M

@@ -4,7 +4,7 @@ use lib.Dec.{lit<}
 use mathlib.Core.Path.{_∙_}
 use mir.Facts.{toZ-ofZ}
 use mir.Syntax.{w32, w64}
-use Rattle.arith.specs.Within.{w-back}
+use Rattle.arith.proofs.WithinLaws.{w-back}
 use Rattle.totals.proofs.numbers.keyed_time.Statement.{statement}
 use Rattle.totals.proofs.numbers.keyed_time.Tie as tie
 

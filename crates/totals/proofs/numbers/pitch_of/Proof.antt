@@ -5,11 +5,11 @@ use lib.IntN.{pos}
 use mathlib.Core.Path.{ap, _∙_}
 use mir.Facts.{toZ-ofZ}
 use mir.Syntax.{w32, w64}
-use Rattle.records.specs.Whole.{between}
-use Rattle.arith.specs.Within.{w-back}
-use Rattle.totals.specs.NumberLaws.{tune-same}
-use Rattle.totals.specs.Totals.{totalOf, held, instrumentOnly}
-use Rattle.totals.specs.VoiceNumbers.{pitchOf}
+use Rattle.arith.specs.Whole.{between}
+use Rattle.arith.proofs.WithinLaws.{w-back}
+use Rattle.totals.proofs.SettingsLaws.{tune-same}
+use Rattle.totals.specs.Values.{totalOf, heldTotal, instrumentOnly}
+use Rattle.totals.specs.Settings.{pitchOf}
 use Rattle.totals.proofs.numbers.pitch_of.Statement.{statement}
 use Rattle.totals.proofs.numbers.pitch_of.Tie as tie
 
@@ -41,7 +41,7 @@ tune-requires : tie.Need-tune-requires
 tune-requires c κs = search needs
 
 returns : tie.Need-returns
-unfolding pitchOf totalOf held instrumentOnly between
+unfolding pitchOf totalOf heldTotal instrumentOnly between
 returns c =
     let correction = c .before .wide8 .ensures in
     let fine = c .before .before .held-at3 .ensures in

@@ -4,8 +4,8 @@ use lib.Dec.{lit<}
 use mathlib.Core.List.{List, [], _∷_}
 use mir.Syntax.{w32, w64}
 use native.Mathlib.Omega.{arith}
-use Rattle.arith.specs.Expr.{E, var, add, Var, given, fits, back, within}
-use Rattle.arith.specs.Within.{w-nat, w-fits, w-back}
+use Rattle.arith.proofs.Expressions.{E, var, add, Var, given, fits, back, within}
+use Rattle.arith.proofs.WithinLaws.{w-nat, w-fits, w-back}
 use Rattle.totals.proofs.numbers.plus.Statement.{statement}
 use Rattle.totals.proofs.numbers.plus.Tie as tie
 

@@ -8,10 +8,10 @@ use mir.Facts.{toZ-ofZ}
 use Prim.Native.Nat.{ℕ}
 use lib.Dec.{leb}
 use native.Mathlib.Omega.{arith}
-use Rattle.records.specs.Whole.{between}
-use Rattle.totals.specs.Totals.{totalOf, held, instrumentOnly}
-use Rattle.totals.specs.TotalsLaws.{at}
-use Rattle.totals.specs.VoiceNumbers.{rootOf, ifMidi}
+use Rattle.arith.specs.Whole.{between}
+use Rattle.totals.specs.Values.{totalOf, heldTotal, instrumentOnly}
+use Rattle.totals.specs.Internal.Values.{at}
+use Rattle.totals.specs.Settings.{rootOf, ifMidi}
 use Rattle.totals.proofs.numbers.root_of.Statement.{statement}
 use Rattle.totals.proofs.numbers.root_of.Tie as tie
 
@@ -22,7 +22,7 @@ if-midi-requires : tie.Need-if-midi-requires
 if-midi-requires c κs = search needs
 
 returns : tie.Need-returns
-unfolding rootOf totalOf held instrumentOnly between
+unfolding rootOf totalOf heldTotal instrumentOnly between
 returns c =
     let s = c .before .before .before in
     let header = s .args .header in

@@ -3,8 +3,8 @@ use lib.Dec.{lit<}
 use lib.IntN.{pos}
 use mathlib.Core.List.{List, [], _∷_}
 use mir.Syntax.{w32, w64}
-use Rattle.arith.specs.Expr.{E, var, lit, add, sub, mul, Var, given, fits, back, within}
-use Rattle.arith.specs.Within.{w-fits, w-back}
+use Rattle.arith.proofs.Expressions.{E, var, lit, add, sub, mul, Var, given, fits, back, within}
+use Rattle.arith.proofs.WithinLaws.{w-fits, w-back}
 use Rattle.totals.proofs.numbers.shift.Statement.{statement}
 use Rattle.totals.proofs.numbers.shift.Tie as tie
 

@@ -6,11 +6,11 @@ use lib.Signed.{nonNeg}
 use mathlib.Core.Path.{sym, ap, subst}
 use mir.Syntax.{w64}
 use native.Mathlib.Nat.{lt-of-le-of-lt}
-use Rattle.records.specs.Whole.{between}
-use Rattle.arith.specs.Within.{w-back}
-use Rattle.totals.specs.NumberLaws.{held-nonneg}
-use Rattle.totals.specs.Totals.{totalOf, held, instrumentOnly}
-use Rattle.totals.specs.TotalsLaws.{at}
+use Rattle.arith.specs.Whole.{between}
+use Rattle.arith.proofs.WithinLaws.{w-back}
+use Rattle.totals.proofs.SettingsLaws.{held-nonneg}
+use Rattle.totals.specs.Values.{totalOf, heldTotal, instrumentOnly}
+use Rattle.totals.specs.Internal.Values.{at}
 use Rattle.totals.proofs.numbers.sustain_of.Statement.{statement}
 use Rattle.totals.proofs.numbers.sustain_of.Tie as tie
 
@@ -25,7 +25,7 @@ cast-result c =
     (subst (λ (z : ℤ). T (nonNeg z)) (sym (r .0)) (held-nonneg 1000 (at (a .own .now) 37 +ℤ at (a .added .now) 37)), record { fits = lt-of-le-of-lt (r .1 .within) (lit< tt) })
 
 returns : tie.Need-returns
-unfolding totalOf held instrumentOnly between
+unfolding totalOf heldTotal instrumentOnly between
 returns c = rw (w-back w64 (c .held-at .ensures .1) (lit< tt)) (ap natAbs (c .held-at .ensures .0))
 
 pub sustain-of-spec : {M : Type 1} → statement M

@@ -2,7 +2,7 @@
 use borrow.Author.Needs.{needs}
 use lib.Dec.{lit<}
 use mir.Syntax.{w32, w64}
-use Rattle.arith.specs.Within.{w-fits, w-back}
+use Rattle.arith.proofs.WithinLaws.{w-fits, w-back}
 use Rattle.totals.proofs.numbers.time_of.Statement.{statement}
 use Rattle.totals.proofs.numbers.time_of.Tie as tie
 

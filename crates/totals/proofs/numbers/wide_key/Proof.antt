@@ -4,7 +4,7 @@ use lib.Dec.{lit<}
 use mathlib.Core.Path.{refl}
 use mir.Syntax.{w64}
 use native.Mathlib.Omega.{arith}
-use Rattle.arith.specs.Within.{w-nat, w-back}
+use Rattle.arith.proofs.WithinLaws.{w-nat, w-back}
 use Rattle.totals.proofs.numbers.wide_key.Statement.{statement}
 use Rattle.totals.proofs.numbers.wide_key.Tie as tie
 

@@ -1,7 +1,7 @@
 -- `added_values` meets its contract.
 use borrow.Author.Needs.{needs}
 use mathlib.Core.Path.{_∙_}
-use Rattle.totals.specs.TotalsLaws.{addedValues}
+use Rattle.totals.specs.Internal.Values.{addedValues}
 use Rattle.totals.proofs.values.added_values.Statement.{statement}
 use Rattle.totals.proofs.values.added_values.Tie as tie
 

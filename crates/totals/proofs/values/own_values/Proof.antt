@@ -1,7 +1,7 @@
 -- `own_values` meets its contract.
 use borrow.Author.Needs.{needs}
 use mathlib.Core.Path.{_∙_}
-use Rattle.totals.specs.TotalsLaws.{ownValues}
+use Rattle.totals.specs.Internal.Values.{ownValues}
 use Rattle.totals.proofs.values.own_values.Statement.{statement}
 use Rattle.totals.proofs.values.own_values.Tie as tie
 

@@ -5,7 +5,7 @@ use lib.IntN.{_+ℤ_}
 use mathlib.Core.Path.{ap₂}
 use mir.Facts.{toZ-ofZ}
 use mir.Syntax.{w64}
-use Rattle.arith.specs.Within.{w-add, w-fits, w-back}
+use Rattle.arith.proofs.WithinLaws.{w-add, w-fits, w-back}
 use Rattle.totals.proofs.values.sum_at.Statement.{statement}
 use Rattle.totals.proofs.values.sum_at.Tie as tie
 

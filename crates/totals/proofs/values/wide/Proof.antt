@@ -3,7 +3,7 @@ use lib.Dec.{lit<}
 use mathlib.Core.Path.{refl}
 use mir.Facts.{toZ-ofZ}
 use mir.Syntax.{w16, w64}
-use Rattle.arith.specs.Within.{w-of, w-fits, w-back}
+use Rattle.arith.proofs.WithinLaws.{w-of, w-fits, w-back}
 use Rattle.totals.proofs.values.wide.Statement.{statement}
 use Rattle.totals.proofs.values.wide.Tie as tie
 

@@ -1,9 +1,9 @@
 -- Each count grows by m.
 use mathlib.Core.Path.{sym, ap, _∙_, subst}
 use native.Mathlib.Omega.{arith}
-use Rattle.voice.specs.declared.Stage.the-variants.{Delay}
-use Rattle.voice.specs.Stretch.{spentBy, RoomBy}
 use borrow.Author.Needs.{needs}
+use Rattle.voice.specs.declared.Stage.the-variants.{Delay}
+use Rattle.voice.specs.Internal.Calm.{spentBy, RoomBy}
 use Rattle.voice.proofs.calm.age_by.Statement.{statement}
 use Rattle.voice.proofs.calm.age_by.Tie as tie
 

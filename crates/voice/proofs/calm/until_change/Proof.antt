@@ -2,8 +2,8 @@
 use Prim.Native.Nat.{_<_, _*_}
 use native.Mathlib.Nat.{mod-lt}
 use native.Mathlib.Omega.{arith}
-use Rattle.voice.specs.CalmLaws.{until-steady}
 use borrow.Author.Needs.{needs}
+use Rattle.voice.proofs.CalmLaws.{until-steady}
 use Rattle.voice.proofs.calm.until_change.Statement.{statement}
 use Rattle.voice.proofs.calm.until_change.Tie as tie
 

@@ -2,8 +2,8 @@
 use mathlib.Core.Path.{refl, sym, _∙_}
 use native.Mathlib.Nat.{not-suc-le-zero}
 use native.Mathlib.Omega.{arith}
-use Rattle.voice.specs.CalmLaws.{none-calm, room-le}
 use borrow.Author.Needs.{needs}
+use Rattle.voice.proofs.CalmLaws.{none-calm, room-le}
 use Rattle.voice.proofs.frames.ahead.Statement.{statement}
 use Rattle.voice.proofs.frames.ahead.Tie as tie
 

@@ -1,23 +1,24 @@
 -- One frame of a slot, by the branch that is taken (free, dead, in delay, played): each return by its law of FrameLaws.
-use Rattle.voice.specs.declared.Framed.{Framed}
-use Rattle.voice.specs.declared.Slot.{Slot}
-use Rattle.voice.specs.Sound.{leftOf, rightOf}
 use borrow.Author.Needs.{sfits-of, needs}
 use mir.Facts.{toZ-ofZ}
 use mir.Syntax.{w64, w32, w16}
 use Prim.Native.Nat.{_+_}
-use Rattle.voice.specs.StageLaws.{Room}
-use Rattle.voice.specs.Frame.{silent, loud, goOn, played}
-use Rattle.voice.specs.State.{withMoved, sounds}
+use lib.Dec.{lit<, lit≤}
+use borrow.Author.Tests.{not-true, not-false}
+use lib.IntN.{ℤ}
+use mathlib.Core.Path.{_≡_, sym, ap, _∙_}
+use Rattle.voice.specs.declared.Framed.{Framed}
+use Rattle.voice.specs.declared.Slot.{Slot}
+use Rattle.voice.specs.Sound.{leftOf, rightOf}
+use Rattle.voice.specs.Internal.Stages.{Room}
+use Rattle.voice.specs.Frames.{silent, loud, goOn, readAndMoved}
+use Rattle.voice.specs.Records.{withMoved, sounds}
 use Rattle.voice.specs.Stages.{entered, dead, waiting, spent}
 use Rattle.voice.specs.declared.Voice.{Voice}
 use Rattle.voice.specs.declared.Stage.{Stage}
-use lib.Dec.{lit<, lit≤}
-use Rattle.arith.specs.Within.{Within, w-nat, w-back}
-use borrow.Author.Tests.{not-true, not-false}
-use lib.IntN.{ℤ}
-use Rattle.voice.specs.FrameLaws.{frame-free, frame-on, living-dead, living-waits, living-plays}
-use mathlib.Core.Path.{_≡_, sym, ap, _∙_}
+use Rattle.arith.specs.Within.{Within}
+use Rattle.arith.proofs.WithinLaws.{w-nat, w-back}
+use Rattle.voice.proofs.FramesLaws.{frame-free, frame-on, living-dead, living-waits, living-plays}
 use Rattle.voice.proofs.frames.frame_at.Statement.{statement}
 use Rattle.voice.proofs.frames.frame_at.Tie as tie
 
@@ -103,7 +104,7 @@ go-on-requires : tie.Need-go-on-requires
 go-on-requires c κs = room (c .before .before .before .before .before .before .before)
 
 returns-4 : tie.Need-returns-4
-unfolding played
+unfolding readAndMoved
 returns-4 c = let d = c .before .before .before .before .before .before .before .before .before in
     let k = d .before .before .before .before .before in
     let w = k .args .w .now in

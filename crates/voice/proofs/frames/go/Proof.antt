@@ -10,19 +10,20 @@ use lib.IntN.{ℤ}
 use mir.Facts.{toZ-ofZ}
 use mir.Syntax.{w16, w64}
 use mir.Val.{toZ, ofZ}
-use Rattle.arith.specs.Within.{w-back}
-use Rattle.curves.specs.Decibels.{gainOf}
+use Rattle.arith.proofs.WithinLaws.{w-back}
+use Rattle.curves.specs.Levels.{gainOf}
 use Rattle.voice.specs.declared.Slot.{Slot}
 use Rattle.voice.specs.declared.Stage.{Stage}
 use Rattle.voice.specs.declared.Voice.{Voice}
-use Rattle.voice.specs.State.{withMoved, sounds}
+use Rattle.voice.specs.Records.{withMoved, sounds}
 use Rattle.voice.specs.Stages.{entered, dead}
-use Rattle.voice.specs.Sound.{total}
-use Rattle.voice.specs.Run.{afterAt, heardAt}
-use Rattle.voice.specs.Stretch.{Calms, Clear, plains}
-use Rattle.voice.specs.StretchLaws.{stretch-slot, stretch-sums}
-use Rattle.voice.specs.CalmLaws.{room-le}
-use Rattle.voice.specs.Sums.{Small, addAt}
+use Rattle.voice.specs.Sound.{wholeLoss}
+use Rattle.voice.specs.Internal.Frames.{afterAt, heardAt}
+use Rattle.voice.specs.Internal.Calm.{Calms}
+use Rattle.voice.specs.Internal.Stretch.{Clear, plains}
+use Rattle.voice.proofs.StretchLaws.{stretch-slot, stretch-sums}
+use Rattle.voice.proofs.CalmLaws.{room-le}
+use Rattle.voice.specs.Internal.Sums.{Small, addAt}
 use Rattle.voice.proofs.frames.go.Statement.{statement}
 use Rattle.voice.proofs.frames.go.Tie as tie
 
@@ -89,7 +90,7 @@ module _ (c : tie.After-glide) where
   sums =
       let g = c .before .before .before in
       let t = g .before in
-      let e = g .gain .ensures .0 ∙ ap gainOf (rw (w-back w64 (start .pre .1) (lit< tt)) at (t .total-of .ensures) ∙ ap (total loss) (t .before .envelope-of .ensures .0)) in
+      let e = g .gain .ensures .0 ∙ ap gainOf (rw (w-back w64 (start .pre .1) (lit< tt)) at (t .total-of .ensures) ∙ ap (wholeLoss loss) (t .before .envelope-of .ensures .0)) in
       ap (λ (x : ℕ). plains x (voice .pan) w st (voice .place) count) e
       ∙ sym (stretch-sums st loss w voice stage alive enters count calm clear)
       ∙ ap (heardAt st loss w count) (sym on)

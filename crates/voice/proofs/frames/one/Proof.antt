@@ -4,11 +4,12 @@ use Prim.Native.Nat.{_*_}
 use mathlib.Core.List.{[], _∷_}
 use lib.Dec.{lit<}
 use mir.Syntax.{w32, w64}
-use Rattle.arith.specs.Within.{w-back}
-use Rattle.voice.specs.declared.Framed.{Framed}
-use Rattle.voice.specs.Run.{afterAt, heardAt}
-use Rattle.voice.specs.Sums.{Small, addAt, small-none, small-two}
 use borrow.Author.Needs.{needs}
+use Rattle.arith.proofs.WithinLaws.{w-back}
+use Rattle.voice.specs.declared.Framed.{Framed}
+use Rattle.voice.specs.Internal.Frames.{afterAt, heardAt}
+use Rattle.voice.specs.Internal.Sums.{Small, addAt}
+use Rattle.voice.proofs.SumsLaws.{small-none, small-two}
 use Rattle.voice.proofs.frames.one.Statement.{statement}
 use Rattle.voice.proofs.frames.one.Tie as tie
 

@@ -5,14 +5,14 @@ use mathlib.Core.List.{List}
 use lib.Dec.{lit<}
 use lib.IntN.{ℤ}
 use mir.Syntax.{w64}
-use Rattle.arith.specs.Within.{w-back}
-use Rattle.voice.specs.Move.{step}
-use Rattle.voice.specs.MoveLaws.{step-at}
-use Rattle.voice.specs.Sound.{loss}
-use Rattle.voice.specs.Run.{afterAt, heardAt}
-use Rattle.voice.specs.RunLaws.{once, heard-once}
-use Rattle.voice.specs.Sums.{addTo, Small}
 use borrow.Author.Needs.{needs}
+use Rattle.arith.proofs.WithinLaws.{w-back}
+use Rattle.voice.specs.Motion.{step}
+use Rattle.voice.proofs.MotionLaws.{step-at}
+use Rattle.voice.specs.Sound.{loss}
+use Rattle.voice.specs.Internal.Frames.{afterAt, heardAt}
+use Rattle.voice.proofs.RunLaws.{once, heard-once}
+use Rattle.voice.specs.Internal.Sums.{addTo, Small}
 use Rattle.voice.proofs.frames.run.Statement.{statement}
 use Rattle.voice.proofs.frames.run.Tie as tie
 

@@ -10,13 +10,15 @@ use lib.IntN.{ℤ, pos}
 use lib.ListN.{length, getD}
 use mir.Syntax.{w64}
 use mir.Val.{toZ, ofZ}
-use Rattle.arith.specs.Within.{Within, w-back}
-use Rattle.voice.specs.declared.Slot.{Slot}
-use Rattle.voice.specs.Run.{afterAt, heardAt}
-use Rattle.voice.specs.RunLaws.{heard-length, at-cut, heardAt-cut}
-use Rattle.voice.specs.Silence.{stays, adds-nothing, stays-small}
-use Rattle.voice.specs.Sums.{addTo, addAt, Small, loudest, addTo-none, addTo-length, add-next, to-beyond, small-none, small-append}
 use borrow.Author.Needs.{needs}
+use Rattle.arith.specs.Within.{Within}
+use Rattle.arith.proofs.WithinLaws.{w-back}
+use Rattle.voice.specs.declared.Slot.{Slot}
+use Rattle.voice.specs.Internal.Frames.{afterAt, heardAt}
+use Rattle.voice.proofs.RunLaws.{heard-length, at-cut, heardAt-cut}
+use Rattle.voice.proofs.Silence.{stays, adds-nothing, stays-small}
+use Rattle.voice.specs.Internal.Sums.{addTo, addAt, Small, loudest}
+use Rattle.voice.proofs.SumsLaws.{addTo-none, addTo-length, add-next, to-beyond, small-none, small-append}
 use Rattle.voice.proofs.frames.run_at.Statement.{statement}
 use Rattle.voice.proofs.frames.run_at.Tie as tie
 

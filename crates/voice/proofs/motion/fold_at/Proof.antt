@@ -3,8 +3,8 @@ use Prim.Native.Nat.{_<_, _-_}
 use mathlib.Core.Path.{sym}
 use native.Mathlib.Nat.{mod-lt}
 use native.Mathlib.Omega.{arith}
-use Rattle.voice.specs.MoveLaws.{fold-in, fold-once, fold-past, fold-lt}
 use borrow.Author.Needs.{needs}
+use Rattle.voice.proofs.MotionLaws.{fold-in, fold-once, fold-past, fold-lt}
 use Rattle.voice.proofs.motion.fold_at.Statement.{statement}
 use Rattle.voice.proofs.motion.fold_at.Tie as tie
 

@@ -1,13 +1,13 @@
 -- The move by the step, by the branch that is taken (folded, ended, staying): each return by its law of FrameLaws, the fold by `fold-add`.
-use Rattle.voice.specs.MoveLaws.{fold-add}
-use Rattle.voice.specs.Move.{fold}
-use Rattle.voice.specs.State.{withMoved, sounds}
-use Rattle.voice.specs.declared.Stage.{Stage}
 use Prim.Native.Nat.{ℕ, _+_, _*_}
-use Rattle.voice.specs.FrameLaws.{folds-loop, go-fold, go-end, go-stay}
 use native.Mathlib.Omega.{arith}
 use mathlib.Core.Path.{ap₂, sym, ap, _∙_}
 use borrow.Author.Needs.{needs}
+use Rattle.voice.proofs.MotionLaws.{fold-add}
+use Rattle.voice.specs.Motion.{fold}
+use Rattle.voice.specs.Records.{withMoved, sounds}
+use Rattle.voice.specs.declared.Stage.{Stage}
+use Rattle.voice.proofs.FramesLaws.{folds-loop, go-fold, go-end, go-stay}
 use Rattle.voice.proofs.motion.go_on.Statement.{statement}
 use Rattle.voice.proofs.motion.go_on.Tie as tie
 

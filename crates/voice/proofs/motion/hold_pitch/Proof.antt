@@ -4,9 +4,9 @@ use lib.Dec.{lit<}
 use lib.IntN.{pos, negsuc}
 use mir.Facts.{toZ-ofZ}
 use mir.Syntax.{w32}
-use Rattle.arith.specs.Within.{w-back, w-fits}
-use Rattle.arith.specs.Clamp.{clamp-low, clamp-high, clamp-in}
-use Rattle.voice.specs.MoveLaws.{pitch-in}
+use Rattle.arith.proofs.WithinLaws.{w-back, w-fits}
+use Rattle.arith.proofs.HoldsLaws.{clamp-low, clamp-high, clamp-in}
+use Rattle.voice.proofs.MotionLaws.{pitch-in}
 use Rattle.voice.proofs.motion.hold_pitch.Statement.{statement}
 use Rattle.voice.proofs.motion.hold_pitch.Tie as tie
 

@@ -1,9 +1,9 @@
 -- Whether a voice folds: each return by what the tests before it say of `folds`.
-use Rattle.voice.specs.Move.{folds}
 use mathlib.Core.Bool.{not}
 use borrow.Author.Tests.{eq-eqb, ne-eqb, le-ltb, lt-ltb}
 use mathlib.Core.Path.{ap}
 use borrow.Author.Needs.{needs}
+use Rattle.voice.specs.Motion.{folds}
 use Rattle.voice.proofs.motion.is_folding.Statement.{statement}
 use Rattle.voice.proofs.motion.is_folding.Tie as tie
 

@@ -5,7 +5,7 @@ use mir.Facts.{toZ-ofZ}
 use mir.Syntax.{w32}
 use borrow.Author.Needs.{sfits-of, needs}
 use Rattle.curves.specs.Pitch.{bendCents, stepAt}
-use Rattle.voice.specs.MoveLaws.{step-held}
+use Rattle.voice.proofs.MotionLaws.{step-held}
 use Rattle.voice.proofs.motion.step_of.Statement.{statement}
 use Rattle.voice.proofs.motion.step_of.Tie as tie
 

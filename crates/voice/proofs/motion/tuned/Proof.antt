@@ -7,8 +7,8 @@ use mir.Facts.{toZ-ofZ}
 use mir.Syntax.{w32, w64}
 use mir.Val.{SFits}
 use borrow.Author.Needs.{sfits-of, needs}
-use Rattle.arith.specs.Within.{w-of, w-fits}
-use Rattle.arith.specs.Expr.{E, Var, var, add, given, fits, back}
+use Rattle.arith.proofs.WithinLaws.{w-of, w-fits}
+use Rattle.arith.proofs.Expressions.{E, Var, var, add, given, fits, back}
 use Rattle.curves.specs.Pitch.{pitchHeld}
 use Rattle.voice.proofs.motion.tuned.Statement.{statement}
 use Rattle.voice.proofs.motion.tuned.Tie as tie

@@ -1,7 +1,7 @@
 -- A free slot, or its stage.
 use borrow.Author.Tests.{not-true, not-false}
-use Rattle.voice.specs.Panel.{shown}
 use borrow.Author.Needs.{needs}
+use Rattle.voice.specs.Panel.{shown}
 use Rattle.voice.proofs.panel.show.Statement.{statement}
 use Rattle.voice.proofs.panel.show.Tie as tie
 

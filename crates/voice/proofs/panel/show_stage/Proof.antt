@@ -1,12 +1,12 @@
 -- Each stage is shown as its line of the definition says.
 use mathlib.Core.Path.{sym, ap, _∙_}
 use Prim.Native.Nat.{ℕ}
-use Rattle.arith.specs.Over.{levelOf}
-use Rattle.curves.specs.Decibels.{gainOf}
-use Rattle.voice.specs.Panel.{stageShown}
-use Rattle.voice.specs.declared.Shown.the-variants as is
 use borrow.Author.Needs.{needs}
+use Rattle.arith.specs.Floats.{levelOf}
+use Rattle.curves.specs.Levels.{gainOf}
+use Rattle.voice.specs.Panel.{stageShown}
 use Rattle.voice.proofs.panel.show_stage.Statement.{statement}
+use Rattle.voice.specs.declared.Shown.the-variants as is
 use Rattle.voice.proofs.panel.show_stage.Tie as tie
 
 enum-told : tie.Need-enum-told

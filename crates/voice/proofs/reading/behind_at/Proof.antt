@@ -1,7 +1,7 @@
 -- The sample behind sample i: each return by what the tests before it say of `behind`.
-use Rattle.voice.specs.Reading.{behind}
 use borrow.Author.Tests.{eq-eqb, ne-eqb, not-true, not-false}
 use borrow.Author.Needs.{needs}
+use Rattle.voice.specs.Reading.{behind}
 use Rattle.voice.proofs.reading.behind_at.Statement.{statement}
 use Rattle.voice.proofs.reading.behind_at.Tie as tie
 

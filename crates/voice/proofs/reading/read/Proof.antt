@@ -4,10 +4,10 @@ use lib.IntN.{ℤ}
 use mir.Syntax.{w64, w16}
 use mir.Facts.{toZ-ofZ}
 use borrow.Author.Needs.{sfits-of, needs}
-use Rattle.arith.specs.Within.{w-back}
 use Prim.Native.Nat.{ℕ, _%_}
 use mathlib.Core.Path.{ap₂, ap, _∙_}
-use Rattle.voice.specs.Reading.{between, reading, sample}
+use Rattle.arith.proofs.WithinLaws.{w-back}
+use Rattle.voice.specs.Reading.{interpolated, reading, sample}
 use Rattle.voice.proofs.reading.read.Statement.{statement}
 use Rattle.voice.proofs.reading.read.Tie as tie
 
@@ -35,7 +35,7 @@ returns c = let b = c .before in
     let e = rw (x, y) at (c .reading-of .ensures .0) in
     let k = ap (λ (j : ℕ). sample (a .w .now) j) (b .before .before .behind-at .ensures) in (
       rw (w-back w64 (c .reading-of .ensures .1) (lit< tt))
-          (e ∙ ap₂ (λ (p q : ℤ). between p q (a .place % 16777216)) (b .before .sample-at .ensures) (b .sample-at2 .ensures ∙ k)),
+          (e ∙ ap₂ (λ (p q : ℤ). interpolated p q (a .place % 16777216)) (b .before .sample-at .ensures) (b .sample-at2 .ensures ∙ k)),
       rw (w-back w64 (c .reading-of .ensures .1) (lit< tt)) (c .reading-of .ensures .1),
     )
 

@@ -1,10 +1,10 @@
 -- The stage at release, by the stage before it: each return by that case of `letGo`.
-use Rattle.voice.specs.Release.{letGo}
-use Rattle.curves.specs.Decibels.{leastCb}
 use Prim.Native.Nat.{ℕ}
-use Rattle.voice.specs.declared.Stage.the-variants.{Release}
 use mathlib.Core.Path.{sym, ap, _∙_}
 use borrow.Author.Needs.{needs}
+use Rattle.voice.specs.Release.{letGo}
+use Rattle.curves.specs.Levels.{leastCb}
+use Rattle.voice.specs.declared.Stage.the-variants.{Release}
 use Rattle.voice.proofs.release.let_go.Statement.{statement}
 use Rattle.voice.proofs.release.let_go.Tie as tie
 

@@ -5,9 +5,9 @@ use native.Mathlib.Omega.{arith}
 use lib.Dec.{lit<, lit≤}
 use mir.Facts.{toZ-ofZ}
 use mir.Syntax.{w32, w64}
-use Rattle.arith.specs.Within.{w-nat, w-le, w-of, w-fits}
-use Rattle.arith.specs.Expr.{E, Var, var, add, given, fits, back, within}
 use borrow.Author.Needs.{needs}
+use Rattle.arith.proofs.WithinLaws.{w-nat, w-le, w-of, w-fits}
+use Rattle.arith.proofs.Expressions.{E, Var, var, add, given, fits, back, within}
 use Rattle.voice.proofs.sound.added.Statement.{statement}
 use Rattle.voice.proofs.sound.added.Tie as tie
 

@@ -1,10 +1,10 @@
 -- floor(u * level / 2^24) and its bound, by the signed expression.
 use lib.Dec.{lit≤}
 use mir.Syntax.{w64}
-use Rattle.arith.specs.Within.{w-nat, w-le}
-use Rattle.arith.specs.Expr.{E, Var, var, mul, shr, given, fits, back, within}
 use mathlib.Core.List.{List, [], _∷_}
 use borrow.Author.Needs.{needs}
+use Rattle.arith.proofs.WithinLaws.{w-nat, w-le}
+use Rattle.arith.proofs.Expressions.{E, Var, var, mul, shr, given, fits, back, within}
 use Rattle.voice.proofs.sound.at_level.Statement.{statement}
 use Rattle.voice.proofs.sound.at_level.Tie as tie
 

@@ -6,7 +6,7 @@ use lib.IntN.{pos, _+ℤ_}
 use mir.Facts.{toZ-ofZ}
 use mir.Syntax.{w32, w64}
 use borrow.Author.Needs.{sfits-of, needs}
-use Rattle.arith.specs.Within.{w-back}
+use Rattle.arith.proofs.WithinLaws.{w-back}
 use Rattle.voice.proofs.sound.loss_of.Statement.{statement}
 use Rattle.voice.proofs.sound.loss_of.Tie as tie
 

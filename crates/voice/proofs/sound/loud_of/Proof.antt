@@ -1,12 +1,4 @@
 -- What a frame reads, at its gain and level, by the contracts of its parts one after another.
-use Rattle.voice.specs.Frame.{loud}
-use Rattle.voice.specs.Move.{folds}
-use Rattle.voice.specs.Sound.{total, gained, shaped}
-use Rattle.voice.specs.Reading.{reading}
-use Rattle.voice.specs.Stages.{envelope}
-use Rattle.curves.specs.Decibels.{gainOf}
-use Rattle.arith.specs.Floor.{floorZ}
-use Rattle.arith.specs.Within.{w-back}
 use mathlib.Core.Bool.{Bool}
 use Prim.Native.Nat.{ℕ}
 use mir.Syntax.{w64}
@@ -14,6 +6,14 @@ use lib.IntN.{ℤ, pos, _*ℤ_}
 use lib.Dec.{lit<}
 use mathlib.Core.Path.{ap₂, _≡_, ap, _∙_}
 use borrow.Author.Needs.{needs}
+use Rattle.voice.specs.Frames.{loud}
+use Rattle.voice.specs.Motion.{folds}
+use Rattle.voice.specs.Sound.{wholeLoss, gained, shaped}
+use Rattle.voice.specs.Reading.{reading}
+use Rattle.voice.specs.Stages.{envelope}
+use Rattle.curves.specs.Levels.{gainOf}
+use Rattle.arith.specs.Floors.{floorZ}
+use Rattle.arith.proofs.WithinLaws.{w-back}
 use Rattle.voice.proofs.sound.loud_of.Statement.{statement}
 use Rattle.voice.proofs.sound.loud_of.Tie as tie
 
@@ -52,9 +52,9 @@ returns c = let q = c .before in
     let u = w-back w64 (q .scaled-by .ensures .1) (lit< tt) in
     let read : r .read .result ≡ reading (folds v s) (v .loopfrom) (v .loopto) (k .args .w .now) (v .place) =
     r .read .ensures .0 ∙ ap (λ (b : Bool). reading b (v .loopfrom) (v .loopto) (k .args .w .now) (v .place)) (r .before .is-folding .ensures) in
-    let loss : t .total-of .result ≡ total (k .args .l) (envelope v s) =
-    rw (w-back w64 (k .pre .1) (lit< tt)) at (t .total-of .ensures) ∙ ap (total (k .args .l)) (n .envelope-of .ensures .0) in
-    let gain : g .gain .result ≡ gainOf (total (k .args .l) (envelope v s)) = g .gain .ensures .0 ∙ ap gainOf loss in
+    let loss : t .total-of .result ≡ wholeLoss (k .args .l) (envelope v s) =
+    rw (w-back w64 (k .pre .1) (lit< tt)) at (t .total-of .ensures) ∙ ap (wholeLoss (k .args .l)) (n .envelope-of .ensures .0) in
+    let gain : g .gain .result ≡ gainOf (wholeLoss (k .args .l) (envelope v s)) = g .gain .ensures .0 ∙ ap gainOf loss in
     let scaled = rw x at (q .scaled-by .ensures .0) ∙ ap₂ (λ (y : ℤ) (z : ℕ). floorZ (y *ℤ pos z) 65536) read gain in (
       rw (w-back w64 (c .shape .ensures .1) (lit< tt)) (rw u at (c .shape .ensures .0) ∙ ap (shaped v s) scaled),
       rw (w-back w64 (c .shape .ensures .1) (lit< tt)) (c .shape .ensures .1),

@@ -3,9 +3,9 @@ use lib.Dec.{lit<}
 use lib.IntN.{pos, negsuc}
 use mir.Syntax.{w64, w16}
 use mir.Facts.{toZ-ofZ}
-use Rattle.arith.specs.Within.{w-back, w-lit, w-of, w-fits}
-use Rattle.arith.specs.Clamp.{clamp-low, clamp-high, clamp-in, amid}
 use mathlib.Core.Path.{sym}
+use Rattle.arith.proofs.WithinLaws.{w-back, w-lit, w-of, w-fits}
+use Rattle.arith.proofs.HoldsLaws.{clamp-low, clamp-high, clamp-in, amid}
 use Rattle.voice.proofs.sound.pan_of.Statement.{statement}
 use Rattle.voice.proofs.sound.pan_of.Tie as tie
 

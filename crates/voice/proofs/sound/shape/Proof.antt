@@ -1,15 +1,15 @@
 -- The level put in, by the stage: in attack by the contract of `at_level`, else as it is.
-use Rattle.voice.specs.Sound.{shaped}
-use Rattle.voice.specs.declared.Stage.{Stage}
-use Rattle.arith.specs.Floor.{floorZ}
 use Prim.Native.Nat.{ℕ}
 use lib.Dec.{lit<, lit≤}
 use lib.IntN.{ℤ, pos, _*ℤ_}
 use mir.Syntax.{w64}
-use Rattle.arith.specs.Within.{w-le, w-back}
-use Rattle.arith.specs.Expr.{given}
 use mathlib.Core.Path.{sym, ap, ap₂, _∙_}
 use borrow.Author.Needs.{needs}
+use Rattle.voice.specs.Sound.{shaped}
+use Rattle.voice.specs.declared.Stage.{Stage}
+use Rattle.arith.specs.Floors.{floorZ}
+use Rattle.arith.proofs.WithinLaws.{w-le, w-back}
+use Rattle.arith.proofs.Expressions.{given}
 use Rattle.voice.proofs.sound.shape.Statement.{statement}
 use Rattle.voice.proofs.sound.shape.Tie as tie
 

@@ -1,15 +1,16 @@
 -- The right share and its bound: the product by the signed expression, its floor by the contract of `biased_1000`.
-use Rattle.voice.specs.Sound.{rightOf}
-use Rattle.arith.specs.Floor.{floorZ}
-use Rattle.arith.specs.Expr.{E, Var, var, lit, add, mul, given, fits, back, within, val}
 use mathlib.Core.List.{List, [], _∷_}
 use lib.Dec.{lit<, lit≤}
 use lib.IntN.{ℤ, pos, _*ℤ_, _+ℤ_}
 use mir.Syntax.{w64, w32, w16}
 use mir.Facts.{toZ-ofZ}
 use borrow.Author.Needs.{sfits-of, needs}
-use Rattle.arith.specs.Within.{Within, w-le, w-back, w-fits, w-floor-by}
 use mathlib.Core.Path.{_≡_, ap}
+use Rattle.voice.specs.Sound.{rightOf}
+use Rattle.arith.specs.Floors.{floorZ}
+use Rattle.arith.proofs.Expressions.{E, Var, var, lit, add, mul, given, fits, back, within, val}
+use Rattle.arith.specs.Within.{Within}
+use Rattle.arith.proofs.WithinLaws.{w-le, w-back, w-fits, w-floor-by}
 use Rattle.voice.proofs.sound.to_right.Statement.{statement}
 use Rattle.voice.proofs.sound.to_right.Tie as tie
 

@@ -1,13 +1,13 @@
 -- The attenuation, at least 0: the sum by the signed expression, each return by its law of `least0`.
-use Rattle.arith.specs.Expr.{val, E, Var, var, add, given, fits, back, within}
 use native.Mathlib.Nat.{lt-of-le-of-lt, le-of-lt}
-use Rattle.voice.specs.SoundLaws.{least0-below, least0-above, nonNeg-above}
 use lib.Dec.{lit<}
 use mir.Syntax.{w64}
-use Rattle.arith.specs.Within.{w-nat}
 use mathlib.Core.List.{List, [], _∷_}
 use mathlib.Core.Path.{sym}
 use borrow.Author.Needs.{needs}
+use Rattle.arith.proofs.Expressions.{val, E, Var, var, add, given, fits, back, within}
+use Rattle.voice.proofs.SoundLaws.{least0-below, least0-above, nonNeg-above}
+use Rattle.arith.proofs.WithinLaws.{w-nat}
 use Rattle.voice.proofs.sound.total_of.Statement.{statement}
 use Rattle.voice.proofs.sound.total_of.Tie as tie
 

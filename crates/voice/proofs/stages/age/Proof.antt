@@ -1,10 +1,10 @@
 -- One frame more spent, by the stage: each return by that case of `spent`, and the count fits by `Room`.
-use Rattle.voice.specs.StageLaws.{Room}
-use Rattle.voice.specs.Stages.{spent}
-use Rattle.voice.specs.declared.Stage.the-variants.{Delay}
 use native.Mathlib.Omega.{arith}
 use mathlib.Core.Path.{sym, ap, _∙_, subst}
 use borrow.Author.Needs.{needs}
+use Rattle.voice.specs.Internal.Stages.{Room}
+use Rattle.voice.specs.Stages.{spent}
+use Rattle.voice.specs.declared.Stage.the-variants.{Delay}
 use Rattle.voice.proofs.stages.age.Statement.{statement}
 use Rattle.voice.proofs.stages.age.Tie as tie
 

@@ -1,10 +1,10 @@
 -- The decay's cB: each return by what the tests before it say of `decayAt` and of the lesser of two numbers.
-use Rattle.voice.specs.Stages.{decayAt}
 use Prim.Native.Nat.{_≤_, _*_, _/_}
 use native.Mathlib.Nat.{min-eq-left, min-eq-right}
 use native.Mathlib.Omega.{arith}
 use borrow.Author.Tests.{eq-eqb, ne-eqb}
 use borrow.Author.Needs.{needs}
+use Rattle.voice.specs.Stages.{decayAt}
 use Rattle.voice.proofs.stages.decay_at.Statement.{statement}
 use Rattle.voice.proofs.stages.decay_at.Tie as tie
 

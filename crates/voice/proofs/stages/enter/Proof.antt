@@ -1,10 +1,11 @@
 -- Spent stages left, by the stage: each return by that case of `entered`, and its room by `entered-roomy`.
 use native.Mathlib.Omega.{arith}
-use Rattle.voice.specs.declared.Stage.{Stage}
-use Rattle.voice.specs.StageLaws.{Narrow, Roomy, entered-roomy}
-use Rattle.voice.specs.Stages.{entered}
 use mathlib.Core.Path.{_≡_, sym, ap, _∙_}
 use borrow.Author.Needs.{needs}
+use Rattle.voice.specs.declared.Stage.{Stage}
+use Rattle.voice.proofs.StagesLaws.{Narrow, entered-roomy}
+use Rattle.voice.specs.Internal.Stages.{Roomy}
+use Rattle.voice.specs.Stages.{entered}
 use Rattle.voice.proofs.stages.enter.Statement.{statement}
 use Rattle.voice.proofs.stages.enter.Tie as tie
 

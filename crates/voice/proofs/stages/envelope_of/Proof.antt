@@ -1,8 +1,8 @@
 -- The envelope's cB, by the stage: each return by that case of `envelope`.
-use Rattle.voice.specs.Stages.{envelope}
 use native.Mathlib.Omega.{arith}
 use mathlib.Core.Path.{sym, ap, _∙_}
 use borrow.Author.Needs.{needs}
+use Rattle.voice.specs.Stages.{envelope}
 use Rattle.voice.proofs.stages.envelope_of.Statement.{statement}
 use Rattle.voice.proofs.stages.envelope_of.Tie as tie
 

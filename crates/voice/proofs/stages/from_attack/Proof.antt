@@ -1,7 +1,7 @@
 -- Attack or what follows: each return by what the test says of `fromAttack`.
-use Rattle.voice.specs.Stages.{fromAttack}
 use borrow.Author.Tests.{le-leb, lt-leb}
 use borrow.Author.Needs.{needs}
+use Rattle.voice.specs.Stages.{fromAttack}
 use Rattle.voice.proofs.stages.from_attack.Statement.{statement}
 use Rattle.voice.proofs.stages.from_attack.Tie as tie
 

@@ -1,8 +1,8 @@
 -- Decay or what follows: each return by what the test says of `fromDecay`.
-use Rattle.voice.specs.Stages.{fromDecay}
 use mathlib.Core.Path.{sym}
 use borrow.Author.Tests.{le-leb, lt-leb}
 use borrow.Author.Needs.{needs}
+use Rattle.voice.specs.Stages.{fromDecay}
 use Rattle.voice.proofs.stages.from_decay.Statement.{statement}
 use Rattle.voice.proofs.stages.from_decay.Tie as tie
 

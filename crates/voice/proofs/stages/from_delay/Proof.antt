@@ -1,7 +1,7 @@
 -- Delay or what follows: each return by what the test says of `fromDelay`.
-use Rattle.voice.specs.Stages.{fromDelay}
 use borrow.Author.Tests.{eq-eqb, ne-eqb}
 use borrow.Author.Needs.{needs}
+use Rattle.voice.specs.Stages.{fromDelay}
 use Rattle.voice.proofs.stages.from_delay.Statement.{statement}
 use Rattle.voice.proofs.stages.from_delay.Tie as tie
 

@@ -1,7 +1,7 @@
 -- Hold or what follows: each return by what the test says of `fromHold`.
-use Rattle.voice.specs.Stages.{fromHold}
 use borrow.Author.Tests.{le-leb, lt-leb}
 use borrow.Author.Needs.{needs}
+use Rattle.voice.specs.Stages.{fromHold}
 use Rattle.voice.proofs.stages.from_hold.Statement.{statement}
 use Rattle.voice.proofs.stages.from_hold.Tie as tie
 

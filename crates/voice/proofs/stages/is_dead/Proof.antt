@@ -1,8 +1,8 @@
 -- Whether the envelope has died away, by the stage: each return by that case of `dead`.
 use lib.Dec.{leb}
-use Rattle.voice.specs.Stages.{dead}
 use mathlib.Core.Path.{sym, ap, _∙_}
 use borrow.Author.Needs.{needs}
+use Rattle.voice.specs.Stages.{dead}
 use Rattle.voice.proofs.stages.is_dead.Statement.{statement}
 use Rattle.voice.proofs.stages.is_dead.Tie as tie
 

@@ -1,10 +1,10 @@
 -- The attack's level: each return by the lesser of two numbers; with no frames, by a division by 0.
 use Prim.Native.Nat.{min, ℕ, _≤_, _*_, _/_}
-use Rattle.voice.specs.Stages.{levelAt}
 use mathlib.Core.Path.{sym, ap, _∙_}
 use native.Mathlib.Nat.{min-eq-left, min-eq-right, div-zero}
 use native.Mathlib.Omega.{arith}
 use borrow.Author.Needs.{needs}
+use Rattle.voice.specs.Stages.{levelAt}
 use Rattle.voice.proofs.stages.level_at.Statement.{statement}
 use Rattle.voice.proofs.stages.level_at.Tie as tie
 

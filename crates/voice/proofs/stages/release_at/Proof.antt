@@ -1,10 +1,10 @@
 -- The release's cB: each return by what the test says of `releaseAt`, and it fits because a quotient is at most what is divided.
-use Rattle.voice.specs.Stages.{releaseAt}
 use Prim.Native.Nat.{_*_}
 use native.Mathlib.Nat.{div-le-self}
 use native.Mathlib.Omega.{arith}
 use borrow.Author.Tests.{eq-eqb, ne-eqb}
 use borrow.Author.Needs.{needs}
+use Rattle.voice.specs.Stages.{releaseAt}
 use Rattle.voice.proofs.stages.release_at.Statement.{statement}
 use Rattle.voice.proofs.stages.release_at.Tie as tie
 

@@ -9,8 +9,8 @@ use lib.ListN.{getD, set}
 use lib.Seq.{getD-set-other}
 use mir.Syntax.{w32}
 use mir.Val.{SFits, toZ, ofZ}
-use Rattle.voice.specs.Sums.{add-bits, pair-at}
 use borrow.Author.Needs.{needs}
+use Rattle.voice.proofs.SumsLaws.{add-bits, pair-at}
 use Rattle.voice.proofs.stretch.add_pair.Statement.{statement}
 use Rattle.voice.proofs.stretch.add_pair.Tie as tie
 

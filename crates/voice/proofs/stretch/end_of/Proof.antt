@@ -1,8 +1,8 @@
 -- By whether it folds.
 use mathlib.Core.Path.{sym, ap, _∙_}
 use mathlib.Core.Bool.{Bool, cond}
-use Rattle.voice.specs.Move.{span}
 use borrow.Author.Needs.{needs}
+use Rattle.voice.specs.Motion.{span}
 use Rattle.voice.proofs.stretch.end_of.Statement.{statement}
 use Rattle.voice.proofs.stretch.end_of.Tie as tie
 

@@ -12,15 +12,17 @@ use lib.ListN.{length, getD}
 use mir.Facts.{toZ-ofZ}
 use mir.Syntax.{w16, w32, w64}
 use mir.Val.{toZ, ofZ}
-use Rattle.arith.specs.Floor.{floorZ}
-use Rattle.arith.specs.Within.{Within, w-back, w-le}
-use Rattle.voice.specs.MoveLaws.{split}
-use Rattle.voice.specs.Reading.{sample, between}
-use Rattle.voice.specs.Sound.{leftOf, rightOf}
-use Rattle.voice.specs.Stretch.{plain, plains}
-use Rattle.voice.specs.StretchLaws.{plains-turn, plains-length}
-use Rattle.voice.specs.Sums.{addAt, Small, loudest, small-none, small-two, add-after, add-beyond, addAt-length, addAt-none}
 use borrow.Author.Needs.{needs}
+use Rattle.arith.specs.Floors.{floorZ}
+use Rattle.arith.specs.Within.{Within}
+use Rattle.arith.proofs.WithinLaws.{w-back, w-le}
+use Rattle.voice.proofs.MotionLaws.{split}
+use Rattle.voice.specs.Reading.{sample, interpolated}
+use Rattle.voice.specs.Sound.{leftOf, rightOf}
+use Rattle.voice.specs.Internal.Stretch.{plain, plains}
+use Rattle.voice.proofs.StretchLaws.{plains-turn, plains-length}
+use Rattle.voice.specs.Internal.Sums.{addAt, Small, loudest}
+use Rattle.voice.proofs.SumsLaws.{small-none, small-two, add-after, add-beyond, addAt-length, addAt-none}
 use Rattle.voice.proofs.stretch.glide.Statement.{statement}
 use Rattle.voice.proofs.stretch.glide.Tie as tie
 
@@ -104,7 +106,7 @@ module _ (c : tie.After-to-right Inv-loop μ-loop) where
       let w = lp .before .args .w .now in
       rw (w-back w64 (s .before .read-on .ensures .1) (lit< tt)) at (s .scaled-by .ensures .0)
       ∙ ap (λ (z : ℤ). floorZ (z *ℤ pos g) 65536) (s .before .read-on .ensures .0)
-      ∙ ap (λ (p : ℕ). floorZ (between (sample w (p / 16777216)) (sample w (p / 16777216 + 1)) (p % 16777216) *ℤ pos g) 65536) (lp .loop .inv .1)
+      ∙ ap (λ (p : ℕ). floorZ (interpolated (sample w (p / 16777216)) (sample w (p / 16777216 + 1)) (p % 16777216) *ℤ pos g) 65536) (lp .loop .inv .1)
 
   turn : plains (lp .before .args .gain) pan (lp .before .args .w .now) (lp .before .args .st) (lp .before .args .from) (lp .loop .m + 1) ≡ xs ++ (lefts ∷ rights ∷ [])
   turn =

@@ -3,7 +3,7 @@ use lib.Dec.{lit<}
 use mir.Facts.{toZ-ofZ}
 use mir.Syntax.{w16, w64}
 use borrow.Author.Needs.{sfits-of, needs}
-use Rattle.arith.specs.Within.{w-back}
+use Rattle.arith.proofs.WithinLaws.{w-back}
 use Rattle.voice.proofs.stretch.read_on.Statement.{statement}
 use Rattle.voice.proofs.stretch.read_on.Tie as tie
 

@@ -1,0 +1,90 @@
+-- `floorZ x d` by an offset, where `/` rounds toward zero; and that it is the floor.
+use mathlib.Core.Path.{_≡_, ap, _∙_, sym, subst, refl}
+use mathlib.Core.Bool.{Bool, cond}
+use Prim.Native.Nat.{ℕ, suc, _-_, _≤_, _<_, _+_, _*_, _/_, _%_, zero}
+use lib.IntN.{pos, negsuc, subℕ, ℤ, _+ℤ_, natAbs, _-ℤ_, +ℤ-negℤ-cancel, negℤ, _*ℤ_}
+use borrow.Author.Tests.{le-ltb, lt-ltb}
+use lib.Signed.{nonNeg, _≤ℤ_, ltZ, _<ℤ_}
+use lib.Dec.{T, le→leb, lt→ltb}
+use native.Mathlib.Nat.{div-lt-iff-lt-mul, div-add-mod', mod-lt, suc-mul, add-mul, add-mul-div-right, div-mul-le-self, zero-mul, mul-pos}
+use native.Mathlib.Omega.{arith}
+use lib.Arith.{digits-div}
+use Rattle.arith.specs.Within.{Within}
+use Rattle.arith.specs.Floors.{floorZ}
+
+-- a - b as a natural number, and as the number below 0
+pub sub-pos : (a b : ℕ) → b ≤ a → subℕ a b ≡ pos (a - b)
+sub-pos a b h = ap (λ (t : Bool). cond t (negsuc (b - suc a)) (pos (a - b))) (le-ltb a b h)
+
+pub sub-neg : (a b : ℕ) → a < b → subℕ a b ≡ negsuc (b - suc a)
+sub-neg a b h = ap (λ (t : Bool). cond t (negsuc (b - suc a)) (pos (a - b))) (lt-ltb a b h)
+
+-- K * d more, which is not below 0, divided, and K less
+pub bias-nonneg : (x : ℤ) (n : ℕ) → Within x n → T (nonNeg (x +ℤ pos n))
+bias-nonneg (pos a) n h = tt
+bias-nonneg (negsuc a) n h = rw (sub-pos n (suc a) (h .within)) tt
+
+-- (K * d - (a + 1)) / d is K - 1 - a / d
+below : (a K d : ℕ) → 0 < d → suc a ≤ K * d → (K * d - suc a) / d ≡ K - suc (a / d)
+below a K d p h =
+    let q = a / d in
+    let r = a % d in
+    let J = K - suc q in
+    let small : q < K = div-lt-iff-lt-mul p .1 h in
+    let whole : K * d ≡ J * d + q * d + d = ap (λ (k : ℕ). k * d) (split K q small) ∙ suc-mul (J + q) d ∙ ap (λ (k : ℕ). k + d) (add-mul J q d) in
+    let r-lt : r < d = mod-lt a p in
+    ap (λ (n : ℕ). n / d) (parts (K * d) (J * d) (q * d) d a r whole (div-add-mod' a d) r-lt) ∙ digits-div J (omega arith)
+  where
+    split : (K q : ℕ) → q < K → K ≡ suc (K - suc q + q)
+    split K q h = omega arith
+
+    parts : (kd jd qd d a r : ℕ) → kd ≡ jd + qd + d → qd + r ≡ a → r < d → kd - suc a ≡ jd + (d - suc r)
+    parts kd jd qd d a r e f h = omega arith
+
+pub floor-bias : (x : ℤ) (K d : ℕ) → 0 < d → Within x (K * d) → pos (natAbs (x +ℤ pos (K * d)) / d) -ℤ pos K ≡ floorZ x d
+floor-bias (pos a) K d p h = ap (λ (n : ℕ). pos n -ℤ pos K) (add-mul-div-right a K p) ∙ less (a / d) K
+  where
+    less : (q K : ℕ) → pos (q + K) -ℤ pos K ≡ pos q
+    less q K = +ℤ-negℤ-cancel (pos q) (pos K)
+floor-bias (negsuc a) K d p h =
+    ap (λ (z : ℤ). pos (natAbs z / d) -ℤ pos K) (sub-pos (K * d) (suc a) (h .within))
+    ∙ ap (λ (n : ℕ). pos n -ℤ pos K) (below a K d p (h .within))
+    ∙ less K (a / d) (div-lt-iff-lt-mul p .1 (h .within))
+  where
+    less : (K q : ℕ) → q < K → pos (K - suc q) -ℤ pos K ≡ negsuc q
+    less zero q l = absurd (no q l)
+      where
+        no : (q : ℕ) → q < 0 → ⊥
+        no q l = omega arith
+    less (suc K) q l = sub-neg (suc K - suc q) (suc K) (omega arith) ∙ ap negsuc (omega arith)
+
+-- ---- `floorZ` is the floor: q = floorZ z d is the number with q * d <= z < (q + 1) * d
+neg-suc : (n : ℕ) → 0 < n → negℤ (pos n) ≡ negsuc (n - 1)
+neg-suc zero h = absurd (no h)
+  where
+    no : 0 < 0 → ⊥
+    no h = omega arith
+neg-suc (suc n) h = ap negsuc (omega arith)
+
+pub floor-low : (z : ℤ) (d : ℕ) → 0 < d → (floorZ z d *ℤ pos d) ≤ℤ z
+floor-low (pos a) d p = record { le = le→leb (a / d * d) a (div-mul-le-self a d) }
+floor-low (negsuc a) d p =
+    let x = suc (a / d) * d in
+    let big : a < x = div-lt-iff-lt-mul p .0 (omega arith) in
+    subst (λ (y : ℤ). y ≤ℤ (negsuc a)) (sym (neg-suc x (omega arith))) (record { le = le→leb a (x - 1) (omega arith) })
+
+pub floor-high : (z : ℤ) (d : ℕ) → 0 < d → z <ℤ ((floorZ z d +ℤ pos 1) *ℤ pos d)
+floor-high (pos a) d p = record { lt = lt→ltb a ((a / d + 1) * d) (div-lt-iff-lt-mul p .0 (omega arith)) }
+floor-high (negsuc a) d p =
+    let e : negsuc (a / d) +ℤ pos 1 ≡ negℤ (pos (a / d)) = up (a / d) in
+    subst (λ (y : ℤ). (negsuc a) <ℤ (y *ℤ pos d)) (sym e) (go (a / d) (div-mul-le-self a d))
+  where
+    up : (q : ℕ) → negsuc q +ℤ pos 1 ≡ negℤ (pos q)
+    up zero = refl
+    up (suc q) = sub-neg 1 (suc (suc q)) (omega arith) ∙ ap negsuc (omega arith)
+
+    go : (q : ℕ) → q * d ≤ a → (negsuc a) <ℤ (negℤ (pos q) *ℤ pos d)
+    go zero h = record { lt = subst (λ (n : ℕ). T (ltZ (negsuc a) (pos n))) (sym (zero-mul d)) tt }
+    go (suc q) h =
+        let pos-x : 0 < suc q * d = mul-pos {m = suc q} {n = d} (omega arith) p in
+        subst (λ (y : ℤ). (negsuc a) <ℤ y) (sym (neg-suc (suc q * d) pos-x)) (record { lt = lt→ltb (suc q * d - 1) a (omega arith) })

@@ -1,8 +1,0 @@
--- 01, "A voice, frame by frame": the reading between two samples.
-use Prim.Native.Nat.{ℕ}
-use lib.IntN.{ℤ, pos, _+ℤ_, _-ℤ_, _*ℤ_}
-use Rattle.arith.specs.Floor.{floorZ}
-
--- x0 + floor((x1 - x0) * fraction / 2^24)
-abbrev pub readingOf : ℤ → ℤ → ℕ → ℤ
-readingOf x0 x1 f = x0 +ℤ floorZ ((x1 -ℤ x0) *ℤ pos f) 16777216

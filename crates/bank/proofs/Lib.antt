@@ -1,0 +1,5 @@
+pub mod AdmissionLaws
+pub mod AdmittedLaws
+pub mod IndexesLaws
+pub mod OnePassLaws
+pub mod RulesLaws

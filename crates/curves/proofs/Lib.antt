@@ -1,0 +1,10 @@
+pub mod Examples
+pub mod GainTableLaws
+pub mod LevelsLaws
+pub mod OctaveLaws
+pub mod OctaveTableLaws
+pub mod PitchLaws
+pub mod Powers
+pub mod Tables
+pub mod TimesLaws
+pub mod VelocityTableLaws

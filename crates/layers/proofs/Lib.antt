@@ -1,0 +1,5 @@
+pub mod AdmittedVoices
+pub mod BarrenLaws
+pub mod LayerSearchLaws
+pub mod StruckLaws
+pub mod VoicingLaws

@@ -1,0 +1,84 @@
+-- Contracts that are equations determine what they speak of.
+use mathlib.Core.Path.{_≡_, sym, _∙_, ap₂}
+use mathlib.Core.List.{List}
+use lib.Ieee.{Float}
+use Prim.Native.Nat.{ℕ}
+use mathlib.Core.Bool.{Bool}
+use Rattle.promises.specs.Determined.{Settles, Outcome}
+use Rattle.engine.specs.declared.Answered.{Answered}
+use Rattle.voice.specs.declared.Shown.{Shown}
+use Rattle.engine.specs.declared.Engine.{Engine}
+use Rattle.bank.specs.Admission.{faultOf, faultNumber, admitted}
+use Rattle.bank.specs.declared.Listed.{Listed}
+use Rattle.bank.specs.Listing.{listed}
+use Rattle.bank.specs.declared.Fault.{Fault}
+use Rattle.reader.specs.declared.Opened.{Opened}
+use Rattle.reader.specs.Reader.{openedOf, nextOf, nthListed}
+use Rattle.reader.specs.declared.Taken.{Taken}
+use Rattle.reader.specs.declared.Step.{Step}
+use Rattle.promises.specs.Determined as D
+use Rattle.engine.specs.Board as EngineBoard
+use Rattle.engine.specs.Fresh as EngineFresh
+
+-- an equation settles its answer
+equation : (A : Type 0) (x : A) → Settles A (λ r. r ≡ x)
+equation A x a b h k = h ∙ sym k
+
+-- ---- engine
+abbrev outcome : Answered → List Float → Outcome
+outcome a l = record { answer = a; output = l }
+
+pub calls-determined : D.CallsDetermined
+calls-determined x e o p h k = ap₂ outcome (h .answer ∙ sym (k .answer)) (h .output ∙ sym (k .output))
+
+pub panel-determined : D.PanelDetermined
+panel-determined slot e = equation Shown (EngineBoard.ask slot e)
+
+pub voice-count-determined : D.VoiceCountDetermined
+voice-count-determined e = equation ℕ (EngineBoard.voiceCount e)
+
+pub fresh-determined : D.FreshDetermined
+fresh-determined = equation Engine EngineFresh.fresh
+
+pub admit-determined : D.AdmitDetermined
+admit-determined bank = equation ℕ (faultNumber (faultOf bank))
+
+pub list-determined : D.ListDetermined
+list-determined bank place = equation Listed (listed bank place)
+
+-- ---- bank
+pub admission-determined : D.AdmissionDetermined
+admission-determined bank = equation Fault (faultOf bank)
+
+pub number-of-determined : D.NumberOfDetermined
+number-of-determined f = equation ℕ (faultNumber f)
+
+pub admitted-determined : D.AdmittedDetermined
+admitted-determined bank = equation Bool (admitted bank)
+
+-- ---- reader
+pub open-determined : D.OpenDetermined
+open-determined bank = equation Opened (openedOf bank)
+
+pub next-determined : D.NextDetermined
+next-determined r = equation Taken (nextOf r)
+
+pub nth-determined : D.NthDetermined
+nth-determined bank k = equation Listed (nthListed bank k)
+
+abbrev step : Listed → ℕ → Step
+step l p = record { listed = l; place = p }
+
+pub step-from-determined : D.StepFromDetermined
+step-from-determined bank at a b h k = ap₂ step (h .listed ∙ sym (k .listed)) (h .place ∙ sym (k .place))
+
+-- ---- records
+pub window-determined : D.WindowDetermined
+window-determined ram rom in-rom start end a b h k = h ∙ sym k
+
+-- ---- any public function
+pub equation-settles : D.EquationSettles
+equation-settles A x also a b h k = equation A x a b (h .0) (k .0)
+
+pub equations-settle : D.EquationsSettle
+equations-settle A B x y also o p h k = ap₂ (λ (a : A) (b : B). (a, b)) (equation A x _ _ (h .0) (k .0)) (equation B y _ _ (h .1) (k .1))

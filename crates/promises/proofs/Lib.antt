@@ -1,0 +1,17 @@
+pub mod Age
+pub mod Banks
+pub mod Cuts
+pub mod Demand1
+pub mod Demand2
+pub mod Demand3
+pub mod Demand3Example
+pub mod Determined
+pub mod EachSlot
+pub mod Frames
+pub mod Kept
+pub mod Night
+pub mod Output
+pub mod Panel
+pub mod Runs
+pub mod Seats
+pub mod Voices

@@ -1,0 +1,419 @@
+-- Demand 2: the pedal, and the October night.
+use Prim.Native.Nat.{ℕ, _≤_, _<_, zero, suc}
+use mathlib.Core.Path.{_≡_, refl, ap, _∙_, sym, subst}
+use mathlib.Core.Bool.{false, _&&_, and-false, Bool, true, cond, _||_, not}
+use lib.Dec.{eqb, leb, ltb}
+use mathlib.Core.List.{map, List, [], _∷_}
+use native.Mathlib.Omega.{arith}
+use borrow.Author.Tests.{le-ltb, lt-ltb, ltb-false, eqb-true, ltb-true, le-leb, not-true, eq-eqb}
+use lib.ListN.{getD, set, length}
+use lib.Seq.{getD-set-other}
+use lib.IntN.{ℤ}
+use mathlib.Core.Logic.{_⊎_, ⊎-elim, inl, inr}
+use Rattle.voice.specs.declared.Voice.{Voice}
+use Rattle.voice.specs.Records.{free, blank, sounds}
+use Rattle.engine.specs.NoteOff.{ofChannel, withVoice, letOff, noteOff, pedalDown, off, offKey, held, heldKey, mark}
+use Rattle.engine.specs.Controls.{pedalHeld, withPedal, pedal, controlled, controlChange, withStored, withVolume, withExpression, silence}
+use Rattle.voice.specs.declared.Slot.{Slot}
+use Rattle.voice.specs.Release.{release}
+use Rattle.engine.specs.declared.Engine.{Engine}
+use Rattle.engine.specs.Slots.{slotsOf, withSlots, slotAt, withClock}
+use Rattle.engine.specs.Channels.{channelAt, withChannel, noChannel}
+use Rattle.engine.proofs.SlotsLaws.{slot-map}
+use Rattle.engine.proofs.NoteOffLaws.{off-keeps}
+use Rattle.promises.proofs.EachSlot.{letOff-picked, either, and-both, never, What, stands, pedalled, loosed, freed, started, goes, what, held-channel, Among}
+use Rattle.promises.specs.Demand2.{LiftingReleases, VelocityZeroIsNoteOff, NoMarkWithoutPedal, strikes, leaves, struckAfter, Into, ends, left, right, Piece, Overlap, quiet, more, OctoberNight}
+use Rattle.engine.specs.NoteOn.{noteOn, Started, start, startAll, cleared, struck, layerVoices, noteOnNumber}
+use Rattle.voice.specs.declared.Channel.{Channel}
+use Rattle.engine.specs.Answers.{pastTwo, done, refused, answer, pastOne, pastBend}
+use Rattle.engine.proofs.AnswersLaws.{or-no}
+use Rattle.promises.specs.Calls.{Call, next, voiceIn, framesOf, channelOf, run, begun}
+use Rattle.engine.specs.declared.Answered.{Answered}
+use Rattle.engine.specs.Program.{withProgram, programChange}
+use Rattle.engine.specs.Bend.{withBend, pitchBend}
+use Rattle.engine.specs.Seats.{startIn}
+use Rattle.engine.specs.Render.{distance, played, renderNumber, render, window, slotAfter}
+use Rattle.engine.specs.LentBank.{bankFrom}
+use Rattle.voice.specs.Stages.{released}
+use Rattle.voice.specs.Frames.{after}
+use Rattle.promises.proofs.Frames.{after-keeps, after-sounded, late-none, late-after}
+use Rattle.promises.proofs.Banks.{came}
+use Rattle.engine.specs.Fresh.{fresh}
+use Rattle.promises.proofs.Voices.{fresh-free, from-fresh}
+use Rattle.promises.proofs.Demand2.{reaches, gone, free-held}
+use Rattle.promises.specs.Calls as Calls
+
+-- ---- lifting the pedal
+
+free-pedal : (channel : ℕ) (v : Voice) → pedalHeld channel (free v) ≡ false
+unfolding pedalHeld ofChannel
+free-pedal channel v = refl
+
+-- what is released is marked no more
+unmarked : (channel : ℕ) (s : Slot) → pedalHeld channel (withVoice s (release (s .voice))) ≡ false
+unfolding pedalHeld ofChannel release
+unmarked channel s = and-false (s .sounding && eqb (s .voice .channel) channel)
+
+lift-is : (channel value : ℕ) (e : Engine) → channel ≤ 15 → value < 64 → controlChange channel 64 value e .engine
+    ≡ withSlots (withChannel e channel (withPedal (channelAt e channel) value)) (map (letOff false (pedalHeld channel)) (slotsOf e))
+unfolding controlChange controlled pedal
+lift-is channel value e h k =
+    let low : value ≤ 127 = omega arith in
+    simp (le-ltb 15 channel h, le-ltb 127 value low, lt-ltb value 64 k)
+
+-- slot by slot
+pub lifts : LiftingReleases
+lifts channel value e h k =
+    record {
+      all = λ i t. ap (λ (s : Slot). s .voice) (at i ∙ letOff-picked false (pedalHeld channel) (slotAt e i) t);
+      none = λ i. ap (pedalHeld channel) (at i) ∙ no (slotAt e i) (pedalHeld channel (slotAt e i)) refl;
+      others = λ i t. at i ∙ off-keeps false (pedalHeld channel) (slotAt e i) t;
+    }
+  where
+    at : (i : ℕ) → slotAt (controlChange channel 64 value e .engine) i ≡ letOff false (pedalHeld channel) (slotAt e i)
+    at i =
+        ap (λ (x : Engine). slotAt x i) (lift-is channel value e h k)
+        ∙ slot-map e (withChannel e channel (withPedal (channelAt e channel) value)) (letOff false (pedalHeld channel)) i
+        (off-keeps false (pedalHeld channel) (free blank) (free-pedal channel blank))
+
+    no : (s : Slot) (b : Bool) → pedalHeld channel s ≡ b → pedalHeld channel (letOff false (pedalHeld channel) s) ≡ false
+    no s true t = ap (pedalHeld channel) (letOff-picked false (pedalHeld channel) s t) ∙ unmarked channel s
+    no s false t = ap (pedalHeld channel) (off-keeps false (pedalHeld channel) s t) ∙ t
+
+-- velocity 0 is tested before the bank is looked at
+pub zero-off : VelocityZeroIsNoteOff
+unfolding noteOn noteOff
+zero-off b ram rom channel key e h k = simp (le-ltb 15 channel h, le-ltb 127 key k)
+
+-- ---- what calls do to a channel's pedal
+
+-- a channel set to one with the same pedal
+set-pedal : (cs : List Channel) (c d : ℕ) (x : Channel) → x .pedal ≡ getD cs c noChannel .pedal → getD (set cs c x) d noChannel .pedal ≡ getD cs d noChannel .pedal
+set-pedal [] c d x h = refl
+set-pedal (y ∷ cs) zero zero x h = h
+set-pedal (y ∷ cs) zero (suc d) x h = refl
+set-pedal (y ∷ cs) (suc c) zero x h = refl
+set-pedal (y ∷ cs) (suc c) (suc d) x h = set-pedal cs c d x h
+
+-- or to one whose pedal is down
+set-down : (cs : List Channel) (c d : ℕ) (x : Channel) → leb 64 (x .pedal) ≡ true → leb 64 (getD cs d noChannel .pedal) ≡ true → leb 64 (getD (set cs c x) d noChannel .pedal) ≡ true
+set-down [] c d x h k = k
+set-down (y ∷ cs) zero zero x h k = h
+set-down (y ∷ cs) zero (suc d) x h k = k
+set-down (y ∷ cs) (suc c) zero x h k = k
+set-down (y ∷ cs) (suc c) (suc d) x h k = set-down cs c d x h k
+
+-- one of two, knowing the test
+when : {A : Type 0} (P : A → Type 0) (b : Bool) (x y : A) → (b ≡ true → P x) → P y → P (cond b x y)
+when P true x y h k = h refl
+when P false x y h k = k
+
+in-fifteen : (c n v : ℕ) → pastTwo c n v ≡ false → c ≤ 15
+in-fifteen c n v q = ltb-false 15 c (or-no (ltb 15 c) (ltb 127 n) (or-no (ltb 15 c || ltb 127 n) (ltb 127 v) q .0) .0)
+
+-- a call lifts the pedal of channel d
+pub record Lift (x : Call) (d : ℕ) : Type 0 where
+  pub value : ℕ
+  pub is : x ≡ Calls.control d 64 value
+  pub range : d ≤ 15
+  pub low : value < 64
+
+module _ (d : ℕ) (e : Engine) (down : pedalDown e d ≡ true) where
+  -- the pedal is still down
+  abbrev Down : Engine → Type 0
+  Down y = pedalDown y d ≡ true
+
+  told : (n : ℕ) (a : Answered) → Down (a .engine) → Down (answer n e a .engine)
+  told n a k = either (λ (x : Answered). Down (x .engine)) (eqb n 0) a (refused n e) k down
+
+  -- starting voices sets no channel
+  layers : (vs : List Voice) (x : Started) → Down (x .engine) → Down (startAll vs x .engine)
+  unfolding startAll start startIn
+  layers [] x h = h
+  layers (v ∷ vs) x h = layers vs (start v x) h
+
+  off-down : (c k : ℕ) → Down (offKey c k e .engine)
+  unfolding offKey off
+  off-down c k = down
+
+  same : (c : ℕ) (x : Channel) → x .pedal ≡ channelAt e c .pedal → Down (withChannel e c x)
+  same c x h = ap (leb 64) (set-pedal (e .channels) c d x h) ∙ down
+
+  pedal-down : (c v : ℕ) → (c ≡ d → v < 64 → ⊥) → Down (pedal c v e)
+  unfolding pedal
+  pedal-down c v h = by (ltb v 64) refl
+    where
+      x : Channel
+      x = withPedal (channelAt e c) v
+
+      by : (b : Bool) → ltb v 64 ≡ b → Down (cond b (withSlots (withChannel e c x) (map (letOff false (pedalHeld c)) (slotsOf e))) (withChannel e c x))
+      by true q = ap (λ (y : Channel). leb 64 (y .pedal)) (getD-set-other (e .channels) c d x noChannel (λ p. h (sym p) (ltb-true v 64 q))) ∙ down
+      by false q = set-down (e .channels) c d x (le-leb 64 v (ltb-false v 64 q)) down
+
+  controls-down : (c n v : ℕ) → (c ≡ d → n ≡ 64 → v < 64 → ⊥) → Down (controlled c n v e)
+  unfolding controlled silence off
+  controls-down c n v h =
+      either Down (eqb n 0) _ _ (same c (withStored (channelAt e c) v) refl)
+      (either Down (eqb n 7) _ _ (same c (withVolume (channelAt e c) v) refl)
+      (either Down (eqb n 11) _ _ (same c (withExpression (channelAt e c) v) refl)
+      (when Down (eqb n 64) _ _ (λ q. pedal-down c v (λ p l. h p (eqb-true n 64 q) l))
+      (either Down (eqb n 120) _ _ down
+      (either Down (eqb n 123) _ _ down down)))))
+
+  -- a pedal that is down stays down, unless the call lifts it
+  stays-down : (x : Call) → (Lift x d → ⊥) → Down (next x e)
+  unfolding noteOn noteOff controlChange programChange pitchBend render struck cleared played
+  stays-down (Calls.noteOn b ram rom c k v) h =
+      let vs = layerVoices (bankFrom b) c k v e in
+      told (cond (pastTwo c k v) 2 0) _
+      (either (λ (x : Answered). Down (x .engine)) (eqb v 0) _ _ (off-down c k)
+      (told (noteOnNumber (bankFrom b) ram rom c k v e) (done (length vs) (struck c vs e .engine)) (layers vs (record { engine = cleared c vs e; mine = 0 }) down)))
+  stays-down (Calls.noteOff c k) h = told (cond (pastOne c k) 2 0) (offKey c k e) (off-down c k)
+  stays-down (Calls.control c n v) h = by (pastTwo c n v) refl
+    where
+      by : (t : Bool) → pastTwo c n v ≡ t → Down (answer (cond t 2 0) e (done 0 (controlled c n v e)) .engine)
+      by true q = down
+      by false q =
+          controls-down c n v (λ p m l. h (record { value = v; is = ap (λ (y : ℕ). Calls.control y n v) p ∙ ap (λ (y : ℕ). Calls.control d y v) m; range = subst (λ (y : ℕ). y ≤ 15) p (in-fifteen c n v q); low = l }))
+  stays-down (Calls.program c p) h =
+      let x = withProgram (channelAt e c) p in
+      told (cond (pastOne c p) 2 0) (done 0 (withChannel e c x)) (same c x refl)
+  stays-down (Calls.bend c b) h =
+      let x = withBend (channelAt e c) b in
+      told (cond (pastBend c b) 2 0) (done 0 (withChannel e c x)) (same c x refl)
+  stays-down (Calls.render to ram rom out) h =
+      told (renderNumber to ram rom (length out) e) (done 0 (withClock (played ram rom (distance e to) e) to)) down
+  stays-down (Calls.ask i) h = down
+
+-- ---- held voices, by their parts
+
+-- what it is to be held by a key, test by test
+pub record Holds (c k : ℕ) (s : Slot) : Type 0 where
+  pub sounding : s .sounding ≡ true
+  pub channel : s .voice .channel ≡ c
+  pub unreleased : released (s .voice .stage) ≡ false
+  pub unmarked : s .voice .marked ≡ false
+  pub key : s .voice .key ≡ k
+
+-- .. of the one test
+pub holds : (c k : ℕ) (s : Slot) → heldKey c k s ≡ true → Holds c k s
+unfolding heldKey held ofChannel
+holds c k s h =
+    let a = and-both (s .sounding && eqb (s .voice .channel) c && not (released (s .voice .stage)) && not (s .voice .marked)) (eqb (s .voice .key) k) h in
+    let b = and-both (s .sounding && eqb (s .voice .channel) c && not (released (s .voice .stage))) (not (s .voice .marked)) (a .0) in
+    let d = and-both (s .sounding && eqb (s .voice .channel) c) (not (released (s .voice .stage))) (b .0) in
+    let f = and-both (s .sounding) (eqb (s .voice .channel) c) (d .0) in
+    record {
+      sounding = f .0;
+      channel = eqb-true (s .voice .channel) c (f .1);
+      unreleased = not-true (released (s .voice .stage)) (d .1);
+      unmarked = not-true (s .voice .marked) (b .1);
+      key = eqb-true (s .voice .key) k (a .1);
+    }
+
+-- .. and back
+pub hold-back : (c k : ℕ) (s : Slot) → Holds c k s → heldKey c k s ≡ true
+unfolding heldKey held ofChannel
+hold-back c k s h =
+    rw (h .sounding, eq-eqb (s .voice .channel) c (h .channel), h .unreleased, h .unmarked, eq-eqb (s .voice .key) k (h .key)) refl
+
+of-channel : (c : ℕ) (s : Slot) → ofChannel c s ≡ true → s .voice .channel ≡ c
+unfolding ofChannel
+of-channel c s h = eqb-true (s .voice .channel) c (and-both (s .sounding) (eqb (s .voice .channel) c) h .1)
+
+-- a slot held after n frames was held before them
+held-before : (ch : Channel) (w : List ℤ) (n c k : ℕ) (s : Slot) → heldKey c k (after ch w n s) ≡ true → heldKey c k s ≡ true
+held-before ch w n c k s h =
+    let t = holds c k (after ch w n s) h in
+    hold-back c k s (record {
+      sounding = after-sounded ch w n s (t .sounding);
+      channel = sym (after-keeps ch w (λ (v : Voice). v .channel ≡ s .voice .channel) (λ v g p q. q) n s refl) ∙ t .channel;
+      unreleased = by (released (s .voice .stage)) refl (t .sounding) (t .unreleased);
+      unmarked = sym (after-keeps ch w (λ (v : Voice). v .marked ≡ s .voice .marked) (λ v g p q. q) n s refl) ∙ t .unmarked;
+      key = sym (after-keeps ch w (λ (v : Voice). v .key ≡ s .voice .key) (λ v g p q. q) n s refl) ∙ t .key;
+    })
+  where
+    by : (b : Bool) → released (s .voice .stage) ≡ b → after ch w n s .sounding ≡ true → released (after ch w n s .voice .stage) ≡ false → b ≡ false
+    by false q on u = refl
+    by true q on u = let l = late-after ch w 0 n s (late-none (s .voice) q) on in absurd (never (sym u ∙ ap released (l .stage)))
+
+-- ---- no voice is marked while its pedal is up
+
+-- so it is in a state
+abbrev Honest : Engine → Type 0
+Honest e = (i : ℕ) → slotAt e i .sounding ≡ true → voiceIn i e .marked ≡ true → pedalDown e (voiceIn i e .channel) ≡ true
+
+-- the pedal was down for a voice that is marked after a call
+was-down : (x : Call) (e : Engine) → Honest e → (i : ℕ) → slotAt (next x e) i .sounding ≡ true → voiceIn i (next x e) .marked ≡ true
+    → pedalDown e (voiceIn i (next x e) .channel) ≡ true
+unfolding release
+was-down x e h i on m = by (what x e i)
+  where
+    s : Slot
+    s = slotAt e i
+
+    at : (t : Slot) → slotAt (next x e) i ≡ t → (t .sounding ≡ true → t .voice .marked ≡ true → pedalDown e (t .voice .channel) ≡ true)
+        → pedalDown e (voiceIn i (next x e) .channel) ≡ true
+    at t a k =
+        subst (λ (y : Slot). pedalDown e (y .voice .channel) ≡ true) (sym a)
+        (k (sym (ap (λ (y : Slot). y .sounding) a) ∙ on) (sym (ap (λ (y : Slot). y .voice .marked) a) ∙ m))
+
+    by : What x e i → pedalDown e (voiceIn i (next x e) .channel) ≡ true
+    by (stands a n) = at s a (h i)
+    by (pedalled a n l d) =
+        at (withVoice s (mark (s .voice))) a
+        (λ o p. subst (λ (c : ℕ). pedalDown e c ≡ true) (sym (of-channel (channelOf x) s (held-channel (channelOf x) s l))) d)
+    by (loosed a n c) = at (withVoice s (release (s .voice))) a (λ o p. absurd (never p))
+    by (freed a n c) = at (free (s .voice)) a (λ o p. absurd (never o))
+    by (started u a n f t) = at (sounds u) a (λ o p. absurd (never (sym (came x e u f .unmarked) ∙ p)))
+    by (goes ram rom a) =
+        let ch = channelAt e (s .voice .channel) in
+        let w = window ram rom (s .voice) in
+        let n = framesOf x e in
+        at (slotAfter ram rom e n s) a
+        (λ o p. subst (λ (c : ℕ). pedalDown e c ≡ true) (sym (after-keeps ch w (λ (v : Voice). v .channel ≡ s .voice .channel) (λ v g q r. r) n s refl))
+        (h i (after-sounded ch w n s o) (sym (after-keeps ch w (λ (v : Voice). v .marked ≡ s .voice .marked) (λ v g q r. r) n s refl) ∙ p)))
+
+marked-is : (c : ℕ) (s : Slot) → s .sounding ≡ true → s .voice .channel ≡ c → s .voice .marked ≡ true → pedalHeld c s ≡ true
+unfolding pedalHeld ofChannel
+marked-is c s a b d = rw (a, eq-eqb (s .voice .channel) c b, d) refl
+
+honest-call : (x : Call) (e : Engine) → Honest e → Honest (next x e)
+honest-call x e h i on m =
+    let c = voiceIn i (next x e) .channel in
+    stays-down c e (was-down x e h i on m) x
+    (λ l. never (sym (ap (λ (y : Call). pedalHeld c (slotAt (next y e) i)) (l .is) ∙ lifts c (l .value) e (l .range) (l .low) .none i)
+    ∙ marked-is c (slotAt (next x e) i) on refl m))
+
+honest-run : (xs : List Call) (e : Engine) → Honest e → Honest (run xs e)
+unfolding run
+honest-run [] e h = h
+honest-run (x ∷ xs) e h = honest-run xs (next x e) (honest-call x e h)
+
+-- it is so at first, and no call breaks it
+pub no-mark : NoMarkWithoutPedal
+no-mark xs = honest-run xs fresh (λ i on m. absurd (never (sym (fresh-free i) ∙ on)))
+
+-- ---- the October night
+
+module _ (c k : ℕ) where
+  -- no slot is held by the key
+  abbrev Gone : Engine → Type 0
+  Gone e = (i : ℕ) → heldKey c k (slotAt e i) ≡ false
+
+  -- a call that does not strike the key
+  gone-call : (x : Call) (e : Engine) → strikes c k x ≡ false → Gone e → Gone (next x e)
+  gone-call x e n h i = by (what x e i)
+    where
+      s : Slot
+      s = slotAt e i
+
+      at : (t : Slot) → slotAt (next x e) i ≡ t → heldKey c k t ≡ false → heldKey c k (slotAt (next x e) i) ≡ false
+      at t a q = ap (heldKey c k) a ∙ q
+
+      new : (u : Voice) → Among u (begun x e) → (b : Bool) → heldKey c k (sounds u) ≡ b → b ≡ false
+      new u f false q = refl
+      new u f true q =
+          let p = holds c k (sounds u) q in
+          absurd (never (sym n ∙ subst (λ (y : ℕ). strikes c y x ≡ true) (p .key) (subst (λ (y : ℕ). strikes y (u .key) x ≡ true) (p .channel) (came x e u f .struck))))
+
+      on : (ram rom : List ℤ) (m : ℕ) (b : Bool) → heldKey c k (slotAfter ram rom e m s) ≡ b → b ≡ false
+      on ram rom m false q = refl
+      on ram rom m true q = absurd (never (sym (h i) ∙ held-before (channelAt e (s .voice .channel)) (window ram rom (s .voice)) m c k s q))
+
+      by : What x e i → heldKey c k (slotAt (next x e) i) ≡ false
+      by (stands a z) = at s a (h i)
+      by (pedalled a z l d) = at (withVoice s (mark (s .voice))) a (gone c k s true)
+      by (loosed a z o) = at (withVoice s (release (s .voice))) a (gone c k s false)
+      by (freed a z o) = at (free (s .voice)) a (free-held c k (s .voice))
+      by (started u a z f t) = at (sounds u) a (new u f (heldKey c k (sounds u)) refl)
+      by (goes ram rom a) = at (slotAfter ram rom e (framesOf x e) s) a (on ram rom (framesOf x e) (heldKey c k (slotAfter ram rom e (framesOf x e) s)) refl)
+
+  -- a call that leaves it
+  left-call : c ≤ 15 → k ≤ 127 → (x : Call) (e : Engine) → leaves c k x ≡ true → Gone (next x e)
+  left-call hc hk (Calls.noteOn b ram rom ch key v) e l = by (eqb v 0) refl (eqb ch c) refl l
+    where
+      by : (z : Bool) → eqb v 0 ≡ z → (y : Bool) → eqb ch c ≡ y → cond z (cond y (eqb key k) false) false ≡ true → Gone (next (Calls.noteOn b ram rom ch key v) e)
+      by false p y q r i = absurd (never r)
+      by true p false q r i = absurd (never r)
+      by true p true q r i =
+          ap (λ (y : ℕ). heldKey c k (slotAt (next (Calls.noteOn b ram rom y key v) e) i)) (eqb-true ch c q)
+          ∙ ap (λ (y : ℕ). heldKey c k (slotAt (next (Calls.noteOn b ram rom c y v) e) i)) (eqb-true key k r)
+          ∙ ap (λ (y : ℕ). heldKey c k (slotAt (next (Calls.noteOn b ram rom c k y) e) i)) (eqb-true v 0 p)
+          ∙ ap (λ (a : Answered). heldKey c k (slotAt (a .engine) i)) (zero-off b ram rom c k e hc hk) ∙ reaches c k e hc hk .none i
+  left-call hc hk (Calls.noteOff ch key) e l = by (eqb ch c) refl l
+    where
+      by : (y : Bool) → eqb ch c ≡ y → cond y (eqb key k) false ≡ true → Gone (next (Calls.noteOff ch key) e)
+      by false q r i = absurd (never r)
+      by true q r i =
+          ap (λ (y : ℕ). heldKey c k (slotAt (next (Calls.noteOff y key) e) i)) (eqb-true ch c q)
+          ∙ ap (λ (y : ℕ). heldKey c k (slotAt (next (Calls.noteOff c y) e) i)) (eqb-true key k r) ∙ reaches c k e hc hk .none i
+  left-call hc hk (Calls.control ch n v) e l = absurd (never l)
+  left-call hc hk (Calls.program ch p) e l = absurd (never l)
+  left-call hc hk (Calls.bend ch b) e l = absurd (never l)
+  left-call hc hk (Calls.render to ram rom out) e l = absurd (never l)
+  left-call hc hk (Calls.ask i) e l = absurd (never l)
+
+  -- a run behind whose last strike the key is left
+  gone-run : c ≤ 15 → k ≤ 127 → (xs : List Call) (e : Engine) (b : Bool) → (b ≡ false → Gone e) → struckAfter c k b xs ≡ false → Gone (run xs e)
+  unfolding run struckAfter
+  gone-run hc hk [] e b h q = h q
+  gone-run hc hk (x ∷ xs) e b h q =
+      gone-run hc hk xs (next x e) (cond (strikes c k x) true (cond (leaves c k x) false b)) (λ z. by (strikes c k x) refl (leaves c k x) refl z) q
+    where
+      by : (s : Bool) → strikes c k x ≡ s → (l : Bool) → leaves c k x ≡ l → cond s true (cond l false b) ≡ false → Gone (next x e)
+      by true p l r z = absurd (never (sym z))
+      by false p true r z = left-call hc hk x e r
+      by false p false r z = gone-call x e p (h z)
+
+-- two pieces run into each other are a piece: what is struck is struck by one of them
+mixed : (c k : ℕ) {xs ys zs : List Call} → Into xs ys zs → (a b d : Bool) → (d ≡ true → (a ≡ true) ⊎ (b ≡ true))
+    → struckAfter c k a xs ≡ false → struckAfter c k b ys ≡ false → struckAfter c k d zs ≡ false
+unfolding struckAfter
+mixed c k ends a b d h p q = by d refl
+  where
+    by : (y : Bool) → d ≡ y → y ≡ false
+    by false e = refl
+    by true e = ⊎-elim (λ z. absurd (never (sym p ∙ z))) (λ z. absurd (never (sym q ∙ z))) (h e)
+mixed c k (left {x} r) a b d h p q =
+    mixed c k r (cond (strikes c k x) true (cond (leaves c k x) false a)) b (cond (strikes c k x) true (cond (leaves c k x) false d)) (by (strikes c k x) (leaves c k x)) p q
+  where
+    by : (s l : Bool) → cond s true (cond l false d) ≡ true → (cond s true (cond l false a) ≡ true) ⊎ (b ≡ true)
+    by true l e = inl refl
+    by false true e = absurd (never e)
+    by false false e = h e
+mixed c k (right {y} r) a b d h p q =
+    mixed c k r a (cond (strikes c k y) true (cond (leaves c k y) false b)) (cond (strikes c k y) true (cond (leaves c k y) false d)) (by (strikes c k y) (leaves c k y)) p q
+  where
+    by : (s l : Bool) → cond s true (cond l false d) ≡ true → (a ≡ true) ⊎ (cond s true (cond l false b) ≡ true)
+    by true l e = inr refl
+    by false true e = absurd (never e)
+    by false false e = h e
+
+overlap-piece : {xs : List Call} → Overlap xs → Piece xs
+unfolding struckAfter
+overlap-piece quiet c k = refl
+overlap-piece (more p o m) c k = mixed c k m false false false (λ e. absurd (never e)) (p c k) (overlap-piece o c k)
+
+-- no key of the night is still held, and no voice is marked
+pub october : OctoberNight
+october night o up i on =
+    let e = run night fresh in
+    let v = voiceIn i e in
+    let r = from-fresh (λ (u : Voice). (u .channel ≤ 15) × (u .key ≤ 127)) (λ u g p m h. h) (λ x y u f. let g = came x y u f in (g .small, g .key)) night i on in
+    let h = gone-run (v .channel) (v .key) (r .0) (r .1) night fresh false (λ z j. none (v .channel) (v .key) j) (overlap-piece o (v .channel) (v .key)) i in
+    by (slotAt e i) on h (released (v .stage)) refl (v .marked) refl (λ m. never (sym (up (v .channel)) ∙ no-mark night i on m))
+  where
+    none : (c k : ℕ) (j : ℕ) → heldKey c k (slotAt fresh j) ≡ false
+    none c k j = by (heldKey c k (slotAt fresh j)) refl
+      where
+        by : (b : Bool) → heldKey c k (slotAt fresh j) ≡ b → b ≡ false
+        by false q = refl
+        by true q = absurd (never (sym (fresh-free j) ∙ holds c k (slotAt fresh j) q .sounding))
+
+    by : (s : Slot) → s .sounding ≡ true → heldKey (s .voice .channel) (s .voice .key) s ≡ false → (r : Bool) → released (s .voice .stage) ≡ r
+        → (m : Bool) → s .voice .marked ≡ m → (s .voice .marked ≡ true → ⊥) → released (s .voice .stage) ≡ true
+    by s a h true q m p n = q
+    by s a h false q true p n = absurd (n p)
+    by s a h false q false p n =
+        absurd (never (sym h ∙ hold-back (s .voice .channel) (s .voice .key) s (record { sounding = a; channel = refl; unreleased = q; unmarked = p; key = refl })))

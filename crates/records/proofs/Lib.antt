@@ -1,0 +1,4 @@
+pub mod AmountsLaws
+pub mod ChunksLaws
+pub mod LookingLaws
+pub mod ZonesLaws

@@ -1,0 +1,2 @@
+pub mod SettingsLaws
+pub mod ValuesLaws

@@ -1,0 +1,94 @@
+-- Examples: what a small voice gives in some frames, or where it stands after them, in numbers; each is checked by computing.
+use mathlib.Core.List.{List, [], _∷_}
+use lib.IntN.{ℤ, pos, negℤ}
+use Prim.Native.Nat.{ℕ}
+use mathlib.Core.Bool.{false}
+use mathlib.Core.Path.{_≡_, refl}
+use Rattle.voice.specs.declared.Channel.{Channel}
+use Rattle.voice.specs.declared.Stage.the-variants.{Delay}
+use Rattle.voice.specs.declared.Voice.{Voice}
+use Rattle.voice.specs.Release.{release}
+use Rattle.voice.specs.declared.Slot.{Slot}
+use Rattle.voice.specs.Sound.{loss, gained, leftOf, rightOf}
+use Rattle.voice.specs.Motion.{step, pitchTotal, folds, fold, settled, ended}
+use Rattle.voice.specs.Internal.Frames.{heardAt, afterAt}
+use Rattle.curves.specs.Pitch.{stepOf, bendCents}
+use Rattle.curves.specs.Levels.{gainOf, cbOf, leastCb, above}
+use Rattle.voice.specs.Records.{sounds}
+use Rattle.voice.specs.Stages.{levelAt, decayAt, releaseAt, fromDelay, fromAttack, fromHold, fromDecay}
+use Rattle.voice.specs.Reading.{behind, reading}
+use Rattle.voice.specs.Frames.{goOn, loud, readAndMoved, living, frameAt, frame, after}
+
+-- the samples that it reads
+abbrev window : List ℤ
+window = pos 1000 ∷ negℤ (pos 2000) ∷ pos 30000 ∷ negℤ (pos 32768) ∷ pos 12345 ∷ []
+
+-- its channel: no bend, control 7 at 100, control 11 full
+abbrev channel : Channel
+channel = record { program = 0; stored = 0; bank = 0; bend = 8192; volume = 100; expression = 127; pedal = 0 }
+
+-- a voice of 5 samples, 700 cents up, pan 100, sustain 300, attenuation -76 (with volume 100 it is below 0, and counts as 0)
+abbrev bell : (mode loopto left attack hold decay release : ℕ) → ℤ → Voice
+bell mode loopto left attack hold decay release pitch =
+    record {
+      stage = Delay left;
+      place = 0;
+      channel = 0;
+      key = 60;
+      velocity = 100;
+      marked = false;
+      class = 0;
+      rom = false;
+      start = 0;
+      end = 5;
+      mode = mode;
+      loopfrom = 1;
+      loopto = loopto;
+      rate = 44100;
+      pitch = pitch;
+      pan = pos 100;
+      attenuation = negℤ (pos 76);
+      attack = attack;
+      hold = hold;
+      decay = decay;
+      sustain = 300;
+      release = release;
+    }
+
+-- lefts and rights of n frames
+abbrev heard : ℕ → Slot → List ℤ
+heard n s = heardAt (step channel (s .voice)) (loss channel (s .voice)) window n s
+
+-- delay, attack, hold, decay, sustain in a loop
+looping :
+    heard 9 (sounds (bell 1 4 1 3 1 4 2 (pos 700)))
+    ≡ pos 0 ∷ pos 0 ∷ pos 0 ∷ pos 0 ∷ pos 475989 ∷ pos 713983 ∷ negℤ (pos 2222490) ∷ negℤ (pos 3333735) ∷ pos 1416908 ∷ pos 2125363
+    ∷ negℤ (pos 3311924) ∷ negℤ (pos 4967885) ∷ pos 118287 ∷ pos 177430 ∷ negℤ (pos 155678) ∷ negℤ (pos 233516) ∷ pos 65989 ∷ pos 98984 ∷ []
+unfolding heardAt afterAt frameAt living readAndMoved goOn loud reading behind gained leftOf rightOf gainOf cbOf loss step pitchTotal bendCents stepOf folds fold settled ended levelAt decayAt releaseAt fromDelay fromAttack fromHold fromDecay
+looping = refl
+
+-- released in attack, free at the third frame of its release
+letting :
+    heard 4 (sounds (release (after channel window 2 (sounds (bell 1 4 1 3 1 4 2 (pos 700))) .voice)))
+    ≡ pos 707486 ∷ pos 1061230 ∷ negℤ (pos 5224) ∷ negℤ (pos 7835) ∷ pos 0 ∷ pos 0 ∷ pos 0 ∷ pos 0 ∷ []
+unfolding heardAt after afterAt frame frameAt living readAndMoved goOn loud reading behind gained leftOf rightOf gainOf cbOf loss step pitchTotal bendCents stepOf folds fold settled ended levelAt decayAt releaseAt fromDelay fromAttack fromHold fromDecay release leastCb above
+letting = refl
+
+-- no loop: freed at its end, and silent from there
+ending :
+    heard 6 (sounds (bell 0 4 0 0 0 0 2 (pos 700)))
+    ≡ pos 4844 ∷ pos 7267 ∷ pos 67564 ∷ pos 101346 ∷ negℤ (pos 157737) ∷ negℤ (pos 236605) ∷ pos 30208 ∷ pos 45313 ∷ pos 0 ∷ pos 0 ∷ pos 0 ∷ pos 0 ∷ []
+unfolding heardAt after afterAt frame frameAt living readAndMoved goOn loud reading behind gained leftOf rightOf gainOf cbOf loss step pitchTotal bendCents stepOf folds fold settled ended levelAt decayAt releaseAt fromDelay fromAttack fromHold fromDecay
+ending = refl
+
+-- a loop of two samples and a step of sixteen
+folding : after channel window 3 (sounds (bell 1 3 0 0 0 0 2 (pos 4800))) .voice .place ≡ 33554432
+unfolding after frame frameAt living readAndMoved goOn loud reading behind gained leftOf rightOf gainOf cbOf loss step pitchTotal bendCents stepOf folds fold settled ended levelAt decayAt releaseAt fromDelay fromAttack fromHold fromDecay
+folding = refl
+
+-- mode 3 folds until it is released, and then runs to its end
+mode3 :
+    heard 3 (sounds (release (after channel window 3 (sounds (bell 3 4 0 0 0 4 5 (pos 700))) .voice)))
+    ≡ pos 67041 ∷ pos 100561 ∷ negℤ (pos 15671) ∷ negℤ (pos 23506) ∷ pos 304 ∷ pos 456 ∷ []
+unfolding heardAt after afterAt frame frameAt living readAndMoved goOn loud reading behind gained leftOf rightOf gainOf cbOf loss step pitchTotal bendCents stepOf folds fold settled ended levelAt decayAt releaseAt fromDelay fromAttack fromHold fromDecay release leastCb above
+mode3 = refl

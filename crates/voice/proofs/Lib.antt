@@ -1,0 +1,13 @@
+pub mod Advance
+pub mod BoundsLaws
+pub mod CalmLaws
+pub mod Examples
+pub mod FramesLaws
+pub mod Inside
+pub mod MotionLaws
+pub mod RunLaws
+pub mod Silence
+pub mod SoundLaws
+pub mod StagesLaws
+pub mod StretchLaws
+pub mod SumsLaws

@@ -1,0 +1,6 @@
+-- Definitions that serve contracts inside the crates alone. What a host's contract rests on stands beside this folder.
+pub mod Calm
+pub mod Frames
+pub mod Stages
+pub mod Stretch
+pub mod Sums
