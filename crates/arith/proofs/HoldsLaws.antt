@@ -1,14 +1,16 @@
--- Which case of `heldTo` the tests of the code lead to.
+-- Which case of a hold the tests of the code lead to.
 use mathlib.Core.Path.{_≡_, ap, _∙_, refl}
 use mathlib.Core.Bool.{Bool, true, false, cond}
-use lib.IntN.{ℤ, pos, negsuc}
+use lib.IntN.{ℤ, pos, negsuc, natAbs, _+ℤ_}
 use lib.Signed.{ltZ}
-use Prim.Native.Nat.{ℕ, suc}
+use Prim.Native.Nat.{ℕ, suc, _%_}
 use native.Mathlib.Omega.{arith}
 use borrow.Author.Tests.{ltb-false}
 use Rattle.arith.specs.Holds.{heldTo}
 use Rattle.arith.specs.Within.{Within}
 use Rattle.arith.proofs.WithinLaws.{w-lit}
+use Rattle.arith.specs.Floors.{modZ}
+use Rattle.arith.proofs.FloorsLaws.{sub-pos}
 
 module _ (lo hi k : ℤ) where
   pub clamp-low : ltZ k lo ≡ true → heldTo lo hi k ≡ lo
@@ -36,3 +38,9 @@ held-within z n = low (ltZ z (negsuc n)) refl
     low : (b : Bool) → ltZ z (negsuc n) ≡ b → Within (heldTo (negsuc n) (pos (suc n)) z) (suc n)
     low true t = rw (clamp-low (negsuc n) (pos (suc n)) z t) (w-lit (negsuc n))
     low false t = high t (ltZ (pos (suc n)) z) refl
+
+-- a multiple of 4 added does not change the remainder
+pub mod-lift : (x : ℤ) → Within x 32768 → natAbs (x +ℤ pos 32768) % 4 ≡ modZ x 4
+unfolding modZ
+mod-lift (pos a) h = omega arith
+mod-lift (negsuc a) h = rw (sub-pos 32768 (suc a) (h .within)) (omega (arith, h .within))

@@ -4,6 +4,5 @@ pub mod FloorsLaws
 pub mod HoldsLaws
 pub mod Loops
 pub mod Put
-pub mod WholeLaws
 pub mod WithinLaws
 pub mod WordsLaws

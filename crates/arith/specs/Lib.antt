@@ -3,7 +3,6 @@ pub mod Floats
 pub mod Floors
 pub mod Holds
 pub mod Lists
-pub mod Whole
 pub mod Within
 pub mod Words
 pub mod Internal

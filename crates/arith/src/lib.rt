@@ -13,11 +13,16 @@ ghost use Rattle.arith.specs.Holds.{heldTo};
 ghost use Rattle.arith.specs.Within.{Within};
 
 pub mod bytes;
+pub mod words;
 
 pub use bytes::byte;
 pub use bytes::signed16;
 pub use bytes::u16_at;
 pub use bytes::u32_at;
+pub use words::count;
+pub use words::has;
+pub use words::insert;
+pub use words::lowest_clear;
 
 fn reading(x0: i64, x1: i64, f: i64) -> i64
     requires { ⌜ Within x0 32768 × Within x1 32768 × Within f 16777216 ⌝ }
@@ -84,34 +89,4 @@ pub fn mix(l: i32, r: i32) -> Frame
         left: to_unit(clamp(l)),
         right: to_unit(clamp(r)),
     }
-}
-
-// Whether a slot is in the set.
-pub fn has(word: u32, slot: u32) -> bool
-    requires { ⌜ slot < 32 ⌝ }
-    ensures { λ r. ⌜ r ≡ eqb (bit word slot) 1 ⌝ }
-{
-    (word >> slot) % 2 == 1
-}
-
-// The set with a slot, whether it is in it before or not.
-pub fn insert(word: u32, slot: u32) -> u32
-    requires { ⌜ slot < 32 ⌝ }
-    ensures { λ r. ⌜ (r ≡ bitOr word (2 ^ slot)) × With word slot 1 r ⌝ }
-{
-    word | (1 << slot)
-}
-
-// The lowest slot that is not in the set, and 32 where all are.
-pub fn lowest_clear(word: u32) -> u32
-    ensures { λ r. ⌜ r ≡ lowestClear 32 word ⌝ }
-{
-    u32::trailing_zeros(!word)
-}
-
-// How many slots are in the set.
-pub fn count(word: u32) -> u32
-    ensures { λ r. ⌜ (r ≡ ones word) × (r ≤ 32) ⌝ }
-{
-    u32::count_ones(word)
 }

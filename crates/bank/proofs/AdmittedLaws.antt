@@ -17,7 +17,7 @@ use Rattle.bank.proofs.RulesLaws.{fine-rules, rules-fine}
 use Rattle.records.specs.Chunks.{chunkAt}
 use Rattle.records.specs.Sides.{bagOf, genOf, modOf, partsOf}
 use Rattle.records.specs.declared.Side.{Side}
-use Rattle.arith.specs.Whole.{word32}
+use Rattle.arith.specs.Holds.{word32}
 use Rattle.records.specs.Windows.{startOf, endOf, loopStartOf, loopEndOf, modeOf, loops}
 use Rattle.records.specs.declared.Parts.{Parts}
 use Rattle.records.specs.declared.Zone.{Zone}

@@ -17,7 +17,7 @@ use Rattle.records.specs.declared.Found.the-variants.{Nothing, At}
 use Rattle.bank.specs.Internal.Rates.{lower, badRated, withZone, withZones, lowestBelow}
 use Rattle.records.proofs.LookingLaws.{first-is, first-absent}
 use Rattle.records.specs.Sides.{bagOf}
-use Rattle.arith.specs.Whole.{between}
+use Rattle.arith.specs.Holds.{between}
 use Rattle.records.specs.Headers.{rateOf}
 use Rattle.records.specs.Zones.{zoneAt, zoneCount, zoneBelow, firstZone, value, globalOf}
 use Rattle.records.specs.declared.Parts.{Parts}

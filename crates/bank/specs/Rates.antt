@@ -6,7 +6,7 @@ use lib.Dec.{eqb}
 use Rattle.records.specs.Zones.{zoneAt, firstZone}
 use Rattle.records.specs.declared.Side.{Side}
 use Rattle.records.specs.Looking.{isAt, placed, first}
-use Rattle.arith.specs.Whole.{between}
+use Rattle.arith.specs.Holds.{between}
 use Rattle.records.specs.Headers.{rateOf, sampleAt}
 use Rattle.records.specs.declared.Parts.{Parts}
 use Rattle.records.specs.declared.Found.{Found}

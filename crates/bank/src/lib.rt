@@ -4,12 +4,12 @@ ghost use Prim.Native.Nat.{_-_, _<_};
 ghost use Rattle.records.specs.Looking.{orElse};
 ghost use Rattle.bank.specs.Admission.{faultOf, faultNumber, admitted};
 
-mod chunks;
+mod bounds;
+mod framing;
 mod indexes;
+mod links;
 mod listing;
-mod numbers;
 mod rates;
-mod windows;
 
 pub use listing::listed_at;
 use records::Found;
@@ -63,23 +63,23 @@ pub fn admission(b: &[u8]) -> Fault
     if 65536 < b.len() {
         return Fault::Long(65536);
     }
-    if let Found::At(p) = chunks::chunk_fault(b) {
+    if let Found::At(p) = framing::chunk_fault(b) {
         return Fault::Chunk(p);
     }
-    if let Found::At(p) = chunks::records_fault(b) {
+    if let Found::At(p) = framing::records_fault(b) {
         return Fault::Records(p);
     }
     let m = records::parts_of(b);
     if let Found::At(p) = indexes::index_fault(b, m) {
         return Fault::Index(p);
     }
-    if let Found::At(p) = numbers::number_fault(b, m) {
+    if let Found::At(p) = links::number_fault(b, m) {
         return Fault::Number(p);
     }
     if let Found::At(p) = rates::rate_fault(b, m) {
         return Fault::Rate(p);
     }
-    if let Found::At(p) = windows::window_fault(b, m) {
+    if let Found::At(p) = bounds::window_fault(b, m) {
         return Fault::Window(p);
     }
     Fault::Fine

@@ -5,7 +5,7 @@ ghost use Rattle.bank.specs.Rates.{badRate, rateFault};
 ghost use Rattle.bank.specs.Internal.Rates.{lower, badRated, withZone, withZones};
 ghost use Rattle.records.specs.Looking.{first};
 ghost use Rattle.records.specs.Sides.{bagOf};
-ghost use Rattle.arith.specs.Whole.{between};
+ghost use Rattle.arith.specs.Holds.{between};
 ghost use Rattle.records.specs.Zones.{zoneCount};
 use crate::less_one;
 use records::Found;

@@ -1,8 +1,1 @@
-pub mod AnswersLaws
-pub mod NoteOffLaws
-pub mod NoteOnLaws
-pub mod RenderLaws
-pub mod SeatsLaws
-pub mod SlotLoopLaws
-pub mod SlotsLaws
-pub mod StrikesLaws
+pub mod RenderingLaws

@@ -1,7 +1,2 @@
 -- Definitions that serve contracts inside the crates alone. What a host's contract rests on stands beside this folder.
-pub mod NoteOff
-pub mod NoteOn
-pub mod Seats
-pub mod Slots
-pub mod Strikes
 pub mod Sums

@@ -4,19 +4,19 @@ ghost use mathlib.Core.Bool.{_&&_, _||_};
 ghost use mathlib.Core.List.{_++_};
 ghost use Prim.Native.Nat.{_*_, _≤_};
 ghost use lib.ListN.{length, drop};
-ghost use Rattle.engine.specs.Slots.{slotsOf};
-ghost use Rattle.engine.specs.NoteOn.{endsPast};
-ghost use Rattle.engine.specs.Render.{distance, lacking, renderNumber, output, played, render, rendered};
-use crate::Answered;
-use crate::Engine;
-use crate::answers::made;
-use crate::answers::refuse;
-use crate::slots::slot_of;
-use crate::strikes::ends_past;
+ghost use Rattle.state.specs.Slots.{slotsOf};
+ghost use Rattle.state.specs.Reach.{endsPast};
+ghost use Rattle.engine.specs.Rendering.{distance, lacking, renderNumber, output, played, render, rendered};
 use crate::sums::mix_all;
 use crate::sums::run_all;
 use curves::gains;
 use curves::octaves;
+use state::Answered;
+use state::Engine;
+use state::ends_past;
+use state::made;
+use state::refuse;
+use state::slot_of;
 use voice::Slot;
 
 // The distance to the asked clock value, modulo 2^32.

@@ -14,7 +14,7 @@ use Rattle.layers.specs.declared.Struck.{Struck}
 use Rattle.layers.specs.Internal.LayerSearch.{noPair, upTo33, layerCount, searched}
 use Rattle.layers.specs.declared.Layers.{Layers}
 use Rattle.layers.specs.declared.Pair.{Pair}
-use Rattle.voice.specs.Records.{blank}
+use Rattle.voice.specs.Changes.{blank}
 use Rattle.layers.specs.Internal.Voicing.{struckOf}
 use Rattle.records.specs.Sides.{partsOf}
 use Rattle.records.specs.declared.Found.the-variants.{Nothing, At}

@@ -9,11 +9,11 @@ use Rattle.voice.specs.declared.Voice.{Voice}
 use Rattle.totals.specs.Internal.Values.{at, totalIn, ownValues, addedValues}
 use Rattle.arith.specs.Bytes.{u32At, u8At, i8At}
 use Rattle.records.specs.Headers.{sampleAt, rateOf, romOf}
-use Rattle.arith.specs.Whole.{word32, modZ, between}
+use Rattle.arith.specs.Holds.{word32, heldTo, between}
 use Rattle.records.specs.Windows.{shifted, placeMoved, startOf, endOf, loopStartOf, loopEndOf, modeOf}
 use Rattle.records.specs.declared.Parts.{Parts}
-use Rattle.arith.specs.Holds.{heldTo}
 use Rattle.totals.specs.Settings.{keyOf, pitchOf, attenuationOf, playMode, rootOf, softness, keyedTime}
+use Rattle.arith.specs.Floors.{modZ}
 use Rattle.curves.specs.Times.{frames}
 use Rattle.records.specs.Internal.Amounts.{poured, pouredFrom}
 use Rattle.records.specs.Zones.{value}

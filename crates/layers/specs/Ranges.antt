@@ -6,7 +6,7 @@ use lib.Dec.{ltb}
 use Rattle.records.specs.Sides.{amount}
 use Rattle.records.specs.declared.Side.{Side}
 use Rattle.layers.specs.declared.Range.{Range}
-use Rattle.arith.specs.Whole.{between}
+use Rattle.arith.specs.Holds.{between}
 use Rattle.records.specs.Zones.{has}
 use Rattle.records.specs.declared.Zone.{Zone}
 

@@ -6,7 +6,8 @@ use lib.IntN.{pos, natAbs}
 use lib.ListN.{take}
 use Rattle.arith.specs.Bytes.{u8At, i8At}
 use Rattle.records.specs.Headers.{sampleAt, rateOf, romOf}
-use Rattle.arith.specs.Whole.{modZ, word32}
+use Rattle.arith.specs.Floors.{modZ}
+use Rattle.arith.specs.Holds.{word32}
 use Rattle.records.specs.Windows.{startOf, endOf, loopStartOf, loopEndOf, modeOf}
 use Rattle.records.specs.declared.Parts.{Parts}
 use Rattle.curves.specs.Times.{frames}

@@ -1,14 +1,14 @@
 // From a key to layers, and the voices that they start (01, "From a key to layers").
 mod barren;
+mod extent;
 mod layer_search;
 mod ranges;
-mod strike;
-mod window;
+mod voicing;
 
 pub use layer_search::preset_for;
 pub use layer_search::search;
-pub use strike::voices_for;
 use voice::Voice;
+pub use voicing::voices_for;
 
 // A layer: the bag numbers of its preset zone and of its instrument zone.
 pub struct Pair {

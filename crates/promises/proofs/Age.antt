@@ -8,7 +8,7 @@ use native.Mathlib.Omega.{arith}
 use native.Mathlib.Nat.{zero-add, suc-inj, suc-ne-zero, mod-eq-of-lt}
 use borrow.Author.Tests.{eqb-true, eqb-false, ne-eqb, eq-eqb}
 use lib.ListN.{length, take, length-append}
-use Rattle.engine.specs.Seats.{without, renewed}
+use Rattle.state.specs.Seats.{without, renewed}
 use Rattle.promises.specs.Age.{Slots, Ordered, older}
 use Rattle.arith.specs.Lists.{countIf}
 

@@ -7,14 +7,13 @@ use mathlib.Core.Logic.{inl, inr, ⊎-elim}
 use borrow.Author.Tests.{eqb-true, eqb-false, eq-eqb}
 use lib.Dec.{eqb}
 use Rattle.voice.specs.declared.Voice.{Voice}
-use Rattle.engine.specs.NoteOn.{Bank, layerVoices}
+use Rattle.events.specs.Striking.{Bank, bankFrom, layerVoices}
 use Rattle.promises.proofs.EachSlot.{Among}
 use Rattle.layers.specs.Voicing.{struckVoices}
 use Rattle.layers.proofs.AdmittedVoices.{All, GoodVoice, struck-good}
-use Rattle.engine.specs.LentBank.{bankFrom}
 use Rattle.promises.specs.Calls.{Call, channelOf, does, begun}
 use Rattle.promises.specs.Demand2.{strikes}
-use Rattle.engine.specs.declared.Engine.{Engine}
+use Rattle.state.specs.declared.Engine.{Engine}
 use Rattle.promises.proofs.Demand1.{rules-admit, note-on-numbers}
 use Rattle.promises.specs.Calls as Calls
 

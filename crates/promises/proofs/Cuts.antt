@@ -11,12 +11,12 @@ use Rattle.voice.specs.Sound.{loss}
 use Rattle.voice.specs.Motion.{step}
 use Rattle.voice.specs.Frames.{frame, after}
 use Rattle.voice.proofs.RunLaws.{frame-keeps, after-cut}
-use Rattle.engine.specs.Render.{window, slotAfter, slotLeft, slotRight, leftSum, rightSum, output, played}
+use Rattle.engine.specs.Rendering.{window, slotAfter, slotLeft, slotRight, leftSum, rightSum, output, played}
 use Rattle.arith.specs.Lists.{sumOf}
-use Rattle.engine.specs.declared.Engine.{Engine}
-use Rattle.engine.specs.Slots.{slotsOf, withSlots}
-use Rattle.engine.specs.Channels.{channelAt}
-use Rattle.engine.proofs.SlotsLaws.{slots-back}
+use Rattle.state.specs.declared.Engine.{Engine}
+use Rattle.state.specs.Slots.{slotsOf, withSlots}
+use Rattle.state.specs.Channels.{channelAt}
+use Rattle.state.proofs.SlotsLaws.{slots-back}
 
 -- channel and window stay as they are from frame to frame
 frame-channel : (c : Channel) (w : List ℤ) (s : Slot) → frame c w s .slot .voice .channel ≡ s .voice .channel

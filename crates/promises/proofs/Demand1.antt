@@ -11,24 +11,25 @@ use borrow.Author.Tests.{eqb-true, ltb-true, lt-ltb, ltb-false, le-ltb, ne-eqb, 
 use mathlib.Core.Logic.{_⊎_, inl, inr, ⊎-elim}
 use native.Mathlib.Omega.{arith}
 use native.Mathlib.Nat.{not-suc-le-zero, le-of-suc-le-suc}
-use Rattle.engine.specs.declared.Engine.{Engine}
-use Rattle.engine.specs.declared.Answered.{Answered}
-use Rattle.engine.specs.Answers.{refused, answer, done, pastOne, pastTwo, pastBend}
-use Rattle.engine.specs.NoteOff.{offKey, noteOff}
-use Rattle.engine.specs.Render.{output, distance, played, renderNumber, render, rendered, lacking}
+use Rattle.state.specs.declared.Engine.{Engine}
+use Rattle.state.specs.declared.Answered.{Answered}
+use Rattle.state.specs.Answers.{refused, answer, done, pastOne, pastTwo, pastBend}
+use Rattle.events.specs.Keys.{offKey, noteOff}
+use Rattle.engine.specs.Rendering.{output, distance, played, renderNumber, render, rendered, lacking}
 use Rattle.promises.specs.Calls.{Call, does, lent, written}
 use Rattle.promises.specs.Demand1.{Untouched, RefusalsChangeNothing, Played, LayerPast, SlotPast, RenderNumbers, HasPreset, NoteOnNumbers, OthersNumbers, NoOther, Given, AdmissionNumbers, ListingNumbers}
-use Rattle.engine.specs.Slots.{withClock, slotsOf, slotAt}
-use Rattle.engine.specs.Channels.{channelAt, withChannel}
-use Rattle.engine.specs.Controls.{controlled, controlChange}
-use Rattle.engine.specs.Program.{withProgram, programChange}
-use Rattle.engine.specs.Bend.{withBend, pitchBend}
-use Rattle.engine.specs.NoteOn.{layerVoices, struck, noteOnNumber, noteOn, memory, endsPast, anyPast, Bank, channelBank}
-use Rattle.engine.specs.Board.{ask}
-use Rattle.engine.specs.LentBank.{bankFrom}
-use Rattle.engine.proofs.AnswersLaws.{or-no}
+use Rattle.state.specs.Slots.{withClock, slotsOf, slotAt}
+use Rattle.state.specs.Channels.{channelAt, withChannel}
+use Rattle.events.specs.Controls.{controlled, controlChange}
+use Rattle.events.specs.Programs.{withProgram, programChange}
+use Rattle.events.specs.Bends.{withBend, pitchBend}
+use Rattle.events.specs.Striking.{layerVoices, noteOnNumber, noteOn, bankFrom, Bank, channelBank}
+use Rattle.events.specs.Starting.{struck, anyPast}
+use Rattle.state.specs.Board.{ask}
+use Rattle.state.proofs.AnswersLaws.{or-no}
+use Rattle.state.specs.Reach.{memory, endsPast}
 use Rattle.voice.specs.declared.Slot.{Slot}
-use Rattle.voice.specs.Records.{blank, free}
+use Rattle.voice.specs.Changes.{blank, free}
 use Rattle.promises.proofs.EachSlot.{never, and-both}
 use Rattle.voice.specs.declared.Voice.{Voice}
 use Rattle.bank.specs.Admission.{admitted, faultNumber, faultOf}

@@ -4,19 +4,19 @@ use mathlib.Core.Path.{_≡_, refl, ap, _∙_}
 use borrow.Author.Tests.{le-ltb}
 use mathlib.Core.Bool.{false, true, Bool, cond, not, _&&_, and-false}
 use lib.Dec.{eqb}
-use Rattle.engine.specs.declared.Engine.{Engine}
-use Rattle.engine.specs.NoteOff.{offKey, noteOff, ofChannel, held, heldKey, mark, withVoice, pedalDown, letOff, off}
+use Rattle.state.specs.declared.Engine.{Engine}
+use Rattle.events.specs.Keys.{offKey, noteOff, held, heldKey, mark, pedalDown, letOff, off}
+use Rattle.state.specs.Slots.{ofChannel, withVoice, slotAt}
 use Rattle.voice.specs.declared.Voice.{Voice}
-use Rattle.voice.specs.Records.{free, blank}
+use Rattle.voice.specs.Changes.{free, blank}
 use Rattle.voice.specs.declared.Stage.{Stage}
 use Rattle.voice.specs.declared.Stage.the-variants.{Delay, Attack, Hold, Decay, Sustain, Release}
 use Rattle.voice.specs.Stages.{released}
 use Rattle.voice.specs.Release.{letGo, release}
 use Rattle.voice.specs.declared.Slot.{Slot}
-use Rattle.engine.specs.Slots.{slotAt}
-use Rattle.engine.proofs.SlotsLaws.{slot-map}
-use Rattle.engine.proofs.NoteOffLaws.{off-keeps}
-use Rattle.engine.specs.declared.Answered.{Answered}
+use Rattle.state.proofs.SlotsLaws.{slot-map}
+use Rattle.events.proofs.KeysLaws.{off-keeps}
+use Rattle.state.specs.declared.Answered.{Answered}
 use Rattle.promises.proofs.EachSlot.{letOff-picked}
 use Rattle.promises.specs.Demand2.{NoteOffReachesAll}
 

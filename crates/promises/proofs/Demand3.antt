@@ -11,10 +11,10 @@ use native.Mathlib.Omega.{arith}
 use lib.Signed.{ltZ}
 use Rattle.voice.specs.declared.Stage.{Stage}
 use Rattle.voice.specs.declared.Voice.{Voice}
-use Rattle.voice.specs.Records.{withMoved, sounds, free}
+use Rattle.voice.specs.Changes.{withMoved, sounds, free}
 use Rattle.voice.specs.Stages.{past, released}
 use Rattle.voice.proofs.Advance.{placeAfter, place-add, going}
-use Rattle.engine.specs.NoteOff.{mark, withVoice}
+use Rattle.events.specs.Keys.{mark}
 use Rattle.voice.specs.declared.Stage.the-variants.{Delay, Attack, Hold, Decay, Sustain, Release}
 use Rattle.voice.specs.Release.{letGo, release}
 use Rattle.promises.proofs.Demand2.{let-go}
@@ -26,18 +26,18 @@ use Rattle.voice.specs.Frames.{after}
 use Rattle.voice.specs.Internal.Frames.{afterAt}
 use Rattle.voice.proofs.RunLaws.{once}
 use Rattle.curves.specs.Pitch.{stepOf, lifted, bendCents}
-use Rattle.engine.specs.declared.Engine.{Engine}
-use Rattle.engine.specs.Channels.{channelAt}
+use Rattle.state.specs.declared.Engine.{Engine}
+use Rattle.state.specs.Channels.{channelAt}
 use Rattle.promises.specs.Calls.{voiceIn, Call, next, run, framesOf, framesRun}
 use Rattle.promises.specs.Demand3.{centsIn, Keeps, KeepsAll, PlaceHolds, RatesHold, PlaceHoldsAlways, Exponent}
-use Rattle.engine.specs.Slots.{slotAt}
-use Rattle.engine.specs.Render.{window, slotAfter}
+use Rattle.state.specs.Slots.{withVoice, slotAt}
+use Rattle.engine.specs.Rendering.{window, slotAfter}
 use Rattle.promises.proofs.EachSlot.{What, stands, pedalled, loosed, freed, started, goes, never, what}
 use Rattle.curves.proofs.OctaveLaws.{up-le}
 use Rattle.curves.proofs.PitchLaws.{step-right, steps}
 use Rattle.promises.proofs.Banks.{came}
 use Rattle.promises.proofs.Voices.{from-fresh}
-use Rattle.engine.specs.Fresh.{fresh}
+use Rattle.state.specs.Quiet.{fresh}
 use Rattle.arith.proofs.FloorsLaws.{sub-pos}
 use Rattle.arith.specs.Holds.{heldTo}
 

@@ -11,13 +11,12 @@ use borrow.Author.Tests.{eqb-false}
 use Rattle.voice.specs.declared.Stage.the-variants.{Delay}
 use Rattle.voice.specs.declared.Voice.{Voice}
 use Rattle.promises.specs.Calls.{Call, noteOn, noteOff, bend, render, run, framesRun, voiceIn, seats, among}
-use Rattle.voice.specs.Records.{blank}
-use Rattle.engine.specs.declared.Engine.{Engine}
-use Rattle.engine.specs.Channels.{freshChannel}
-use Rattle.engine.specs.Fresh.{upFrom, fresh}
+use Rattle.voice.specs.Changes.{blank}
+use Rattle.state.specs.declared.Engine.{Engine}
+use Rattle.state.specs.Quiet.{freshChannel, upFrom, fresh}
 use Rattle.promises.specs.Demand3.{KeepsAll, Moved}
 use Rattle.voice.specs.Stages.{past}
-use Rattle.engine.specs.Slots.{slotAt}
+use Rattle.state.specs.Slots.{slotAt}
 use Rattle.promises.proofs.Demand3.{place-always}
 use Rattle.curves.specs.Levels as CurvesLevels
 use Rattle.curves.specs.Times as CurvesTimes
@@ -29,7 +28,8 @@ use Rattle.records.specs.Chunks as RecordsChunks
 use Rattle.records.specs.Looking as RecordsLooking
 use Rattle.records.specs.Sides as RecordsSides
 use Rattle.records.specs.Headers as RecordsHeaders
-use Rattle.arith.specs.Whole as ArithWhole
+use Rattle.arith.specs.Holds as ArithHolds
+use Rattle.arith.specs.Floors as ArithFloors
 use Rattle.records.specs.Windows as RecordsWindows
 use Rattle.records.specs.Zones as RecordsZones
 use Rattle.bank.specs.Admission as BankAdmission
@@ -50,15 +50,15 @@ use Rattle.voice.specs.Motion as VoiceMotion
 use Rattle.voice.specs.Release as VoiceRelease
 use Rattle.voice.specs.Internal.Frames as VoiceInternalFrames
 use Rattle.voice.specs.Stages as VoiceStages
-use Rattle.engine.specs.Bend as EngineBend
-use Rattle.engine.specs.Controls as EngineControls
-use Rattle.engine.specs.LentBank as EngineLentBank
-use Rattle.engine.specs.NoteOff as EngineNoteOff
-use Rattle.engine.specs.NoteOn as EngineNoteOn
-use Rattle.engine.specs.Render as EngineRender
-use Rattle.engine.specs.Seats as EngineSeats
-use Rattle.engine.specs.Slots as EngineSlots
-use Rattle.engine.specs.Fresh as EngineFresh
+use Rattle.events.specs.Bends as EventsBends
+use Rattle.events.specs.Keys as EventsKeys
+use Rattle.state.specs.Slots as StateSlots
+use Rattle.events.specs.Controls as EventsControls
+use Rattle.events.specs.Striking as EventsStriking
+use Rattle.events.specs.Starting as EventsStarting
+use Rattle.engine.specs.Rendering as EngineRendering
+use Rattle.state.specs.Seats as StateSeats
+use Rattle.state.specs.Quiet as StateQuiet
 
 -- a bank: one preset, one instrument, one sample of rate 44,100 at key 60, mode 1, loop 0..4, no delay
 abbrev bell : List ℕ
@@ -139,7 +139,7 @@ record Computed : Type 0 where
 
 -- each by running the definitions
 computed : Computed
-unfolding CurvesLevels.gainOf CurvesLevels.cbOf CurvesLevels.above CurvesLevels.leastCb CurvesTimes.framesUp CurvesTimes.frames CurvesPitch.bendCents CurvesPitch.stepOf CurvesPitch.stepAt CurvesTables.allLe RecordsInternalAmounts.pouredFrom RecordsInternalAmounts.poured ArithBytes.u8At ArithBytes.u16At ArithBytes.u32At ArithBytes.i8At ArithBytes.i16At RecordsChunks.chunkAt RecordsChunks.nameAt RecordsChunks.bytesIn RecordsChunks.body RecordsChunks.records RecordsLooking.first RecordsLooking.last RecordsSides.presets RecordsSides.instruments RecordsSides.partsOf RecordsSides.bagOf RecordsSides.genOf RecordsSides.modOf RecordsSides.operator RecordsSides.amount RecordsSides.signed RecordsHeaders.programOf RecordsHeaders.bankOf ArithWhole.between ArithWhole.betweenZ ArithWhole.modZ ArithWhole.word32 RecordsWindows.shifted RecordsWindows.placeMoved RecordsWindows.startOf RecordsWindows.endOf RecordsWindows.loopStartOf RecordsWindows.loopEndOf RecordsWindows.modeOf RecordsWindows.loops RecordsWindows.goodPlaces RecordsWindows.goodWindow RecordsHeaders.rateOf RecordsHeaders.romOf RecordsZones.zoneCount RecordsZones.genCount RecordsZones.has RecordsZones.closingOf RecordsZones.zoneAt RecordsZones.globalOf RecordsZones.lastOf RecordsZones.amountIn RecordsZones.value RecordsZones.zoneBelow RecordsZones.firstZone BankAdmission.longFault BankFraming.badChunk BankFraming.chunkFault BankFraming.badRecords BankFraming.recordsFault BankIndexes.fallsAt BankIndexes.endsWrong BankIndexes.badAt BankIndexes.badHead BankIndexes.badBag BankIndexes.headFault BankIndexes.bagFault BankIndexes.indexFault BankLinks.badNumber BankLinks.zoneLinkAt BankLinks.linkFault BankLinks.numberFault BankRates.namesSample BankRates.badRate BankRates.rateFault BankBounds.badWindow BankBounds.windowFault BankAdmission.faultOf BankAdmission.admitted LayersLayerSearch.isPreset LayersLayerSearch.presetFor LayersLayerSearch.picked LayersLayerSearch.chosen LayersLayerSearch.under LayersLayerSearch.allUnder LayersLayerSearch.layersBelow LayersLayerSearch.layersOf LayersInternalLayerSearch.layerCount LayersInternalLayerSearch.upTo33 LayersInternalLayerSearch.searched LayersLayerSearch.layerOf LayersRanges.rangeAt LayersRanges.inside LayersRanges.hasAs LayersRanges.keyRange LayersRanges.velocityRange LayersRanges.matches TotalsValues.instrumentOnly TotalsValues.defaultOf TotalsValues.heldTotal TotalsValues.totalOf TotalsValues.total TotalsSettings.ifMidi TotalsSettings.keyOf TotalsSettings.rootOf TotalsSettings.pitchOf TotalsSettings.keyedTime TotalsSettings.softness TotalsSettings.attenuationOf TotalsSettings.playMode LayersVoicing.voiceBy LayersVoicing.voiceOf LayersVoicing.voicesOf LayersVoicing.hasPreset LayersVoicing.struckVoices LayersInternalVoicing.struckOf VoiceFrames.goOn VoiceFrames.loud VoiceFrames.readAndMoved VoiceFrames.living VoiceFrames.frameAt VoiceFrames.frame VoiceMotion.pitchTotal VoiceMotion.step VoiceMotion.folds VoiceMotion.fold VoiceMotion.settled VoiceMotion.ended VoiceRelease.release VoiceFrames.after VoiceInternalFrames.heard VoiceInternalFrames.afterAt VoiceInternalFrames.heardAt VoiceStages.levelAt VoiceStages.decayAt VoiceStages.releaseAt VoiceStages.fromDecay VoiceStages.fromHold VoiceStages.fromAttack VoiceStages.fromDelay EngineBend.pitchBend EngineControls.pedalHeld EngineControls.cut EngineControls.pedal EngineControls.silence EngineControls.controlled EngineControls.controlChange EngineLentBank.bankFrom EngineNoteOff.ofChannel EngineNoteOff.held EngineNoteOff.heldKey EngineNoteOff.letOff EngineNoteOff.off EngineNoteOff.offKey EngineNoteOff.noteOff EngineNoteOn.channelBank EngineNoteOn.anyPast EngineNoteOn.classIn EngineNoteOn.rival EngineNoteOn.start EngineNoteOn.startAll EngineNoteOn.cleared EngineNoteOn.struck EngineNoteOn.noteOnNumber EngineNoteOn.noteOn EngineRender.distance EngineRender.window EngineRender.lacking EngineRender.renderNumber EngineRender.played EngineRender.render EngineSeats.lowestFree EngineSeats.claim EngineSeats.leastBy EngineSeats.taken EngineSeats.seat EngineSeats.without EngineSeats.renewed EngineSeats.startIn EngineSlots.paired EngineSlots.wordOf EngineFresh.fresh run framesRun seats among
+unfolding CurvesLevels.gainOf CurvesLevels.cbOf CurvesLevels.above CurvesLevels.leastCb CurvesTimes.framesUp CurvesTimes.frames CurvesPitch.bendCents CurvesPitch.stepOf CurvesPitch.stepAt CurvesTables.allLe RecordsInternalAmounts.pouredFrom RecordsInternalAmounts.poured ArithBytes.u8At ArithBytes.u16At ArithBytes.u32At ArithBytes.i8At ArithBytes.i16At RecordsChunks.chunkAt RecordsChunks.nameAt RecordsChunks.bytesIn RecordsChunks.body RecordsChunks.records RecordsLooking.first RecordsLooking.last RecordsSides.presets RecordsSides.instruments RecordsSides.partsOf RecordsSides.bagOf RecordsSides.genOf RecordsSides.modOf RecordsSides.operator RecordsSides.amount RecordsSides.signed RecordsHeaders.programOf RecordsHeaders.bankOf ArithHolds.between ArithHolds.betweenZ ArithFloors.modZ ArithHolds.word32 RecordsWindows.shifted RecordsWindows.placeMoved RecordsWindows.startOf RecordsWindows.endOf RecordsWindows.loopStartOf RecordsWindows.loopEndOf RecordsWindows.modeOf RecordsWindows.loops RecordsWindows.goodPlaces RecordsWindows.goodWindow RecordsHeaders.rateOf RecordsHeaders.romOf RecordsZones.zoneCount RecordsZones.genCount RecordsZones.has RecordsZones.closingOf RecordsZones.zoneAt RecordsZones.globalOf RecordsZones.lastOf RecordsZones.amountIn RecordsZones.value RecordsZones.zoneBelow RecordsZones.firstZone BankAdmission.longFault BankFraming.badChunk BankFraming.chunkFault BankFraming.badRecords BankFraming.recordsFault BankIndexes.fallsAt BankIndexes.endsWrong BankIndexes.badAt BankIndexes.badHead BankIndexes.badBag BankIndexes.headFault BankIndexes.bagFault BankIndexes.indexFault BankLinks.badNumber BankLinks.zoneLinkAt BankLinks.linkFault BankLinks.numberFault BankRates.namesSample BankRates.badRate BankRates.rateFault BankBounds.badWindow BankBounds.windowFault BankAdmission.faultOf BankAdmission.admitted LayersLayerSearch.isPreset LayersLayerSearch.presetFor LayersLayerSearch.picked LayersLayerSearch.chosen LayersLayerSearch.under LayersLayerSearch.allUnder LayersLayerSearch.layersBelow LayersLayerSearch.layersOf LayersInternalLayerSearch.layerCount LayersInternalLayerSearch.upTo33 LayersInternalLayerSearch.searched LayersLayerSearch.layerOf LayersRanges.rangeAt LayersRanges.inside LayersRanges.hasAs LayersRanges.keyRange LayersRanges.velocityRange LayersRanges.matches TotalsValues.instrumentOnly TotalsValues.defaultOf TotalsValues.heldTotal TotalsValues.totalOf TotalsValues.total TotalsSettings.ifMidi TotalsSettings.keyOf TotalsSettings.rootOf TotalsSettings.pitchOf TotalsSettings.keyedTime TotalsSettings.softness TotalsSettings.attenuationOf TotalsSettings.playMode LayersVoicing.voiceBy LayersVoicing.voiceOf LayersVoicing.voicesOf LayersVoicing.hasPreset LayersVoicing.struckVoices LayersInternalVoicing.struckOf VoiceFrames.goOn VoiceFrames.loud VoiceFrames.readAndMoved VoiceFrames.living VoiceFrames.frameAt VoiceFrames.frame VoiceMotion.pitchTotal VoiceMotion.step VoiceMotion.folds VoiceMotion.fold VoiceMotion.settled VoiceMotion.ended VoiceRelease.release VoiceFrames.after VoiceInternalFrames.heard VoiceInternalFrames.afterAt VoiceInternalFrames.heardAt VoiceStages.levelAt VoiceStages.decayAt VoiceStages.releaseAt VoiceStages.fromDecay VoiceStages.fromHold VoiceStages.fromAttack VoiceStages.fromDelay EventsBends.pitchBend EventsKeys.pedalHeld StateSlots.cut EventsControls.pedal EventsControls.silence EventsControls.controlled EventsControls.controlChange EventsStriking.bankFrom StateSlots.ofChannel EventsKeys.held EventsKeys.heldKey EventsKeys.letOff EventsKeys.off EventsKeys.offKey EventsKeys.noteOff EventsStriking.channelBank EventsStarting.anyPast EventsStarting.classIn EventsStarting.rival EventsStarting.start EventsStarting.startAll EventsStarting.cleared EventsStarting.struck EventsStriking.noteOnNumber EventsStriking.noteOn EngineRendering.distance EngineRendering.window EngineRendering.lacking EngineRendering.renderNumber EngineRendering.played EngineRendering.render StateSeats.lowestFree StateSeats.claim StateSeats.leastBy StateSeats.taken StateSeats.seat StateSeats.without StateSeats.renewed StateSeats.startIn StateSlots.paired StateSlots.wordOf StateQuiet.fresh run framesRun seats among
 computed =
     record {
       struck = refl;
@@ -168,7 +168,7 @@ computed =
 
 -- so demand 3 speaks of it
 pub bell-moved : Moved 0 (pos 0) (framesRun meanwhile (run before fresh)) (run before fresh) (run meanwhile (run before fresh))
-unfolding EngineSlots.paired
+unfolding StateSlots.paired
 bell-moved =
     place-always before 0 (pos 0) meanwhile
     (ap (λ (e : Engine). slotAt e 0 .sounding) (computed .struck))

@@ -5,9 +5,9 @@ use lib.Ieee.{Float}
 use Prim.Native.Nat.{ℕ}
 use mathlib.Core.Bool.{Bool}
 use Rattle.promises.specs.Determined.{Settles, Outcome}
-use Rattle.engine.specs.declared.Answered.{Answered}
+use Rattle.state.specs.declared.Answered.{Answered}
 use Rattle.voice.specs.declared.Shown.{Shown}
-use Rattle.engine.specs.declared.Engine.{Engine}
+use Rattle.state.specs.declared.Engine.{Engine}
 use Rattle.bank.specs.Admission.{faultOf, faultNumber, admitted}
 use Rattle.bank.specs.declared.Listed.{Listed}
 use Rattle.bank.specs.Listing.{listed}
@@ -17,8 +17,8 @@ use Rattle.reader.specs.Reader.{openedOf, nextOf, nthListed}
 use Rattle.reader.specs.declared.Taken.{Taken}
 use Rattle.reader.specs.declared.Step.{Step}
 use Rattle.promises.specs.Determined as D
-use Rattle.engine.specs.Board as EngineBoard
-use Rattle.engine.specs.Fresh as EngineFresh
+use Rattle.state.specs.Board as StateBoard
+use Rattle.state.specs.Quiet as StateQuiet
 
 -- an equation settles its answer
 equation : (A : Type 0) (x : A) → Settles A (λ r. r ≡ x)
@@ -32,13 +32,13 @@ pub calls-determined : D.CallsDetermined
 calls-determined x e o p h k = ap₂ outcome (h .answer ∙ sym (k .answer)) (h .output ∙ sym (k .output))
 
 pub panel-determined : D.PanelDetermined
-panel-determined slot e = equation Shown (EngineBoard.ask slot e)
+panel-determined slot e = equation Shown (StateBoard.ask slot e)
 
 pub voice-count-determined : D.VoiceCountDetermined
-voice-count-determined e = equation ℕ (EngineBoard.voiceCount e)
+voice-count-determined e = equation ℕ (StateBoard.voiceCount e)
 
 pub fresh-determined : D.FreshDetermined
-fresh-determined = equation Engine EngineFresh.fresh
+fresh-determined = equation Engine StateQuiet.fresh
 
 pub admit-determined : D.AdmitDetermined
 admit-determined bank = equation ℕ (faultNumber (faultOf bank))

@@ -12,25 +12,25 @@ use lib.Ieee.{Float}
 use Rattle.voice.specs.declared.Voice.{Voice}
 use Rattle.voice.specs.declared.Slot.{Slot}
 use Rattle.voice.specs.Release.{release}
-use Rattle.engine.specs.NoteOff.{mark, withVoice, letOff, ofChannel, held, pedalDown, heldKey, off, offKey, noteOff}
-use Rattle.voice.specs.Records.{free, sounds, blank}
-use Rattle.engine.specs.Controls.{cut, pedalHeld, pedal, silence, controlled, withPedal, controlChange}
-use Rattle.engine.specs.NoteOn.{Started, start, startAll, classIn, rival, cleared, struck, layerVoices, noteOnNumber, noteOn}
+use Rattle.events.specs.Keys.{mark, letOff, held, pedalDown, heldKey, pedalHeld, off, offKey, noteOff}
+use Rattle.state.specs.Slots.{withVoice, cut, slotAt, slotsOf, withSlots, ofChannel, withClock}
+use Rattle.voice.specs.Changes.{free, sounds, blank}
+use Rattle.events.specs.Starting.{Started, start, startAll, classIn, rival, cleared, struck}
 use Rattle.promises.specs.Calls.{seats, among, voiceIn, Call, next, framesOf, begun, startsIn, channelOf}
-use Rattle.engine.specs.Slots.{slotAt, slotsOf, withSlots, withClock}
-use Rattle.engine.proofs.SlotsLaws.{slots-back, slot-other, slot-map}
-use Rattle.engine.specs.Seats.{seat, startIn}
-use Rattle.engine.specs.declared.Engine.{Engine}
-use Rattle.engine.specs.Render.{slotAfter, distance, played, renderNumber, render}
+use Rattle.state.proofs.SlotsLaws.{slots-back, slot-other, slot-map}
+use Rattle.state.specs.Seats.{seat, startIn}
+use Rattle.state.specs.declared.Engine.{Engine}
+use Rattle.engine.specs.Rendering.{slotAfter, distance, played, renderNumber, render}
 use Rattle.voice.specs.Stages.{released}
-use Rattle.engine.specs.declared.Answered.{Answered}
-use Rattle.engine.specs.Channels.{channelAt, withChannel}
-use Rattle.engine.specs.Answers.{refused, answer, done, pastTwo, pastOne, pastBend}
-use Rattle.engine.proofs.NoteOffLaws.{off-keeps}
-use Rattle.engine.specs.LentBank.{bankFrom}
-use Rattle.engine.proofs.RenderLaws.{slot-stays}
-use Rattle.engine.specs.Program.{withProgram, programChange}
-use Rattle.engine.specs.Bend.{withBend, pitchBend}
+use Rattle.events.specs.Controls.{pedal, silence, controlled, withPedal, controlChange}
+use Rattle.state.specs.declared.Answered.{Answered}
+use Rattle.state.specs.Channels.{channelAt, withChannel}
+use Rattle.state.specs.Answers.{refused, answer, done, pastTwo, pastOne, pastBend}
+use Rattle.events.proofs.KeysLaws.{off-keeps}
+use Rattle.events.specs.Striking.{layerVoices, noteOnNumber, noteOn, bankFrom}
+use Rattle.engine.proofs.RenderingLaws.{slot-stays}
+use Rattle.events.specs.Programs.{withProgram, programChange}
+use Rattle.events.specs.Bends.{withBend, pitchBend}
 use Rattle.promises.specs.Calls as Calls
 
 -- v is one of a list

@@ -12,7 +12,7 @@ use Rattle.voice.specs.declared.Stage.{Stage}
 use Rattle.voice.specs.declared.Voice.{Voice}
 use Rattle.voice.specs.declared.Channel.{Channel}
 use Rattle.voice.specs.declared.Slot.{Slot}
-use Rattle.voice.specs.Records.{withMoved}
+use Rattle.voice.specs.Changes.{withMoved}
 use Rattle.voice.specs.Stages.{spent, released, releaseAt, entered, dead}
 use Rattle.voice.specs.Sound.{loss}
 use Rattle.voice.specs.Motion.{step}

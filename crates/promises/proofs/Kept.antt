@@ -9,24 +9,24 @@ use native.Mathlib.Omega.{arith}
 use Rattle.voice.specs.declared.Voice.{Voice}
 use Rattle.voice.specs.declared.Channel.{Channel}
 use Rattle.voice.specs.declared.Slot.{Slot}
-use Rattle.engine.specs.declared.Engine.{Engine}
-use Rattle.engine.specs.Slots.{slotsOf, withSlots, withClock, wordOf}
-use Rattle.engine.specs.Channels.{withChannel, channelAt, freshChannel}
-use Rattle.engine.specs.Seats.{seat, startIn}
-use Rattle.engine.specs.NoteOn.{start, Started, startAll, cleared, rival, struck, layerVoices, noteOnNumber, noteOn}
-use Rattle.engine.specs.declared.Answered.{Answered}
-use Rattle.engine.specs.Answers.{done, refused, answer, pastOne, pastTwo, pastBend}
-use Rattle.engine.specs.NoteOff.{letOff, pedalDown, heldKey, held, off, offKey, noteOff, ofChannel}
-use Rattle.engine.specs.Controls.{cut, pedalHeld, pedal, silence, controlled, controlChange, withStored, withVolume, withExpression, withPedal}
-use Rattle.engine.specs.Program.{withProgram, programChange}
-use Rattle.engine.specs.Bend.{withBend, pitchBend}
-use Rattle.engine.specs.Render.{distance, slotAfter, played, renderNumber, render}
-use Rattle.engine.specs.LentBank.{bankFrom}
+use Rattle.state.specs.declared.Engine.{Engine}
+use Rattle.state.specs.Slots.{slotsOf, withSlots, withClock, ofChannel, cut, wordOf}
+use Rattle.state.specs.Channels.{withChannel, channelAt}
+use Rattle.state.specs.Seats.{seat, startIn}
+use Rattle.events.specs.Starting.{start, Started, startAll, cleared, rival, struck}
+use Rattle.events.specs.Striking.{layerVoices, noteOnNumber, noteOn, bankFrom}
+use Rattle.state.specs.declared.Answered.{Answered}
+use Rattle.state.specs.Answers.{done, refused, answer, pastOne, pastTwo, pastBend}
+use Rattle.events.specs.Keys.{letOff, pedalDown, heldKey, held, off, offKey, noteOff, pedalHeld}
+use Rattle.events.specs.Controls.{pedal, silence, controlled, controlChange, withStored, withVolume, withExpression, withPedal}
+use Rattle.events.specs.Programs.{withProgram, programChange}
+use Rattle.events.specs.Bends.{withBend, pitchBend}
+use Rattle.engine.specs.Rendering.{distance, slotAfter, played, renderNumber, render}
 use Rattle.promises.specs.Calls.{Call, next, run}
 use Rattle.promises.proofs.EachSlot.{either}
-use Rattle.engine.proofs.SlotLoopLaws.{word-lt, paired-length}
-use Rattle.voice.specs.Records.{sounds, blank}
-use Rattle.engine.specs.Fresh.{fresh}
+use Rattle.state.proofs.SlotLoopLaws.{word-lt, paired-length}
+use Rattle.voice.specs.Changes.{sounds, blank}
+use Rattle.state.specs.Quiet.{freshChannel, fresh}
 use Rattle.promises.specs.Calls as Calls
 
 -- a property that no part of a call breaks

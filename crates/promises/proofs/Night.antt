@@ -11,34 +11,34 @@ use lib.Seq.{getD-set-other}
 use lib.IntN.{ℤ}
 use mathlib.Core.Logic.{_⊎_, ⊎-elim, inl, inr}
 use Rattle.voice.specs.declared.Voice.{Voice}
-use Rattle.voice.specs.Records.{free, blank, sounds}
-use Rattle.engine.specs.NoteOff.{ofChannel, withVoice, letOff, noteOff, pedalDown, off, offKey, held, heldKey, mark}
-use Rattle.engine.specs.Controls.{pedalHeld, withPedal, pedal, controlled, controlChange, withStored, withVolume, withExpression, silence}
+use Rattle.voice.specs.Changes.{free, blank, sounds}
+use Rattle.state.specs.Slots.{ofChannel, withVoice, slotsOf, withSlots, slotAt, withClock}
+use Rattle.events.specs.Keys.{pedalHeld, letOff, noteOff, pedalDown, off, offKey, held, heldKey, mark}
 use Rattle.voice.specs.declared.Slot.{Slot}
 use Rattle.voice.specs.Release.{release}
-use Rattle.engine.specs.declared.Engine.{Engine}
-use Rattle.engine.specs.Slots.{slotsOf, withSlots, slotAt, withClock}
-use Rattle.engine.specs.Channels.{channelAt, withChannel, noChannel}
-use Rattle.engine.proofs.SlotsLaws.{slot-map}
-use Rattle.engine.proofs.NoteOffLaws.{off-keeps}
+use Rattle.events.specs.Controls.{withPedal, pedal, controlled, controlChange, withStored, withVolume, withExpression, silence}
+use Rattle.state.specs.declared.Engine.{Engine}
+use Rattle.state.specs.Channels.{channelAt, withChannel, noChannel}
+use Rattle.state.proofs.SlotsLaws.{slot-map}
+use Rattle.events.proofs.KeysLaws.{off-keeps}
 use Rattle.promises.proofs.EachSlot.{letOff-picked, either, and-both, never, What, stands, pedalled, loosed, freed, started, goes, what, held-channel, Among}
 use Rattle.promises.specs.Demand2.{LiftingReleases, VelocityZeroIsNoteOff, NoMarkWithoutPedal, strikes, leaves, struckAfter, Into, ends, left, right, Piece, Overlap, quiet, more, OctoberNight}
-use Rattle.engine.specs.NoteOn.{noteOn, Started, start, startAll, cleared, struck, layerVoices, noteOnNumber}
+use Rattle.events.specs.Striking.{noteOn, layerVoices, noteOnNumber, bankFrom}
 use Rattle.voice.specs.declared.Channel.{Channel}
-use Rattle.engine.specs.Answers.{pastTwo, done, refused, answer, pastOne, pastBend}
-use Rattle.engine.proofs.AnswersLaws.{or-no}
+use Rattle.state.specs.Answers.{pastTwo, done, refused, answer, pastOne, pastBend}
+use Rattle.state.proofs.AnswersLaws.{or-no}
 use Rattle.promises.specs.Calls.{Call, next, voiceIn, framesOf, channelOf, run, begun}
-use Rattle.engine.specs.declared.Answered.{Answered}
-use Rattle.engine.specs.Program.{withProgram, programChange}
-use Rattle.engine.specs.Bend.{withBend, pitchBend}
-use Rattle.engine.specs.Seats.{startIn}
-use Rattle.engine.specs.Render.{distance, played, renderNumber, render, window, slotAfter}
-use Rattle.engine.specs.LentBank.{bankFrom}
+use Rattle.events.specs.Starting.{Started, start, startAll, cleared, struck}
+use Rattle.state.specs.declared.Answered.{Answered}
+use Rattle.events.specs.Programs.{withProgram, programChange}
+use Rattle.events.specs.Bends.{withBend, pitchBend}
+use Rattle.state.specs.Seats.{startIn}
+use Rattle.engine.specs.Rendering.{distance, played, renderNumber, render, window, slotAfter}
 use Rattle.voice.specs.Stages.{released}
 use Rattle.voice.specs.Frames.{after}
 use Rattle.promises.proofs.Frames.{after-keeps, after-sounded, late-none, late-after}
 use Rattle.promises.proofs.Banks.{came}
-use Rattle.engine.specs.Fresh.{fresh}
+use Rattle.state.specs.Quiet.{fresh}
 use Rattle.promises.proofs.Voices.{fresh-free, from-fresh}
 use Rattle.promises.proofs.Demand2.{reaches, gone, free-held}
 use Rattle.promises.specs.Calls as Calls

@@ -10,29 +10,29 @@ use native.Mathlib.Omega.{arith}
 use lib.IntN.{ℤ, pos, negsuc}
 use borrow.Author.Tests.{eqb-true, eqb-false, ltb-true, ltb-false, leb-true, leb-false}
 use lib.Ieee.{Float}
-use Rattle.engine.specs.Fresh.{fresh}
-use Rattle.engine.specs.Board.{voiceCount}
-use Rattle.engine.proofs.SeatsLaws.{ones-voices as word-voices}
+use Rattle.state.specs.Quiet.{fresh}
+use Rattle.state.specs.Board.{voiceCount}
+use Rattle.state.proofs.SeatsLaws.{ones-voices as word-voices}
 use Rattle.promises.specs.Calls.{run, next, channelOf, does, written}
 use Rattle.promises.proofs.Seats.{sized-run}
 use Rattle.promises.specs.Demand2.{OnesAreVoices, OtherVoicesStand, OtherChannelsStand, Fraction, OutputIsExact, CutsDoNotMatter}
 use Rattle.voice.specs.Frames.{after}
-use Rattle.engine.specs.Slots.{slotAt, withClock}
-use Rattle.engine.specs.Render.{slotAfter, distance, played, renderNumber, render, mixed, leftSum, rightSum, output, rendered}
+use Rattle.state.specs.Slots.{slotAt, withClock}
+use Rattle.engine.specs.Rendering.{slotAfter, distance, played, renderNumber, render, mixed, leftSum, rightSum, output, rendered}
 use Rattle.promises.proofs.EachSlot.{What, stands, pedalled, loosed, freed, started, goes, never, what, held-channel, either}
 use Rattle.voice.specs.declared.Voice.{Voice}
 use Rattle.voice.specs.declared.Channel.{Channel}
-use Rattle.engine.specs.declared.Engine.{Engine}
-use Rattle.engine.specs.declared.Answered.{Answered}
-use Rattle.engine.specs.Channels.{channelAt, withChannel, noChannel}
-use Rattle.engine.specs.Answers.{refused, answer, done, pastOne, pastTwo, pastBend}
-use Rattle.engine.specs.NoteOff.{off, offKey, noteOff}
-use Rattle.engine.specs.Controls.{withStored, withVolume, withExpression, withPedal, pedal, silence, controlled, controlChange}
-use Rattle.engine.specs.Seats.{startIn}
-use Rattle.engine.specs.NoteOn.{Started, start, startAll, cleared, struck, layerVoices, noteOnNumber, noteOn}
-use Rattle.engine.specs.Program.{withProgram, programChange}
-use Rattle.engine.specs.Bend.{withBend, pitchBend}
-use Rattle.engine.specs.LentBank.{bankFrom}
+use Rattle.state.specs.declared.Engine.{Engine}
+use Rattle.state.specs.declared.Answered.{Answered}
+use Rattle.state.specs.Channels.{channelAt, withChannel, noChannel}
+use Rattle.state.specs.Answers.{refused, answer, done, pastOne, pastTwo, pastBend}
+use Rattle.events.specs.Keys.{off, offKey, noteOff}
+use Rattle.events.specs.Controls.{withStored, withVolume, withExpression, withPedal, pedal, silence, controlled, controlChange}
+use Rattle.state.specs.Seats.{startIn}
+use Rattle.events.specs.Starting.{Started, start, startAll, cleared, struck}
+use Rattle.events.specs.Striking.{layerVoices, noteOnNumber, noteOn, bankFrom}
+use Rattle.events.specs.Programs.{withProgram, programChange}
+use Rattle.events.specs.Bends.{withBend, pitchBend}
 use Rattle.arith.proofs.HoldsLaws.{held-within}
 use Rattle.arith.specs.Holds.{heldTo}
 use Rattle.arith.proofs.FloatsLaws.{unit-exact}

@@ -15,8 +15,8 @@ use Rattle.voice.proofs.BoundsLaws.{level-le}
 use Rattle.voice.specs.Panel.{stageShown, levelsOf, stageParts, shown, slotParts}
 use Rattle.voice.specs.Stages.{envelope}
 use Rattle.promises.specs.Demand2.{Levels, PanelIsExact}
-use Rattle.engine.specs.Slots.{slotAt}
-use Rattle.engine.specs.Board.{ask}
+use Rattle.state.specs.Slots.{slotAt}
+use Rattle.state.specs.Board.{ask}
 use Rattle.voice.specs.declared.Shown.the-variants as is
 
 -- each stage

@@ -5,9 +5,10 @@ use lib.IntN.{ℤ, pos, negℤ}
 use mathlib.Core.Bool.{Bool, false, true, cond}
 use lib.ListN.{replicate}
 use mathlib.Core.Path.{_≡_, refl}
-use Rattle.engine.specs.declared.Engine.{Engine}
-use Rattle.engine.specs.NoteOn.{Bank, start, channelBank, anyPast, classIn, rival, startAll, cleared, struck, noteOnNumber}
-use Rattle.engine.specs.Controls.{controlChange, pedal, pedalHeld, cut, silence, controlled}
+use Rattle.state.specs.declared.Engine.{Engine}
+use Rattle.events.specs.Striking.{Bank, channelBank, noteOnNumber}
+use Rattle.events.specs.Controls.{controlChange, pedal, silence, controlled}
+use Rattle.events.specs.Starting.{start, anyPast, classIn, rival, startAll, cleared, struck}
 use Rattle.voice.specs.declared.Stage.{Stage}
 use Rattle.voice.specs.declared.Voice.{Voice}
 use Rattle.voice.specs.Release.{release}
@@ -17,25 +18,25 @@ use Rattle.voice.specs.Sound.{loss, gained, leftOf, rightOf}
 use Rattle.voice.specs.Motion.{step, pitchTotal, folds, fold, settled, ended}
 use Rattle.voice.specs.Internal.Frames.{heardAt, afterAt}
 use Rattle.voice.specs.Stages.{released, levelAt, decayAt, releaseAt, fromDelay, fromAttack, fromHold, fromDecay}
-use Rattle.engine.specs.Slots.{slotsOf, paired, wordOf}
+use Rattle.state.specs.Slots.{slotsOf, cut, paired, wordOf, ofChannel}
 use Rattle.curves.specs.Pitch.{stepOf, bendCents}
 use Rattle.curves.specs.Levels.{gainOf, cbOf, leastCb, above}
 use Rattle.voice.specs.declared.Stage.the-variants.{Delay}
-use Rattle.voice.specs.Records.{sounds}
+use Rattle.voice.specs.Changes.{sounds}
 use Rattle.voice.specs.Reading.{behind, reading}
 use Rattle.voice.specs.Frames.{goOn, loud, readAndMoved, living, frameAt, frame, after}
-use Rattle.engine.specs.Fresh.{fresh}
-use Rattle.engine.specs.NoteOff.{ofChannel, held, heldKey, letOff, off, offKey}
-use Rattle.engine.specs.Seats.{lowestFree, claim, leastBy, taken, seat, without, renewed, startIn}
-use Rattle.engine.specs.NoteOn as NoteOn
-use Rattle.engine.specs.NoteOff as NoteOff
+use Rattle.events.specs.Keys.{pedalHeld, held, heldKey, letOff, off, offKey}
+use Rattle.state.specs.Quiet.{fresh}
+use Rattle.state.specs.Seats.{lowestFree, claim, leastBy, taken, seat, without, renewed, startIn}
+use Rattle.events.specs.Striking as EventsStriking
+use Rattle.events.specs.Keys as EventsKeys
 
 -- calls over a bank that is given as a record, and a run of them
 abbrev noteOn : Bank → List ℤ → List ℤ → ℕ → ℕ → ℕ → Engine → Engine
-noteOn b ram rom c k v e = NoteOn.noteOn b ram rom c k v e .engine
+noteOn b ram rom c k v e = EventsStriking.noteOn b ram rom c k v e .engine
 
 abbrev noteOff : ℕ → ℕ → Engine → Engine
-noteOff c k e = NoteOff.noteOff c k e .engine
+noteOff c k e = EventsKeys.noteOff c k e .engine
 
 abbrev control : ℕ → ℕ → ℕ → Engine → Engine
 control c n v e = controlChange c n v e .engine
@@ -195,7 +196,7 @@ run0 :
     ∷ noteOn (bank (mk (Delay 0) 0 1 62 1 false 1 4 0 0 3 44100 (pos 1796) (negℤ (pos 191)) (pos 186) 0 2 2 0 1 ∷ mk (Delay 0) 0 1 62 1 false 0 1 3 0 1 50000 (negℤ (pos 6478)) (negℤ (pos 141)) (pos 267) 5 0 7 100 9 ∷ mk (Delay 1) 0 1 62 1 false 0 1 0 0 1 44100 (pos 166) (pos 334) (pos 69) 5 0 7 0 4 ∷ [])) ram ram 1 62 1
     ∷ noteOn (bank (mk (Delay 0) 0 0 63 127 false 0 2 1 1 2 8000 (negℤ (pos 9298)) (pos 74) (pos 163) 0 1 0 1000 0 ∷ [])) ram ram 0 63 127
     ∷ []) fresh) ≡ ((4294967295), (63001 ∷ 63001 ∷ 65100 ∷ 65100 ∷ 66127 ∷ 62001 ∷ 62001 ∷ 62020 ∷ 63127 ∷ 62020 ∷ 66127 ∷ 65064 ∷ 61127 ∷ 61127 ∷ 60020 ∷ 66001 ∷ 65020 ∷ 65127 ∷ 60127 ∷ 60127 ∷ 60127 ∷ 65020 ∷ 61064 ∷ 66100 ∷ 65127 ∷ 65127 ∷ 65127 ∷ 61100 ∷ 61100 ∷ 62100 ∷ 63127 ∷ 62001 ∷ []), (0 ∷ 0 ∷ 0 ∷ 0 ∷ 0 ∷ 0 ∷ 0 ∷ 0 ∷ 0 ∷ 0 ∷ 0 ∷ 0 ∷ 0 ∷ 0 ∷ 0 ∷ 0 ∷ 0 ∷ 0 ∷ 0 ∷ 0 ∷ 0 ∷ 0 ∷ 0 ∷ 0 ∷ 0 ∷ 0 ∷ 0 ∷ 0 ∷ 0 ∷ 0 ∷ 0 ∷ 0 ∷ []))
-unfolding run fresh paired wordOf ofChannel held heldKey letOff off offKey NoteOff.noteOff pedalHeld cut pedal silence controlled controlChange lowestFree claim leastBy taken seat without renewed startIn NoteOn.noteOn channelBank anyPast classIn rival start startAll cleared struck noteOnNumber release leastCb above levelAt decayAt releaseAt keysOf marksOf
+unfolding run fresh paired wordOf ofChannel held heldKey letOff off offKey EventsKeys.noteOff pedalHeld cut pedal silence controlled controlChange lowestFree claim leastBy taken seat without renewed startIn EventsStriking.noteOn channelBank anyPast classIn rival start startAll cleared struck noteOnNumber release leastCb above levelAt decayAt releaseAt keysOf marksOf
 run0 = refl
 
 run1 :
@@ -220,7 +221,7 @@ run1 :
     ∷ noteOn (bank (mk (Delay 1) 0 1 60 20 false 0 3 3 0 2 8000 (pos 671) (negℤ (pos 28)) (negℤ (pos 94)) 0 1 2 0 9 ∷ mk (Delay 0) 0 1 60 20 false 0 2 1 1 2 50000 (pos 5463) (negℤ (pos 145)) (pos 338) 5 1 7 100 9 ∷ [])) ram ram 1 60 20
     ∷ control 0 64 0
     ∷ []) fresh) ≡ ((4194303), (64127 ∷ 64064 ∷ 64064 ∷ 60100 ∷ 63100 ∷ 60001 ∷ 60020 ∷ 60020 ∷ 61100 ∷ 63127 ∷ 60127 ∷ 60127 ∷ 61020 ∷ 61127 ∷ 62020 ∷ 64127 ∷ 64127 ∷ 63020 ∷ 61064 ∷ 65001 ∷ 60020 ∷ 60020 ∷ []), (0 ∷ 0 ∷ 0 ∷ 1 ∷ 1 ∷ 1 ∷ 0 ∷ 0 ∷ 0 ∷ 1 ∷ 0 ∷ 0 ∷ 0 ∷ 0 ∷ 1 ∷ 0 ∷ 0 ∷ 0 ∷ 0 ∷ 0 ∷ 0 ∷ 0 ∷ []))
-unfolding run fresh paired wordOf ofChannel held heldKey letOff off offKey NoteOff.noteOff pedalHeld cut pedal silence controlled controlChange lowestFree claim leastBy taken seat without renewed startIn NoteOn.noteOn channelBank anyPast classIn rival start startAll cleared struck noteOnNumber release leastCb above levelAt decayAt releaseAt keysOf marksOf
+unfolding run fresh paired wordOf ofChannel held heldKey letOff off offKey EventsKeys.noteOff pedalHeld cut pedal silence controlled controlChange lowestFree claim leastBy taken seat without renewed startIn EventsStriking.noteOn channelBank anyPast classIn rival start startAll cleared struck noteOnNumber release leastCb above levelAt decayAt releaseAt keysOf marksOf
 run1 = refl
 
 run2 :
@@ -265,7 +266,7 @@ run2 :
     ∷ noteOn (bank (mk (Delay 1) 0 0 62 20 false 0 4 1 3 4 50000 (negℤ (pos 5243)) (negℤ (pos 335)) (pos 353) 3 2 0 1000 0 ∷ [])) ram ram 0 62 20
     ∷ noteOn (bank (mk (Delay 0) 0 1 62 64 false 0 1 3 0 1 44100 (pos 4080) (negℤ (pos 103)) (pos 307) 3 2 7 1000 1 ∷ [])) ram ram 1 62 64
     ∷ []) fresh) ≡ ((268435455), (64127 ∷ 64127 ∷ 65020 ∷ 62064 ∷ 66020 ∷ 66064 ∷ 60100 ∷ 66064 ∷ 64001 ∷ 66127 ∷ 65020 ∷ 66064 ∷ 63127 ∷ 63127 ∷ 60127 ∷ 60100 ∷ 63064 ∷ 60064 ∷ 60064 ∷ 62064 ∷ 61064 ∷ 63001 ∷ 66020 ∷ 63020 ∷ 63020 ∷ 63020 ∷ 62020 ∷ 62064 ∷ []), (1 ∷ 1 ∷ 0 ∷ 0 ∷ 0 ∷ 0 ∷ 1 ∷ 0 ∷ 1 ∷ 0 ∷ 0 ∷ 0 ∷ 0 ∷ 0 ∷ 1 ∷ 1 ∷ 0 ∷ 1 ∷ 1 ∷ 1 ∷ 1 ∷ 0 ∷ 0 ∷ 0 ∷ 0 ∷ 0 ∷ 0 ∷ 0 ∷ []))
-unfolding run fresh paired wordOf ofChannel held heldKey letOff off offKey NoteOff.noteOff pedalHeld cut pedal silence controlled controlChange lowestFree claim leastBy taken seat without renewed startIn NoteOn.noteOn channelBank anyPast classIn rival start startAll cleared struck noteOnNumber release leastCb above levelAt decayAt releaseAt keysOf marksOf
+unfolding run fresh paired wordOf ofChannel held heldKey letOff off offKey EventsKeys.noteOff pedalHeld cut pedal silence controlled controlChange lowestFree claim leastBy taken seat without renewed startIn EventsStriking.noteOn channelBank anyPast classIn rival start startAll cleared struck noteOnNumber release leastCb above levelAt decayAt releaseAt keysOf marksOf
 run2 = refl
 
 run3 :
@@ -310,5 +311,5 @@ run3 :
     ∷ noteOn (bank (mk (Delay 2) 0 1 64 64 false 0 4 1 1 2 8000 (negℤ (pos 3541)) (pos 294) (pos 359) 3 0 2 0 9 ∷ mk (Delay 0) 0 1 64 64 false 0 1 1 0 1 44100 (negℤ (pos 10036)) (negℤ (pos 141)) (negℤ (pos 67)) 1 2 2 999 0 ∷ [])) ram ram 1 64 64
     ∷ noteOn (bank (mk (Delay 1) 0 0 62 100 false 0 1 1 0 1 8000 (negℤ (pos 132)) (pos 436) (negℤ (pos 152)) 3 2 0 1000 4 ∷ [])) ram ram 0 62 100
     ∷ []) fresh) ≡ ((4294967295), (61020 ∷ 66064 ∷ 61100 ∷ 65020 ∷ 64100 ∷ 66020 ∷ 65020 ∷ 65127 ∷ 66020 ∷ 66020 ∷ 66020 ∷ 63001 ∷ 65127 ∷ 65127 ∷ 64064 ∷ 64064 ∷ 62100 ∷ 66127 ∷ 64127 ∷ 62100 ∷ 62001 ∷ 63020 ∷ 63020 ∷ 63020 ∷ 64127 ∷ 64064 ∷ 64020 ∷ 62064 ∷ 62064 ∷ 62064 ∷ 63001 ∷ 63001 ∷ []), (0 ∷ 0 ∷ 1 ∷ 0 ∷ 0 ∷ 0 ∷ 0 ∷ 0 ∷ 0 ∷ 0 ∷ 0 ∷ 0 ∷ 0 ∷ 0 ∷ 0 ∷ 0 ∷ 0 ∷ 0 ∷ 2 ∷ 1 ∷ 0 ∷ 0 ∷ 0 ∷ 1 ∷ 0 ∷ 0 ∷ 0 ∷ 1 ∷ 1 ∷ 1 ∷ 0 ∷ 0 ∷ []))
-unfolding run fresh paired wordOf ofChannel held heldKey letOff off offKey NoteOff.noteOff pedalHeld cut pedal silence controlled controlChange lowestFree claim leastBy taken seat without renewed startIn NoteOn.noteOn channelBank anyPast classIn rival start startAll cleared struck noteOnNumber release leastCb above levelAt decayAt releaseAt keysOf marksOf
+unfolding run fresh paired wordOf ofChannel held heldKey letOff off offKey EventsKeys.noteOff pedalHeld cut pedal silence controlled controlChange lowestFree claim leastBy taken seat without renewed startIn EventsStriking.noteOn channelBank anyPast classIn rival start startAll cleared struck noteOnNumber release leastCb above levelAt decayAt releaseAt keysOf marksOf
 run3 = refl

@@ -13,36 +13,36 @@ use lib.Seq.{getD-set-same}
 use lib.IntN.{ℤ}
 use Rattle.promises.specs.Age.{older, Slots, Ordered, startedLast}
 use Rattle.arith.specs.Lists.{countIf}
-use Rattle.engine.specs.Seats.{leastBy, lowestFree, claim, orderOf, taken, seat, startIn, renewed}
+use Rattle.state.specs.Seats.{leastBy, lowestFree, claim, orderOf, taken, seat, startIn, renewed}
 use Rattle.voice.specs.declared.Slot.{Slot}
-use Rattle.voice.specs.Records.{blank, free, sounds}
+use Rattle.voice.specs.Changes.{blank, free, sounds}
 use Rattle.promises.proofs.EachSlot.{never, start-there, layered, cut-picked, cut-left, Among, either, answerAt, seatsAt}
-use Rattle.engine.specs.Fresh.{upFrom, fresh}
+use Rattle.state.specs.Quiet.{upFrom, fresh}
 use Rattle.arith.specs.Words.{bit}
-use Rattle.engine.specs.Slots.{slotAt, slotsOf, withSlots, withClock}
-use Rattle.engine.specs.NoteOn.{Started, start, startAll, cleared, rival, struck, layerVoices, noteOnNumber, noteOn}
+use Rattle.state.specs.Slots.{slotAt, slotsOf, withSlots, cut, withClock}
+use Rattle.events.specs.Starting.{Started, start, startAll, cleared, rival, struck}
 use Rattle.promises.specs.Calls.{voiceIn, seats, among, does, begun, Call, run, next, startsIn, history}
 use Rattle.promises.proofs.Kept.{Sized, slots-32, sized-lasts, Lasting, run-keeps, fresh-sized, call-keeps}
-use Rattle.engine.specs.declared.Engine.{Engine}
+use Rattle.state.specs.declared.Engine.{Engine}
 use Rattle.voice.specs.Stages.{released}
 use Rattle.promises.specs.Demand2.{Sooner, let-go, softer, aged, RightSeat, RightSeats, distinct, LayersByTheRule, OrderIsAge}
 use Rattle.promises.proofs.Age.{order-slots, renewed-ordered, renewed-older}
 use Rattle.voice.specs.declared.Voice.{Voice}
-use Rattle.engine.proofs.SlotsLaws.{slots-back, slot-map}
+use Rattle.state.proofs.SlotsLaws.{slots-back, slot-map}
 use Rattle.arith.proofs.WordsLaws.{insert}
-use Rattle.engine.specs.Controls.{cut, pedal, silence, controlled, controlChange}
-use Rattle.engine.proofs.StrikesLaws.{rival-free}
+use Rattle.events.proofs.StartingLaws.{rival-free}
 use Rattle.promises.proofs.Voices.{Everyone, from-fresh}
-use Rattle.engine.specs.declared.Answered.{Answered}
-use Rattle.engine.specs.Answers.{done, refused, answer, pastTwo, pastOne, pastBend}
-use Rattle.engine.specs.NoteOff.{offKey, off, noteOff}
-use Rattle.engine.specs.LentBank.{bankFrom}
+use Rattle.events.specs.Striking.{layerVoices, noteOnNumber, noteOn, bankFrom}
+use Rattle.state.specs.declared.Answered.{Answered}
+use Rattle.state.specs.Answers.{done, refused, answer, pastTwo, pastOne, pastBend}
+use Rattle.events.specs.Keys.{offKey, off, noteOff}
 use Rattle.promises.proofs.Banks.{came}
 use Rattle.promises.proofs.Demand1.{note-on-numbers}
-use Rattle.engine.specs.Channels.{channelAt, withChannel}
-use Rattle.engine.specs.Program.{withProgram, programChange}
-use Rattle.engine.specs.Bend.{withBend, pitchBend}
-use Rattle.engine.specs.Render.{distance, played, renderNumber, render}
+use Rattle.events.specs.Controls.{pedal, silence, controlled, controlChange}
+use Rattle.state.specs.Channels.{channelAt, withChannel}
+use Rattle.events.specs.Programs.{withProgram, programChange}
+use Rattle.events.specs.Bends.{withBend, pitchBend}
+use Rattle.engine.specs.Rendering.{distance, played, renderNumber, render}
 use Rattle.promises.specs.Calls as Calls
 
 -- ---- the least of a list, the first where several are

@@ -9,19 +9,19 @@ use native.Mathlib.Nat.{add-zero}
 use native.Mathlib.Omega.{arith}
 use Rattle.voice.specs.declared.Stage.{Stage}
 use Rattle.voice.specs.declared.Voice.{Voice}
-use Rattle.voice.specs.Records.{withMoved, sounds, free, blank}
-use Rattle.engine.specs.declared.Engine.{Engine}
-use Rattle.engine.specs.Slots.{slotAt, paired}
+use Rattle.voice.specs.Changes.{withMoved, sounds, free, blank}
+use Rattle.state.specs.declared.Engine.{Engine}
+use Rattle.state.specs.Slots.{slotAt, withVoice, paired}
 use Rattle.promises.specs.Calls.{voiceIn, Call, next, framesOf, begun, startsIn, among, run, history, framesRun}
 use Rattle.voice.specs.Release.{letGo, release}
 use Rattle.voice.specs.declared.Slot.{Slot}
-use Rattle.engine.specs.Channels.{channelAt}
-use Rattle.engine.specs.NoteOff.{mark, withVoice}
-use Rattle.engine.specs.Render.{window, slotAfter}
+use Rattle.state.specs.Channels.{channelAt}
+use Rattle.events.specs.Keys.{mark}
+use Rattle.engine.specs.Rendering.{window, slotAfter}
 use Rattle.promises.proofs.EachSlot.{Among, What, stands, pedalled, loosed, freed, started, goes, never, what}
 use Rattle.promises.proofs.Frames.{after-keeps, after-sounded, Late, late-after, late-none}
-use Rattle.engine.specs.Fresh.{fresh}
-use Rattle.engine.proofs.AnswersLaws.{or-no}
+use Rattle.state.specs.Quiet.{fresh}
+use Rattle.state.proofs.AnswersLaws.{or-no}
 use Rattle.promises.specs.Demand2.{FreeInTime}
 
 -- a property that stage, place and mark do not touch

@@ -10,25 +10,24 @@ use lib.Count.{ones}
 use lib.Ieee.{Float}
 use Rattle.arith.specs.Lists.{countIf}
 use Rattle.voice.specs.Release.{release}
-use Rattle.engine.specs.declared.Engine.{Engine}
-use Rattle.engine.specs.Slots.{slotAt, slotsOf}
-use Rattle.engine.specs.NoteOff.{heldKey, pedalDown, mark, ofChannel}
+use Rattle.state.specs.declared.Engine.{Engine}
+use Rattle.state.specs.Slots.{slotAt, slotsOf, ofChannel}
+use Rattle.events.specs.Keys.{heldKey, pedalDown, mark, pedalHeld}
 use Rattle.promises.specs.Calls.{noteOff, does, next, voiceIn, noteOn, control, Call, run, program, bend, render, ask, among, history, framesRun, begun, channelOf, startsIn, framesOf, written, told}
-use Rattle.engine.specs.Controls.{pedalHeld}
-use Rattle.engine.specs.Fresh.{fresh}
+use Rattle.state.specs.Quiet.{fresh}
 use Rattle.voice.specs.Stages.{released}
 use Rattle.promises.specs.Age.{older, Ordered, startedLast}
 use Rattle.arith.specs.Words.{bit}
 use Rattle.voice.specs.declared.Voice.{Voice}
-use Rattle.engine.specs.Seats.{seat}
-use Rattle.engine.specs.NoteOn.{Started, start, cleared, rival}
-use Rattle.voice.specs.Records.{blank, sounds, free}
+use Rattle.state.specs.Seats.{seat}
+use Rattle.events.specs.Starting.{Started, start, cleared, rival}
+use Rattle.voice.specs.Changes.{blank, sounds, free}
 use Rattle.voice.specs.declared.Slot.{Slot}
-use Rattle.engine.specs.Channels.{channelAt}
+use Rattle.state.specs.Channels.{channelAt}
 use Rattle.arith.specs.Holds.{heldTo}
 use Rattle.arith.specs.Floats.{Over}
 use Rattle.arith.specs.Within.{Within}
-use Rattle.engine.specs.Render.{distance, leftSum, rightSum}
+use Rattle.engine.specs.Rendering.{distance, leftSum, rightSum}
 use Rattle.voice.specs.Panel.{slotParts}
 
 -- ---- 1. A note-off reaches all held voices of its channel and key

@@ -5,14 +5,14 @@ use mathlib.Core.Bool.{true, false, cond}
 use mathlib.Core.Path.{_≡_}
 use mathlib.Core.List.{List, [], _∷_}
 use Rattle.voice.specs.Motion.{pitchTotal, folds, folded}
-use Rattle.engine.specs.declared.Engine.{Engine}
-use Rattle.engine.specs.Channels.{channelAt}
+use Rattle.state.specs.declared.Engine.{Engine}
+use Rattle.state.specs.Channels.{channelAt}
 use Rattle.promises.specs.Calls.{voiceIn, Call, next, framesOf, startsIn, among, run, framesRun}
-use Rattle.engine.specs.Slots.{slotAt}
+use Rattle.state.specs.Slots.{slotAt}
 use Rattle.curves.specs.Pitch.{stepOf, lifted}
 use Rattle.voice.specs.declared.Voice.{Voice}
 use Rattle.voice.specs.Stages.{past, released}
-use Rattle.engine.specs.Fresh.{fresh}
+use Rattle.state.specs.Quiet.{fresh}
 
 -- its pitch total as it stands
 abbrev pub centsIn : ℕ → Engine → ℤ

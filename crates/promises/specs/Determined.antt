@@ -6,8 +6,8 @@ use Prim.Native.Nat.{ℕ}
 use mathlib.Core.Bool.{Bool, cond}
 use denote.Ref.{RefT, now}
 use lib.IntN.{ℤ}
-use Rattle.engine.specs.declared.Answered.{Answered}
-use Rattle.engine.specs.declared.Engine.{Engine}
+use Rattle.state.specs.declared.Answered.{Answered}
+use Rattle.state.specs.declared.Engine.{Engine}
 use Rattle.promises.specs.Calls.{Call, does, written}
 use Rattle.voice.specs.declared.Shown.{Shown}
 use Rattle.bank.specs.Admission.{faultOf, faultNumber, admitted}
@@ -20,8 +20,8 @@ use Rattle.reader.specs.declared.Reader.{Reader}
 use Rattle.reader.specs.declared.Taken.{Taken}
 use Rattle.reader.specs.declared.Step.{Step}
 use Rattle.records.specs.Memory.{partOf}
-use Rattle.engine.specs.Board as EngineBoard
-use Rattle.engine.specs.Fresh as EngineFresh
+use Rattle.state.specs.Board as StateBoard
+use Rattle.state.specs.Quiet as StateQuiet
 
 -- a contract settles an outcome: any two that it allows are one
 abbrev pub Settles : (A : Type 0) → (A → Type 0) → Type 0
@@ -47,15 +47,15 @@ CallsDetermined = (x : Call) (e : Engine) → Settles Outcome (Allowed x e)
 
 -- panel: what the slot is in, or the refusal
 abbrev pub PanelDetermined : Type 0
-PanelDetermined = (slot : ℕ) (e : Engine) → Settles Shown (λ r. r ≡ EngineBoard.ask slot e)
+PanelDetermined = (slot : ℕ) (e : Engine) → Settles Shown (λ r. r ≡ StateBoard.ask slot e)
 
 -- voice_count: how many voices sound
 abbrev pub VoiceCountDetermined : Type 0
-VoiceCountDetermined = (e : Engine) → Settles ℕ (λ r. r ≡ EngineBoard.voiceCount e)
+VoiceCountDetermined = (e : Engine) → Settles ℕ (λ r. r ≡ StateBoard.voiceCount e)
 
 -- fresh: the state at the beginning
 abbrev pub FreshDetermined : Type 0
-FreshDetermined = Settles Engine (λ r. r ≡ EngineFresh.fresh)
+FreshDetermined = Settles Engine (λ r. r ≡ StateQuiet.fresh)
 
 -- admit, and with the same contract bank's admission_number and reader's opens: 01's number for a bank
 abbrev pub AdmitDetermined : Type 0

@@ -10,7 +10,7 @@ use Rattle.records.specs.Headers.{sampleAt}
 use Rattle.records.specs.Zones.{value}
 use Rattle.records.specs.declared.Parts.{Parts}
 use Rattle.records.specs.declared.Zone.{Zone}
-use Rattle.arith.specs.Whole.{modZ}
+use Rattle.arith.specs.Floors.{modZ}
 
 -- a place, plus a fine amount, plus 32,768 times a coarse amount
 unfoldable pub shifted : ℕ → ℤ → ℤ → ℤ

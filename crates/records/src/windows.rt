@@ -3,7 +3,7 @@ ghost use mathlib.Core.Path.{_≡_};
 ghost use mathlib.Core.Bool.{not, _&&_, _||_};
 ghost use lib.IntN.{pos, _+ℤ_, _*ℤ_};
 ghost use Rattle.arith.specs.Within.{Within};
-ghost use Rattle.arith.specs.Whole.{modZ};
+ghost use Rattle.arith.specs.Floors.{modZ};
 ghost use Rattle.records.specs.Windows.{shifted, goodPlaces, loops};
 
 pub fn both(a: bool, b: bool) -> bool

@@ -10,11 +10,11 @@ use native.Mathlib.Nat.{lt-of-le-of-lt}
 use mir.Syntax.{w8, w32}
 use mir.Val.{Fits}
 use native.Mathlib.Omega.{arith}
-use Rattle.arith.specs.Whole.{betweenZ, modZ, word32}
+use Rattle.arith.specs.Holds.{betweenZ, heldTo, word32}
 use Rattle.totals.specs.Settings.{ifMidi}
+use Rattle.arith.specs.Floors.{modZ}
 use Rattle.arith.proofs.FloorsLaws.{sub-pos}
 use Rattle.arith.specs.Within.{Within}
-use Rattle.arith.specs.Holds.{heldTo}
 
 and-no : (b : Bool) → (b && false) ≡ false
 and-no true = refl

@@ -3,7 +3,7 @@ use mathlib.Core.Bool.{cond}
 use Prim.Native.Nat.{ℕ}
 use lib.IntN.{ℤ, pos, natAbs, _+ℤ_, _-ℤ_, _*ℤ_}
 use lib.Dec.{leb, eqb}
-use Rattle.arith.specs.Whole.{betweenZ}
+use Rattle.arith.specs.Holds.{betweenZ}
 use Rattle.curves.specs.Levels.{cbOf}
 
 -- x if low..127, else the other

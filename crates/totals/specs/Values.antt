@@ -4,8 +4,7 @@ use Prim.Native.Nat.{ℕ}
 use lib.Dec.{eqb}
 use lib.IntN.{ℤ, pos, negsuc, _+ℤ_}
 use mathlib.Core.List.{List}
-use Rattle.arith.specs.Whole.{between}
-use Rattle.arith.specs.Holds.{heldTo}
+use Rattle.arith.specs.Holds.{between, heldTo}
 use Rattle.records.specs.Zones.{value}
 use Rattle.records.specs.declared.Parts.{Parts}
 use Rattle.totals.specs.declared.Layer.{Layer}

@@ -1,15 +1,15 @@
 // A layer's values, their totals, and the numbers that a starting voice gets of them (01, "From a key to layers").
-pub mod numbers;
+pub mod settings;
 pub mod values;
 
-pub use numbers::attenuation_of;
-pub use numbers::class_of;
-pub use numbers::keyed_time;
-pub use numbers::pan_of;
-pub use numbers::pitch_of;
-pub use numbers::sustain_of;
-pub use numbers::time_of;
 use records::Zone;
+pub use settings::attenuation_of;
+pub use settings::class_of;
+pub use settings::keyed_time;
+pub use settings::pan_of;
+pub use settings::pitch_of;
+pub use settings::sustain_of;
+pub use settings::time_of;
 pub use values::added_values;
 pub use values::own_values;
 pub use values::wide;

@@ -12,7 +12,7 @@ use Rattle.voice.specs.declared.Stage.{Stage}
 use Rattle.voice.specs.Stages.{waiting, released, fromDecay, decayAt, fromHold, fromAttack, fromDelay, entered, past, spent, dead}
 use Rattle.voice.specs.declared.Stage.the-variants.{Decay, Sustain, Hold, Attack, Delay, Release}
 use Rattle.voice.specs.declared.Voice.{Voice}
-use Rattle.voice.specs.Records.{withMoved, sounds, free}
+use Rattle.voice.specs.Changes.{withMoved, sounds, free}
 use Rattle.voice.specs.Motion.{folds, settled, ended, folded}
 use Rattle.voice.specs.declared.Slot.{Slot}
 use Rattle.voice.specs.declared.Framed.{Framed}

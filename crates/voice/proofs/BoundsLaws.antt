@@ -22,7 +22,7 @@ use Rattle.arith.proofs.HoldsLaws.{amid}
 use Rattle.voice.specs.Internal.Sums.{loudest, Small}
 use Rattle.voice.specs.declared.Framed.{Framed}
 use Rattle.voice.specs.declared.Slot.{Slot}
-use Rattle.voice.specs.Records.{sounds, free}
+use Rattle.voice.specs.Changes.{sounds, free}
 use Rattle.voice.specs.declared.Channel.{Channel}
 use Rattle.voice.specs.Internal.Frames.{heard}
 use Rattle.voice.proofs.SumsLaws.{small-none, small-two}

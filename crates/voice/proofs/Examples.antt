@@ -14,7 +14,7 @@ use Rattle.voice.specs.Motion.{step, pitchTotal, folds, fold, settled, e
 use Rattle.voice.specs.Internal.Frames.{heardAt, afterAt}
 use Rattle.curves.specs.Pitch.{stepOf, bendCents}
 use Rattle.curves.specs.Levels.{gainOf, cbOf, leastCb, above}
-use Rattle.voice.specs.Records.{sounds}
+use Rattle.voice.specs.Changes.{sounds}
 use Rattle.voice.specs.Stages.{levelAt, decayAt, releaseAt, fromDelay, fromAttack, fromHold, fromDecay}
 use Rattle.voice.specs.Reading.{behind, reading}
 use Rattle.voice.specs.Frames.{goOn, loud, readAndMoved, living, frameAt, frame, after}

@@ -10,7 +10,7 @@ use Rattle.voice.specs.declared.Stage.{Stage}
 use Rattle.voice.specs.declared.Voice.{Voice}
 use Rattle.voice.specs.Stages.{released, entered, dead, waiting}
 use Rattle.voice.specs.Motion.{folds, folded, span, settled, ended}
-use Rattle.voice.specs.Records.{sounds, free}
+use Rattle.voice.specs.Changes.{sounds, free}
 use Rattle.voice.specs.Frames.{moved, goOn, silent, readAndMoved, living, frameAt}
 use Rattle.voice.specs.declared.Slot.{Slot}
 

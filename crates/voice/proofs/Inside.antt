@@ -16,7 +16,7 @@ use Rattle.voice.specs.Motion.{folds, span, folded, settled, ended}
 use Rattle.voice.specs.Reading.{sample, behind}
 use Rattle.voice.proofs.MotionLaws.{split, fold-lt}
 use Rattle.voice.proofs.FramesLaws.{folds-loop}
-use Rattle.voice.specs.Records.{withMoved, sounds, free}
+use Rattle.voice.specs.Changes.{withMoved, sounds, free}
 use Rattle.voice.specs.declared.Slot.{Slot}
 use Rattle.voice.specs.Stages.{entered, dead, waiting, spent}
 use Rattle.voice.specs.Frames.{silent, moved, goOn, readAndMoved, living, frameAt, frame, after}

@@ -13,7 +13,7 @@ use Rattle.voice.specs.Internal.Frames.{afterAt, heardAt, heard}
 use Rattle.voice.specs.declared.Channel.{Channel}
 use Rattle.voice.specs.declared.Stage.{Stage}
 use Rattle.voice.specs.declared.Voice.{Voice}
-use Rattle.voice.specs.Records.{free, sounds}
+use Rattle.voice.specs.Changes.{free, sounds}
 use Rattle.voice.specs.Stages.{entered, dead, waiting}
 use Rattle.voice.specs.Motion.{ended, settled, step, pitchTotal}
 use Rattle.voice.specs.Sound.{loss}

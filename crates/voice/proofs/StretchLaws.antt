@@ -14,7 +14,7 @@ use Rattle.voice.specs.Internal.Stretch.{plain, plains, Clear}
 use Rattle.voice.specs.declared.Stage.{Stage}
 use Rattle.voice.specs.declared.Stage.the-variants.{Delay, Attack, Hold, Decay, Sustain, Release}
 use Rattle.voice.specs.declared.Voice.{Voice}
-use Rattle.voice.specs.Records.{withMoved, sounds}
+use Rattle.voice.specs.Changes.{withMoved, sounds}
 use Rattle.voice.specs.Stages.{envelope, entered, dead, released, fromDelay, fromAttack, fromHold, fromDecay, spent}
 use Rattle.voice.specs.Motion.{folds, span}
 use Rattle.voice.specs.Internal.Calm.{spentBy, Calm, Calms}

@@ -7,7 +7,7 @@ use Rattle.voice.specs.declared.Slot.{Slot}
 use Rattle.voice.specs.declared.Framed.{Framed}
 use Rattle.voice.specs.declared.Stage.{Stage}
 use Rattle.voice.specs.declared.Voice.{Voice}
-use Rattle.voice.specs.Records.{withMoved, sounds, free}
+use Rattle.voice.specs.Changes.{withMoved, sounds, free}
 use Rattle.voice.specs.Stages.{spent, envelope, dead, waiting, entered}
 use Rattle.voice.specs.Motion.{settled, ended, folds, step}
 use Rattle.voice.specs.Reading.{reading}

@@ -1,5 +1,6 @@
 // A voice: its record, one frame of it, n frames of it, its release, and what the panel is told of it.
 mod calm;
+mod changes;
 mod frames;
 mod motion;
 mod panel;
@@ -9,6 +10,8 @@ mod sound;
 mod stages;
 mod stretch;
 
+pub use changes::no_voice;
+pub use changes::with_moved;
 pub use frames::frame_at;
 pub use frames::run;
 pub use frames::run_at;
@@ -25,8 +28,6 @@ pub use stages::is_released;
 pub use stages::is_waiting;
 pub use stages::level_at;
 pub use stages::release_at;
-ghost use mathlib.Core.Path.{_≡_};
-ghost use Rattle.voice.specs.Records.{withMoved};
 
 // A stage, with the frames already spent in it (in delay: those left).
 pub enum Stage {
@@ -108,34 +109,4 @@ pub enum Shown {
     Decay { level: f32 },
     Sustain { level: f32 },
     Release { level: f32 },
-}
-
-// The voice at another stage and place, and with another mark.
-pub fn with_moved(v: Voice, s: Stage, p: u64, m: bool) -> Voice
-    ensures { λ r. ⌜ r ≡ withMoved v s p m ⌝ }
-{
-    Voice {
-        stage: s,
-        place: p,
-        channel: v.channel,
-        key: v.key,
-        velocity: v.velocity,
-        marked: m,
-        class: v.class,
-        rom: v.rom,
-        start: v.start,
-        end: v.end,
-        mode: v.mode,
-        loopfrom: v.loopfrom,
-        loopto: v.loopto,
-        rate: v.rate,
-        pitch: v.pitch,
-        pan: v.pan,
-        attenuation: v.attenuation,
-        attack: v.attack,
-        hold: v.hold,
-        decay: v.decay,
-        sustain: v.sustain,
-        release: v.release,
-    }
 }

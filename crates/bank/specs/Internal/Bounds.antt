@@ -8,7 +8,7 @@ use Rattle.arith.specs.Bytes.{u32At}
 use Rattle.records.specs.Headers.{sampleAt}
 use Rattle.records.specs.Windows.{shifted, goodPlaces, loops}
 use Rattle.records.specs.declared.Parts.{Parts}
-use Rattle.arith.specs.Whole.{modZ}
+use Rattle.arith.specs.Floors.{modZ}
 use Rattle.records.specs.Internal.Amounts.{poured}
 use Rattle.records.specs.Zones.{zoneAt}
 

@@ -5,7 +5,7 @@ use lib.Dec.{ltb}
 use mathlib.Core.List.{List}
 use Rattle.records.specs.declared.Found.{Found}
 use Rattle.records.specs.declared.Found.the-variants.{Nothing, At}
-use Rattle.arith.specs.Whole.{between}
+use Rattle.arith.specs.Holds.{between}
 use Rattle.records.specs.Headers.{rateOf}
 use Rattle.records.specs.Zones.{zoneAt, zoneCount}
 use Rattle.records.specs.declared.Parts.{Parts}

@@ -6,9 +6,9 @@ use lib.Ieee.{Float}
 use lib.ListN.{getD}
 use Rattle.voice.specs.declared.Slot.{Slot}
 use Rattle.voice.specs.Internal.Frames.{heard}
-use Rattle.engine.specs.declared.Engine.{Engine}
-use Rattle.engine.specs.Channels.{channelAt}
-use Rattle.engine.specs.Render.{window, mixed}
+use Rattle.state.specs.declared.Engine.{Engine}
+use Rattle.state.specs.Channels.{channelAt}
+use Rattle.engine.specs.Rendering.{window, mixed}
 use Rattle.voice.specs.Internal.Sums.{addTo}
 
 -- what a slot gives in n frames, left and right alternating

@@ -4,7 +4,7 @@ use mathlib.Core.List.{List, _++_}
 use Prim.Native.Nat.{_-_}
 use lib.Dec.{leb}
 use lib.ListN.{length, replicate}
-use Rattle.voice.specs.Records.{blank}
+use Rattle.voice.specs.Changes.{blank}
 use Rattle.voice.specs.declared.Voice.{Voice}
 use Rattle.layers.specs.declared.Struck.{Struck}
 

@@ -4,7 +4,7 @@ use mathlib.Core.Path.{ap, ap₂, _∙_}
 use Prim.Native.Nat.{ℕ}
 use lib.Dec.{ltb}
 use borrow.Author.Needs.{needs}
-use Rattle.arith.specs.Whole.{between}
+use Rattle.arith.specs.Holds.{between}
 use Rattle.bank.specs.Internal.Rates.{badRated}
 use Rattle.bank.proofs.rates.bad_rated.Statement.{statement}
 use Rattle.bank.proofs.rates.bad_rated.Tie as tie

@@ -1,6 +1,6 @@
 -- `bank::rates::good_rate` meets its contract.
 use borrow.Author.Tests.{le-leb, lt-leb}
-use Rattle.arith.specs.Whole.{between}
+use Rattle.arith.specs.Holds.{between}
 use Rattle.bank.proofs.rates.good_rate.Statement.{statement}
 use Rattle.bank.proofs.rates.good_rate.Tie as tie
 

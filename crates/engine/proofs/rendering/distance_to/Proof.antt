@@ -1,7 +1,7 @@
 -- By wrapping subtraction.
 use native.Mathlib.Omega.{arith}
 use borrow.Author.Needs.{needs}
-use Rattle.engine.specs.Render.{distance}
+use Rattle.engine.specs.Rendering.{distance}
 use Rattle.engine.proofs.rendering.distance_to.Statement.{statement}
 use Rattle.engine.proofs.rendering.distance_to.Tie as tie
 

@@ -8,11 +8,11 @@ use mathlib.Core.List.{List}
 use lib.ListN.{length, length-map, take}
 use lib.Seq.{take-all}
 use Rattle.voice.specs.declared.Slot.{Slot}
-use Rattle.engine.specs.Slots.{slotsOf}
-use Rattle.engine.specs.NoteOn.{endsPast}
-use Rattle.engine.specs.Render.{lacking}
-use Rattle.engine.proofs.SlotLoopLaws.{paired-length}
-use Rattle.engine.proofs.RenderLaws.{lack-none, lack-turn}
+use Rattle.state.specs.Slots.{slotsOf}
+use Rattle.state.specs.Reach.{endsPast}
+use Rattle.engine.specs.Rendering.{lacking}
+use Rattle.state.proofs.SlotLoopLaws.{paired-length}
+use Rattle.engine.proofs.RenderingLaws.{lack-none, lack-turn}
 use Rattle.engine.proofs.rendering.lacks.Statement.{statement}
 use Rattle.engine.proofs.rendering.lacks.Tie as tie
 

@@ -10,7 +10,7 @@ use lib.ListN.{drop, replicate}
 use borrow.Author.Needs.{needs}
 use Rattle.voice.proofs.SumsLaws.{zeros-small}
 use Rattle.engine.specs.Internal.Sums.{mixedTo}
-use Rattle.engine.proofs.RenderLaws.{output-mixed, zeros-at}
+use Rattle.engine.proofs.RenderingLaws.{output-mixed, zeros-at}
 use Rattle.engine.proofs.rendering.play.Statement.{statement}
 use Rattle.engine.proofs.rendering.play.Tie as tie
 

@@ -7,11 +7,11 @@ use borrow.Author.Tests.{eq-eqb, ne-eqb}
 use lib.Dec.{eqb}
 use lib.ListN.{length, drop}
 use borrow.Author.Needs.{needs}
-use Rattle.engine.specs.declared.Engine.{Engine}
-use Rattle.engine.specs.Slots.{withClock}
-use Rattle.engine.specs.Answers.{done, refused}
-use Rattle.engine.specs.Render.{output, played, render, rendered}
-use Rattle.engine.proofs.RenderLaws.{zero-low, clock-there}
+use Rattle.state.specs.declared.Engine.{Engine}
+use Rattle.state.specs.Slots.{withClock}
+use Rattle.state.specs.Answers.{done, refused}
+use Rattle.engine.specs.Rendering.{output, played, render, rendered}
+use Rattle.engine.proofs.RenderingLaws.{zero-low, clock-there}
 use Rattle.engine.proofs.rendering.render.Statement.{statement}
 use Rattle.engine.proofs.rendering.render.Tie as tie
 

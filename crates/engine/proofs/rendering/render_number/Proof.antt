@@ -5,8 +5,8 @@ use mathlib.Core.Bool.{cond}
 use borrow.Author.Tests.{le-leb, lt-leb, lt-ltb, le-ltb}
 use lib.Dec.{leb, ltb}
 use borrow.Author.Needs.{needs}
-use Rattle.engine.specs.Slots.{slotsOf}
-use Rattle.engine.specs.Render.{lacking, renderNumber}
+use Rattle.state.specs.Slots.{slotsOf}
+use Rattle.engine.specs.Rendering.{lacking, renderNumber}
 use Rattle.engine.proofs.rendering.render_number.Statement.{statement}
 use Rattle.engine.proofs.rendering.render_number.Tie as tie
 

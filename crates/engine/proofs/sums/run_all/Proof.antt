@@ -9,14 +9,14 @@ use lib.Seq.{take-all}
 use Rattle.arith.proofs.Loops.{upto}
 use Rattle.arith.proofs.WithinLaws.{w-le}
 use Rattle.voice.specs.declared.Slot.{Slot}
-use Rattle.voice.specs.Records.{blank, free}
+use Rattle.voice.specs.Changes.{blank, free}
 use Rattle.voice.specs.Internal.Sums.{addTo, Small}
 use Rattle.voice.proofs.SumsLaws.{addTo-length, addTo-small}
-use Rattle.engine.specs.Slots.{slotsOf, recordsOf}
-use Rattle.engine.specs.Render.{slotAfter, played}
-use Rattle.engine.proofs.SlotLoopLaws.{paired-length, wordTo, word-none, flag-turn, word-fits, withVoices, store-none, store-turn, store-all}
+use Rattle.state.specs.Slots.{slotsOf, recordsOf}
+use Rattle.engine.specs.Rendering.{slotAfter, played}
+use Rattle.state.proofs.SlotLoopLaws.{paired-length, wordTo, word-none, flag-turn, word-fits, withVoices, store-none, store-turn, store-all}
 use Rattle.engine.specs.Internal.Sums.{slotHeard, addAll}
-use Rattle.engine.proofs.RenderLaws.{slot-stays, add-none, add-turn}
+use Rattle.engine.proofs.RenderingLaws.{slot-stays, add-none, add-turn}
 use Rattle.engine.proofs.sums.run_all.Statement.{statement}
 use Rattle.engine.proofs.sums.run_all.Tie as tie
 

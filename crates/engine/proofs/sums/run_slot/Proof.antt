@@ -8,9 +8,9 @@ use Rattle.voice.specs.declared.Channel.{Channel}
 use Rattle.voice.specs.Frames.{after}
 use Rattle.voice.specs.Internal.Frames.{heard}
 use Rattle.voice.specs.Internal.Sums.{addTo, Small}
-use Rattle.engine.specs.Channels.{channelAt}
-use Rattle.engine.specs.Render.{window}
-use Rattle.engine.proofs.RenderLaws.{window-part, free-after, free-adds, free-small}
+use Rattle.state.specs.Channels.{channelAt}
+use Rattle.engine.specs.Rendering.{window}
+use Rattle.engine.proofs.RenderingLaws.{window-part, free-after, free-adds, free-small}
 use Rattle.engine.proofs.sums.run_slot.Statement.{statement}
 use Rattle.engine.proofs.sums.run_slot.Tie as tie
 

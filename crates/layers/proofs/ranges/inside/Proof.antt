@@ -1,6 +1,6 @@
 -- `inside` meets its contract.
 use borrow.Author.Tests.{le-leb, lt-leb}
-use Rattle.arith.specs.Whole.{between}
+use Rattle.arith.specs.Holds.{between}
 use Rattle.layers.specs.Ranges.{inside}
 use Rattle.layers.proofs.ranges.inside.Statement.{statement}
 use Rattle.layers.proofs.ranges.inside.Tie as tie

@@ -1,7 +1,7 @@
 -- `defaults` meets its contract.
 use borrow.Author.Needs.{needs}
 use mathlib.Core.Path.{refl}
-use Rattle.arith.specs.Whole.{between}
+use Rattle.arith.specs.Holds.{between}
 use Rattle.totals.specs.Values.{defaultOf}
 use Rattle.totals.proofs.values.defaults.Statement.{statement}
 use Rattle.totals.proofs.values.defaults.Tie as tie

@@ -12,7 +12,7 @@ use Rattle.voice.specs.declared.Slot.{Slot}
 use Rattle.voice.specs.Sound.{leftOf, rightOf}
 use Rattle.voice.specs.Internal.Stages.{Room}
 use Rattle.voice.specs.Frames.{silent, loud, goOn, readAndMoved}
-use Rattle.voice.specs.Records.{withMoved, sounds}
+use Rattle.voice.specs.Changes.{withMoved, sounds}
 use Rattle.voice.specs.Stages.{entered, dead, waiting, spent}
 use Rattle.voice.specs.declared.Voice.{Voice}
 use Rattle.voice.specs.declared.Stage.{Stage}

@@ -15,7 +15,7 @@ use Rattle.curves.specs.Levels.{gainOf}
 use Rattle.voice.specs.declared.Slot.{Slot}
 use Rattle.voice.specs.declared.Stage.{Stage}
 use Rattle.voice.specs.declared.Voice.{Voice}
-use Rattle.voice.specs.Records.{withMoved, sounds}
+use Rattle.voice.specs.Changes.{withMoved, sounds}
 use Rattle.voice.specs.Stages.{entered, dead}
 use Rattle.voice.specs.Sound.{wholeLoss}
 use Rattle.voice.specs.Internal.Frames.{afterAt, heardAt}

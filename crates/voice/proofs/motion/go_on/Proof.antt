@@ -5,7 +5,7 @@ use mathlib.Core.Path.{ap₂, sym, ap, _∙_}
 use borrow.Author.Needs.{needs}
 use Rattle.voice.proofs.MotionLaws.{fold-add}
 use Rattle.voice.specs.Motion.{fold}
-use Rattle.voice.specs.Records.{withMoved, sounds}
+use Rattle.voice.specs.Changes.{withMoved, sounds}
 use Rattle.voice.specs.declared.Stage.{Stage}
 use Rattle.voice.proofs.FramesLaws.{folds-loop, go-fold, go-end, go-stay}
 use Rattle.voice.proofs.motion.go_on.Statement.{statement}

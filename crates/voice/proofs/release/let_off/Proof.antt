@@ -3,7 +3,7 @@ use mathlib.Core.Bool.{false}
 use mathlib.Core.Path.{ap, _∙_}
 use borrow.Author.Needs.{needs}
 use Rattle.voice.specs.Release.{release}
-use Rattle.voice.specs.Records.{withMoved}
+use Rattle.voice.specs.Changes.{withMoved}
 use Rattle.voice.specs.declared.Stage.{Stage}
 use Rattle.voice.proofs.release.let_off.Statement.{statement}
 use Rattle.voice.proofs.release.let_off.Tie as tie

@@ -1,0 +1,3 @@
+pub mod KeysLaws
+pub mod StartingLaws
+pub mod StrikingLaws

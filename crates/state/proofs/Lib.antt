@@ -1,0 +1,4 @@
+pub mod AnswersLaws
+pub mod SeatsLaws
+pub mod SlotLoopLaws
+pub mod SlotsLaws
