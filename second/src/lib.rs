@@ -1,4 +1,5 @@
-//! The second program as a library: one module for each section of document 01, and what reads and makes cases.
+//! The second program as a library: one module for each section of document 01, the structures of a bank, and what
+//! reads and makes cases.
 
 pub mod bank;
 pub mod bank_admission;
