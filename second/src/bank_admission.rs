@@ -1,51 +1,6 @@
 //! Document 01, "Bank admission": the bytes of a bank become structures, or the fault that keeps them out.
 
-use crate::key_to_layers::instrument_value;
-
-/// An admitted bank, without its terminal records.
-pub struct Bank {
-    pub presets: Vec<Preset>,
-    pub instruments: Vec<Zones>,
-    pub samples: Vec<Sample>,
-}
-
-pub struct Preset {
-    pub program: u16,
-    pub bank: u16,
-    pub zones: Zones,
-}
-
-/// The zones of a preset or an instrument; those that are ignored are left out here.
-pub struct Zones {
-    /// The generators of the global zone, if there is one.
-    pub global: Vec<Generator>,
-    pub sounding: Vec<SoundingZone>,
-}
-
-/// A zone with generator 41 (53): the generators in front of the first such, and the number that it gives.
-pub struct SoundingZone {
-    pub generators: Vec<Generator>,
-    pub number: usize,
-    place: usize,
-}
-
-#[derive(Clone, Copy)]
-pub struct Generator {
-    pub operator: u16,
-    pub amount: u16,
-}
-
-pub struct Sample {
-    pub start: i64,
-    pub end: i64,
-    pub loop_start: i64,
-    pub loop_end: i64,
-    pub rate: u32,
-    pub root: u8,
-    pub correction: i8,
-    pub rom: bool,
-    place: usize,
-}
+use crate::bank::{window, Bank, Generator, Preset, Sample, SoundingZone, Window, Zones};
 
 /// What is wrong with a bank, in the order of testing. The base answers 1 for each of them.
 #[derive(Clone, Copy, Debug, PartialEq, Eq)]
@@ -327,33 +282,6 @@ fn test_rates(bank: &Bank) -> Result<(), Fault> {
     match faults.iter().min() {
         Some(&place) => fault(Kind::Rate, place),
         None => Ok(()),
-    }
-}
-
-/// A part of one of the two sample memories, and the loop in it; all places count from the memory's start.
-#[derive(Clone, Copy, Debug, PartialEq, Eq)]
-pub struct Window {
-    pub rom: bool,
-    pub start: i64,
-    pub end: i64,
-    pub loop_start: i64,
-    pub loop_end: i64,
-    /// 0, 1 or 3.
-    pub mode: i64,
-}
-
-/// "Header places plus generators 0, 1, 2, 3 plus 32,768 times 4, 12, 45, 50 (start, end, loop start, loop end)."
-/// "Mode is generator 54 modulo 4; mode 2 counts as 0. Header type bit 15 says ROM."
-pub fn window(instrument: &Zones, zone: &SoundingZone, sample: &Sample) -> Window {
-    let value = |generator| instrument_value(instrument, zone, generator);
-    let mode = value(54).rem_euclid(4);
-    Window {
-        rom: sample.rom,
-        start: sample.start + value(0) + 32_768 * value(4),
-        end: sample.end + value(1) + 32_768 * value(12),
-        loop_start: sample.loop_start + value(2) + 32_768 * value(45),
-        loop_end: sample.loop_end + value(3) + 32_768 * value(50),
-        mode: if mode == 2 { 0 } else { mode },
     }
 }
 

@@ -1,6 +1,7 @@
 //! Case files and traces: commands are read from a case as it is played, and each call writes a line of the trace.
 
-use crate::bank_admission::{admit, list, Bank, Fault};
+use crate::bank::Bank;
+use crate::bank_admission::{admit, list, Fault};
 use crate::slots_keys_clock::{Answer, Engine, Lent, BANK_NOT_ADMITTED};
 use crate::tables_and_steps::{tables, Tables};
 use crate::voice::{Stage, Voice};

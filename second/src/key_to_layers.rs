@@ -1,6 +1,6 @@
 //! Document 01, "From a key to layers": the preset, the ranges, the layers of a key, and the numbers of each layer.
 
-use crate::bank_admission::{window, Bank, Generator, Preset, Sample, SoundingZone, Window, Zones};
+use crate::bank::{amount, instrument_value, window, Bank, Generator, Preset, Sample, SoundingZone, Window, Zones};
 use crate::tables_and_steps::Tables;
 
 /// "The channel's preset is the first phdr record with its bank and program; the terminal is not one."
@@ -77,27 +77,6 @@ pub fn layers<'a>(bank: &'a Bank, preset: &'a Preset, key: u8, velocity: u8) -> 
 }
 
 // Values
-
-/// "A repeated generator: the later counts." Amounts are signed.
-fn amount(generators: &[Generator], operator: u16) -> Option<i64> {
-    let found = generators.iter().rev().find(|g| g.operator == operator)?;
-    Some(found.amount as i16 as i64)
-}
-
-/// "Generators 33 to 36 and 38 default to -12,000, 46 and 58 to -1, others to 0"; 56 to 100.
-fn default_value(operator: u16) -> i64 {
-    match operator {
-        33..=36 | 38 => -12_000,
-        46 | 58 => -1,
-        56 => 100,
-        _ => 0,
-    }
-}
-
-/// The instrument's part of a value: local, else global, else default.
-pub fn instrument_value(instrument: &Zones, zone: &SoundingZone, operator: u16) -> i64 {
-    amount(&zone.generators, operator).or(amount(&instrument.global, operator)).unwrap_or(default_value(operator))
-}
 
 /// "Generators 0-4, 12, 45, 46, 47, 50, 54, 57, 58 count in instruments only."
 fn in_instruments_only(operator: u16) -> bool {

@@ -1,5 +1,7 @@
-//! The second program as a library: one module for each section of document 01, and what reads and makes cases.
+//! The second program as a library: one module for each section of document 01, the structures of a bank, and what
+//! reads and makes cases.
 
+pub mod bank;
 pub mod bank_admission;
 pub mod big;
 pub mod case;

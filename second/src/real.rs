@@ -24,7 +24,10 @@ fn chunks(mut body: &[u8]) -> io::Result<Vec<([u8; 4], &[u8])>> {
     let mut found = Vec::new();
     while body.len() >= 8 {
         let length = u32_at(body, 4) as usize;
-        let end = 8usize.checked_add(length).filter(|end| *end <= body.len()).ok_or_else(|| bad("a chunk runs past the file's end"))?;
+        let end = 8usize
+            .checked_add(length)
+            .filter(|end| *end <= body.len())
+            .ok_or_else(|| bad("a chunk runs past the file's end"))?;
         found.push(([body[0], body[1], body[2], body[3]], &body[8..end]));
         body = &body[(end + length % 2).min(body.len())..];
     }

@@ -1,6 +1,7 @@
 //! Document 01, "Slots, keys and the clock": the engine's state, its operations, and the numbers they answer.
 
-use crate::bank_admission::{Bank, Fault, Window};
+use crate::bank::{Bank, Window};
+use crate::bank_admission::Fault;
 use crate::key_to_layers::{find_preset, layers, Numbers};
 use crate::tables_and_steps::Tables;
 use crate::voice::{slot_frame, Controls, Stage, Voice};

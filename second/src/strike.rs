@@ -2,7 +2,8 @@
 //!
 //! A strike file has the commands B and t of a case file, and k: u8 program, u8 bank, u8 key, u8 velocity.
 
-use crate::bank_admission::{admit, Bank, Fault};
+use crate::bank::Bank;
+use crate::bank_admission::{admit, Fault};
 use crate::case::{name_line, run, Commands, Stop};
 use crate::key_to_layers::{find_preset, layers, Numbers};
 use crate::tables_and_steps::tables;

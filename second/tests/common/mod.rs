@@ -1,7 +1,8 @@
 //! An engine with what is lent to it, for tests.
 #![allow(dead_code)]
 
-use second::bank_admission::{admit, Bank, Fault};
+use second::bank::Bank;
+use second::bank_admission::{admit, Fault};
 use second::make::bank_builder::BankPlan;
 use second::slots_keys_clock::{Answer, Engine, Lent};
 use second::tables_and_steps::tables;
