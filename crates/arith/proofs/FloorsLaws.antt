@@ -10,7 +10,7 @@ use native.Mathlib.Nat.{div-lt-iff-lt-mul, div-add-mod', mod-lt, suc-mul, add-mu
 use native.Mathlib.Omega.{arith}
 use lib.Arith.{digits-div}
 use Rattle.arith.specs.Within.{Within}
-use Rattle.arith.specs.Floors.{floorZ}
+use Rattle.arith.specs.Floors.{floorZ, modZ}
 
 -- a - b as a natural number, and as the number below 0
 pub sub-pos : (a b : ℕ) → b ≤ a → subℕ a b ≡ pos (a - b)
@@ -88,3 +88,9 @@ floor-high (negsuc a) d p =
     go (suc q) h =
         let pos-x : 0 < suc q * d = mul-pos {m = suc q} {n = d} (omega arith) p in
         subst (λ (y : ℤ). (negsuc a) <ℤ y) (sym (neg-suc (suc q * d) pos-x)) (record { lt = lt→ltb (suc q * d - 1) a (omega arith) })
+
+-- a multiple of 4 added does not change the remainder
+pub mod-lift : (x : ℤ) → Within x 32768 → natAbs (x +ℤ pos 32768) % 4 ≡ modZ x 4
+unfolding modZ
+mod-lift (pos a) h = omega arith
+mod-lift (negsuc a) h = rw (sub-pos 32768 (suc a) (h .within)) (omega (arith, h .within))

@@ -1,1 +1,2 @@
+pub mod MixerLaws
 pub mod RenderingLaws

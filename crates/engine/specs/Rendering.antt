@@ -16,7 +16,7 @@ use Rattle.arith.specs.Lists.{sumOf}
 use Rattle.voice.specs.Frames.{after, leftIn, rightIn}
 use Rattle.state.specs.Channels.{channelAt}
 use Rattle.arith.specs.Holds.{heldTo}
-use Rattle.arith.specs.Floats.{unitOf}
+use Rattle.engine.specs.Mixer.{unitOf}
 use Rattle.state.specs.declared.Answered.{Answered}
 use Rattle.state.specs.Answers.{done, answer}
 

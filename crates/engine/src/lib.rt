@@ -1,5 +1,6 @@
 // The engine: the calls that a host makes. The state and the events stand in crates of their own, and are passed on here.
 mod banks;
+mod mixer;
 mod rendering;
 mod sums;
 
@@ -16,3 +17,9 @@ pub use state::Engine;
 pub use state::fresh;
 pub use state::panel;
 pub use state::voice_count;
+
+// A stereo frame.
+pub struct Frame {
+    pub left: f32,
+    pub right: f32,
+}

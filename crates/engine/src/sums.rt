@@ -9,7 +9,7 @@ ghost use Rattle.voice.specs.Internal.Sums.{addTo, Small};
 ghost use Rattle.state.specs.Slots.{slotsOf};
 ghost use Rattle.engine.specs.Rendering.{slotAfter, played};
 ghost use Rattle.engine.specs.Internal.Sums.{slotHeard, addAll, mixedTo};
-use arith::mix;
+use crate::mixer::mix;
 use records::window_of;
 use state::Engine;
 use state::channel_of;

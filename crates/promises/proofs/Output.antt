@@ -35,7 +35,7 @@ use Rattle.events.specs.Programs.{withProgram, programChange}
 use Rattle.events.specs.Bends.{withBend, pitchBend}
 use Rattle.arith.proofs.HoldsLaws.{held-within}
 use Rattle.arith.specs.Holds.{heldTo}
-use Rattle.arith.proofs.FloatsLaws.{unit-exact}
+use Rattle.engine.proofs.MixerLaws.{unit-exact}
 use Rattle.arith.specs.Within.{Within}
 use Rattle.arith.proofs.WithinLaws.{w-le}
 use Rattle.promises.proofs.Demand1.{render-numbers}

@@ -5,6 +5,7 @@ pub mod Examples
 pub mod FramesLaws
 pub mod Inside
 pub mod MotionLaws
+pub mod PanelLaws
 pub mod RunLaws
 pub mod Silence
 pub mod SoundLaws

@@ -1,9 +1,8 @@
 -- 01, "A voice, frame by frame", last paragraph: what the panel is told of a slot.
-use mathlib.Core.Bool.{cond}
+use mathlib.Core.Bool.{false, cond}
 use Prim.Native.Nat.{ℕ}
+use lib.Ieee.{Float, binary32, round}
 use mathlib.Core.List.{List, [], _∷_}
-use lib.Ieee.{Float}
-use Rattle.arith.specs.Floats.{levelOf}
 use Rattle.curves.specs.Levels.{gainOf}
 use Rattle.voice.specs.declared.Shown.{Shown}
 use Rattle.voice.specs.declared.Stage.{Stage}
@@ -12,6 +11,10 @@ use Rattle.voice.specs.declared.Voice.{Voice}
 use Rattle.voice.specs.Stages.{levelAt, envelope}
 use Rattle.voice.specs.declared.Slot.{Slot}
 use Rattle.voice.specs.declared.Shown.the-variants as is
+
+-- the f32 nearest to n / 2 ^ 24 (law `level-exact`)
+unfoldable pub levelOf : ℕ → Float
+levelOf n = round binary32 false n 16777216
 
 -- a stage, with its level or its envelope's gain over 2^24 (`levelOf n` is n / 2^24, exact)
 abbrev pub stageShown : Voice → Stage → Shown

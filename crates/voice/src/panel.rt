@@ -1,8 +1,10 @@
 // What the panel is told of a slot.
 ghost use mathlib.Core.Path.{_≡_};
-ghost use Rattle.arith.specs.Floats.{levelOf};
+ghost use Prim.Native.Nat.{_≤_};
+ghost use lib.IntN.{pos};
+ghost use Rattle.arith.specs.Floats.{Over};
+ghost use Rattle.voice.specs.Panel.{levelOf, stageShown, shown};
 ghost use Rattle.curves.specs.Levels.{gains, gainOf};
-ghost use Rattle.voice.specs.Panel.{stageShown, shown};
 use crate::Shown;
 use crate::Slot;
 use crate::Stage;
@@ -11,8 +13,15 @@ use crate::stages::decay_at;
 use crate::stages::level_at;
 use crate::stages::release_at;
 use crate::stages::wide;
-use arith::level_unit;
 use curves::gain;
+
+// n / 2^24, exactly.
+fn level_unit(n: u32) -> f32
+    requires { ⌜ n ≤ 16777216 ⌝ }
+    ensures { λ r. ⌜ (r ≡ levelOf n) × Over r (pos n) 16777216 ⌝ }
+{
+    (n as f32) * 0.000000059604644775390625
+}
 
 // A stage, with its level or its envelope's gain as a fraction of full.
 fn show_stage(v: Voice, s: Stage, g: &[u32; 1441]) -> Shown

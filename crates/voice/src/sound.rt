@@ -13,7 +13,6 @@ use crate::motion::is_folding;
 use crate::reading::read;
 use crate::stages::envelope_of;
 use crate::stages::level_at;
-use arith::biased_1000;
 use curves::cb_of;
 use curves::gain;
 
@@ -84,6 +83,14 @@ fn pan_of(p: i16) -> i64
         return 500;
     }
     p as i64
+}
+
+// The floor of x / 1,000, by an offset that makes it positive: `/` rounds toward zero.
+fn biased_1000(x: i64) -> i64
+    requires { ⌜ Within x 1000000000000 ⌝ }
+    ensures { λ r. ⌜ r ≡ floorZ x 1000 ⌝ }
+{
+    ((x + 1000000000000) as u64 / 1000) as i64 - 1000000000
 }
 
 // floor(u * (500 - p) / 1,000)

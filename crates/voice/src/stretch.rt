@@ -11,10 +11,10 @@ use crate::Stage;
 use crate::Voice;
 use crate::motion::is_folding;
 use crate::motion::span_of;
+use crate::reading::reading_of;
 use crate::sound::scaled_by;
 use crate::sound::to_left;
 use crate::sound::to_right;
-use arith::reading_of;
 
 // How far a stretch came.
 pub struct Reached {

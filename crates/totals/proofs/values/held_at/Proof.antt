@@ -4,10 +4,9 @@ use lib.Dec.{lit<}
 use mathlib.Core.Path.{sym, ap, _∙_}
 use mir.Facts.{toZ-ofZ}
 use mir.Syntax.{w64}
-use Rattle.arith.proofs.HoldsLaws.{clamp-low, clamp-high, clamp-in}
+use Rattle.arith.proofs.HoldsLaws.{clamp-low, clamp-high, clamp-in, between-two}
 use Rattle.arith.specs.Holds.{heldTo}
 use Rattle.arith.proofs.WithinLaws.{w-back}
-use Rattle.totals.proofs.ValuesLaws.{between-two}
 use Rattle.totals.proofs.values.held_at.Statement.{statement}
 use Rattle.totals.proofs.values.held_at.Tie as tie
 

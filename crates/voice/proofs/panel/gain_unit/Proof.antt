@@ -1,7 +1,7 @@
 -- The gain is at most full, so its fraction is exact.
 use mathlib.Core.Path.{ap, _∙_}
 use borrow.Author.Needs.{needs}
-use Rattle.arith.specs.Floats.{levelOf}
+use Rattle.voice.specs.Panel.{levelOf}
 use Rattle.voice.proofs.panel.gain_unit.Statement.{statement}
 use Rattle.voice.proofs.panel.gain_unit.Tie as tie
 

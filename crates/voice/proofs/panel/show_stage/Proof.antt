@@ -2,9 +2,8 @@
 use mathlib.Core.Path.{sym, ap, _∙_}
 use Prim.Native.Nat.{ℕ}
 use borrow.Author.Needs.{needs}
-use Rattle.arith.specs.Floats.{levelOf}
+use Rattle.voice.specs.Panel.{levelOf, stageShown}
 use Rattle.curves.specs.Levels.{gainOf}
-use Rattle.voice.specs.Panel.{stageShown}
 use Rattle.voice.proofs.panel.show_stage.Statement.{statement}
 use Rattle.voice.specs.declared.Shown.the-variants as is
 use Rattle.voice.proofs.panel.show_stage.Tie as tie

@@ -5,11 +5,11 @@ use lib.Dec.{lit<}
 use lib.IntN.{pos, natAbs, _+ℤ_, _-ℤ_}
 use mir.Facts.{toZ-ofZ}
 use mir.Syntax.{w64}
 use Rattle.arith.specs.Within.{Within}
 use Rattle.arith.proofs.WithinLaws.{w-lit, w-add, w-sub, w-fits, w-back}
 use Rattle.arith.proofs.FloorsLaws.{floor-bias, bias-nonneg}
-use Rattle.arith.proofs.biased_1000.Statement.{statement}
-use Rattle.arith.proofs.biased_1000.Tie as tie
+use Rattle.voice.proofs.sound.biased_1000.Statement.{statement}
+use Rattle.voice.proofs.sound.biased_1000.Tie as tie
 
 module _ (c : tie.Start) where
   abbrev moved : Within (c .args .x +ℤ pos 1000000000000) 2000000000000

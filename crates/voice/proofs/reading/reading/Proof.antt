@@ -2,10 +2,10 @@
 use mathlib.Core.List.{List, [], _∷_}
 use lib.Dec.{lit≤}
 use mir.Syntax.{w64}
 use Rattle.arith.proofs.Expressions.{E, var, add, sub, mul, shr, Var, given, fits, back, within}
 use Rattle.arith.proofs.WithinLaws.{w-le}
-use Rattle.arith.proofs.reading.Statement.{statement}
-use Rattle.arith.proofs.reading.Tie as tie
+use Rattle.voice.proofs.reading.reading.Statement.{statement}
+use Rattle.voice.proofs.reading.reading.Tie as tie
 
 abbrev env : tie.Start → List Var
 env c = given (c .pre .0) ∷ given (c .pre .1) ∷ given (c .pre .2) ∷ []

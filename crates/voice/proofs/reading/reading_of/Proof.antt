@@ -6,9 +6,9 @@ use mir.Val.{SFits, toZ, ofZ}
 use lib.Dec.{lit<}
 use mir.Facts.{toZ-ofZ}
 use mir.Syntax.{w16, w64}
 use Rattle.arith.proofs.WithinLaws.{w-of, w-nat, w-fits, w-back}
-use Rattle.arith.proofs.reading_of.Statement.{statement}
-use Rattle.arith.proofs.reading_of.Tie as tie
+use Rattle.voice.proofs.reading.reading_of.Statement.{statement}
+use Rattle.voice.proofs.reading.reading_of.Tie as tie
 
 abbrev back16 : {z : ℤ} → SFits w16 z → toZ w64 (ofZ w64 z) ≡ z
 back16 h = w-back w64 (w-of w16 h) (lit< tt)

@@ -7,12 +7,13 @@ use lib.Count.{trailingZeros}
 use lib.Ieee.{fin, binary32, mul, ofInt, ofBits, ofFields, odd}
 use native.Mathlib.Nat.{le-trans}
 use mir.Facts.{toZ-ofZ}
-use Rattle.arith.specs.Floats.{unitOf}
-use Rattle.arith.proofs.FloatsLaws.{scaled, in-float, unit-made}
+use Rattle.engine.specs.Mixer.{unitOf}
+use Rattle.arith.proofs.FloatsLaws.{scaled, in-float}
+use Rattle.engine.proofs.MixerLaws.{unit-made}
 use Rattle.arith.specs.Within.{Within}
 use Rattle.arith.proofs.WithinLaws.{w-le}
-use Rattle.arith.proofs.to_unit.Statement.{statement}
-use Rattle.arith.proofs.to_unit.Tie as tie
+use Rattle.engine.proofs.mixer.to_unit.Statement.{statement}
+use Rattle.engine.proofs.mixer.to_unit.Tie as tie
 
 int-to-float-result : tie.Need-int-to-float-result
 int-to-float-result c = rw (toZ-ofZ (c .before .fits .k)) (in-float (c .before .args .k) 8388608 (c .before .pre) (lit≤ tt))

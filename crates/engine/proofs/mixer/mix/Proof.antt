@@ -1,8 +1,8 @@
 -- Both sides of the stereo frame.
 use borrow.Author.Needs.{needs, sfits-of}
 use mir.Facts.{toZ-ofZ}
-use Rattle.arith.proofs.mix.Statement.{statement}
-use Rattle.arith.proofs.mix.Tie as tie
+use Rattle.engine.proofs.mixer.mix.Statement.{statement}
+use Rattle.engine.proofs.mixer.mix.Tie as tie
 
 clamp-requires : tie.Need-clamp-requires
 clamp-requires c κs = search needs

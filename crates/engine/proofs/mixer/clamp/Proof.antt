@@ -2,10 +2,10 @@
 use mathlib.Core.Path.{sym}
 use lib.IntN.{pos, negsuc}
 use mir.Facts.{toZ-ofZ}
 use Rattle.arith.proofs.WithinLaws.{w-lit}
 use Rattle.arith.proofs.HoldsLaws.{clamp-low, clamp-high, clamp-in, amid}
-use Rattle.arith.proofs.clamp.Statement.{statement}
-use Rattle.arith.proofs.clamp.Tie as tie
+use Rattle.engine.proofs.mixer.clamp.Statement.{statement}
+use Rattle.engine.proofs.mixer.clamp.Tie as tie
 
 returns : tie.Need-returns
 returns c =

@@ -6,11 +6,12 @@ use lib.IntN.{pos, negsuc}
 use lib.Count.{trailingZeros}
 use Prim.Native.Nat.{ℕ, _≤_}
 use lib.Ieee.{fin, binary32, mul, ofInt, ofBits, ofFields, odd}
 use Rattle.arith.proofs.WithinLaws.{w-nat}
-use Rattle.arith.specs.Floats.{levelOf}
-use Rattle.arith.proofs.FloatsLaws.{scaled, in-float, level-made}
-use Rattle.arith.proofs.level_unit.Statement.{statement}
-use Rattle.arith.proofs.level_unit.Tie as tie
+use Rattle.voice.specs.Panel.{levelOf}
+use Rattle.arith.proofs.FloatsLaws.{scaled, in-float}
+use Rattle.voice.proofs.PanelLaws.{level-made}
+use Rattle.voice.proofs.panel.level_unit.Statement.{statement}
+use Rattle.voice.proofs.panel.level_unit.Tie as tie
 
 int-to-float-result : tie.Need-int-to-float-result
 int-to-float-result c = in-float (pos (c .before .args .n)) 16777216 (w-nat (c .before .pre)) (lit≤ tt)
