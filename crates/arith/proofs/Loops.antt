@@ -1,15 +1,15 @@
 -- Loops over slots: what has been mapped, counted and added when the first i of a list are done.
 use Prim.Native.Nat.{ℕ, suc, _+_, _≤_, zero, _<_}
-use mathlib.Core.Bool.{Bool, true, false, cond}
+use mathlib.Core.Bool.{Bool, true, false, cond, _||_, or-false, or-assoc}
 use native.Mathlib.Omega.{arith}
 use mathlib.Core.Path.{_≡_, refl, ap, sym, _∙_}
-use mathlib.Core.List.{List, [], _∷_, map}
-use lib.ListN.{length, getD, set}
+use mathlib.Core.List.{List, [], _∷_, map, _++_}
+use lib.ListN.{length, getD, set, take}
 use lib.IntN.{ℤ, pos, _+ℤ_, +ℤ-assoc, +ℤ-idl, +ℤ-idr}
-use lib.Seq.{set-getD}
+use lib.Seq.{set-getD, take-suc}
 use native.Mathlib.Nat.{not-suc-le-zero, le-of-suc-le-suc, suc-ne-zero, suc-inj}
 use native.Mathlib.Numerals.{add-one}
-use Rattle.arith.specs.Lists.{countIf, sumOf}
+use Rattle.arith.specs.Lists.{countIf, sumOf, anyOf}
 
 one-more : (b : Bool) (i n : ℕ) → n ≤ i → cond b 1 0 + n ≤ suc i
 one-more true i n h = omega arith
@@ -114,3 +114,14 @@ module _ {A : Type 0} where
   sum-all f [] (suc n) e = refl
   sum-all f (x ∷ xs) zero e = absurd (suc-ne-zero _ e)
   sum-all f (x ∷ xs) (suc n) e = ap (_+ℤ_ (f x)) (sum-all f xs n (suc-inj e))
+
+  any-snoc : (p : A → Bool) (xs : List A) (x : A) → anyOf p (xs ++ (x ∷ [])) ≡ (anyOf p xs || p x)
+  any-snoc p [] x = or-false (p x)
+  any-snoc p (y ∷ xs) x = ap (λ (b : Bool). p y || b) (any-snoc p xs x) ∙ sym (or-assoc (p y) (anyOf p xs) (p x))
+
+  -- a search for one that passes: before the first turn, and a turn
+  pub any-none : (p : A → Bool) (xs : List A) → anyOf p (take 0 xs) ≡ false
+  any-none p xs = refl
+
+  pub any-turn : (p : A → Bool) (xs : List A) (i : ℕ) (d : A) → i < length xs → anyOf p (take (i + 1) xs) ≡ (anyOf p (take i xs) || p (getD xs i d))
+  any-turn p xs i d h = rw (add-one, take-suc xs i d h) (any-snoc p (take i xs) (getD xs i d))

@@ -59,25 +59,6 @@ pub clock-there : (e : Engine) (to n t : ℕ) → e .clock < 4294967296 → to <
 unfolding distance
 clock-there e to n t h g p q = omega arith
 
-lack-snoc : (ram rom : List ℤ) (ss : List Slot) (s : Slot)
-    → lacking ram rom (ss ++ (s ∷ [])) ≡ (lacking ram rom ss || s .sounding && endsPast ram rom (s .voice))
-unfolding lacking
-lack-snoc ram rom [] s = or-false (s .sounding && endsPast ram rom (s .voice))
-lack-snoc ram rom (x ∷ ss) s =
-    ap (λ (b : Bool). x .sounding && endsPast ram rom (x .voice) || b) (lack-snoc ram rom ss s)
-    ∙ sym (or-assoc (x .sounding && endsPast ram rom (x .voice)) (lacking ram rom ss) (s .sounding && endsPast ram rom (s .voice)))
-
--- before the first turn, and a turn
-pub lack-none : (ram rom : List ℤ) (ss : List Slot) → lacking ram rom (take 0 ss) ≡ false
-unfolding lacking
-lack-none ram rom ss = refl
-
--- slot i is looked at
-pub lack-turn : (ram rom : List ℤ) (ss : List Slot) (i : ℕ) → i < length ss
-    → lacking ram rom (take (i + 1) ss)
-    ≡ (lacking ram rom (take i ss) || getD ss i (free blank) .sounding && endsPast ram rom (getD ss i (free blank) .voice))
-lack-turn ram rom ss i h = rw (add-one, take-suc ss i (free blank) h) (lack-snoc ram rom (take i ss) (getD ss i (free blank)))
-
 -- a free slot stays, and adds nothing
 module _ (c : Channel) (w : List ℤ) (n : ℕ) (s : Slot) (h : s .sounding ≡ false) where
   -- its step

@@ -12,7 +12,7 @@ use Rattle.voice.specs.Motion.{span}
 use Rattle.state.specs.Reach.{memory, endsPast}
 use Rattle.voice.specs.declared.Slot.{Slot}
 use Rattle.state.specs.Slots.{slotsOf, withSlots, withClock}
-use Rattle.arith.specs.Lists.{sumOf}
+use Rattle.arith.specs.Lists.{sumOf, anyOf}
 use Rattle.voice.specs.Frames.{after, leftIn, rightIn}
 use Rattle.state.specs.Channels.{channelAt}
 use Rattle.arith.specs.Holds.{heldTo}
@@ -30,10 +30,13 @@ window ram rom v =
     cond (leb (v .start) (v .end) && leb (v .end) (length (memory ram rom v)))
     (take (span v) (drop (v .start) (memory ram rom v))) []
 
--- one of the slots sounds and its window ends past its memory
+-- a slot sounds, and its window ends past its memory
+abbrev pub lacks : List ℤ → List ℤ → Slot → Bool
+lacks ram rom s = s .sounding && endsPast ram rom (s .voice)
+
+-- one of the slots does
 unfoldable pub lacking : List ℤ → List ℤ → List Slot → Bool
-lacking ram rom [] = false
-lacking ram rom (s ∷ ss) = s .sounding && endsPast ram rom (s .voice) || lacking ram rom ss
+lacking ram rom ss = anyOf (lacks ram rom) ss
 
 -- the tests: 5, 6, 7, 8 (`room` is the output's length)
 unfoldable pub renderNumber : ℕ → List ℤ → List ℤ → ℕ → Engine → ℕ

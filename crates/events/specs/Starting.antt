@@ -1,10 +1,11 @@
 -- 01, "Slots, keys and the clock": a note-on past its tests. Rivals of a class are freed, and layers started in slots.
-use mathlib.Core.Bool.{Bool, false, _||_, not, _&&_}
+use mathlib.Core.Bool.{Bool, not, _&&_}
 use mathlib.Core.List.{List, [], _∷_, map}
 use lib.IntN.{ℤ}
 use Prim.Native.Nat.{ℕ, _^_}
 use lib.Dec.{eqb}
 use lib.Bits.{bitOr}
+use Rattle.arith.specs.Lists.{anyOf}
 use Rattle.voice.specs.declared.Voice.{Voice}
 use Rattle.state.specs.Reach.{endsPast}
 use Rattle.voice.specs.declared.Slot.{Slot}
@@ -12,15 +13,17 @@ use Rattle.state.specs.Slots.{ofChannel, slotsOf, withSlots, cut}
 use Rattle.state.specs.declared.Engine.{Engine}
 use Rattle.state.specs.Seats.{seat, startIn}
 
--- one of them does
+-- the window of one of the voices ends past its memory
 unfoldable pub anyPast : List ℤ → List ℤ → List Voice → Bool
-anyPast ram rom [] = false
-anyPast ram rom (v ∷ vs) = endsPast ram rom v || anyPast ram rom vs
+anyPast ram rom vs = anyOf (endsPast ram rom) vs
 
--- the class is one of theirs, and not 0
+-- a voice has the class, which is not 0
+abbrev pub sameClass : ℕ → Voice → Bool
+sameClass class v = not (eqb class 0) && eqb (v .class) class
+
+-- one of the voices has the class, which is not 0
 unfoldable pub classIn : ℕ → List Voice → Bool
-classIn class [] = false
-classIn class (v ∷ vs) = not (eqb class 0) && eqb (v .class) class || classIn class vs
+classIn class vs = anyOf (sameClass class) vs
 
 -- a voice of the channel that has the same nonzero class as one of the layers
 unfoldable pub rival : ℕ → List Voice → Slot → Bool

@@ -14,6 +14,7 @@ use lib.Bits.{bitOr, or-step, or-zero-r}
 use lib.Count.{ones}
 use Rattle.arith.specs.Internal.Words.{lowestClear}
 use Rattle.voice.specs.declared.Voice.{Voice}
+use Rattle.state.specs.Quiet.{changed}
 use Rattle.state.specs.Slots.{paired, wordOf, slotsOf, withSlots, withOrder}
 use Rattle.state.specs.Seats.{lowestFree, leastBy, without, renewed}
 use Rattle.state.specs.Internal.Seats.{firstAt}
@@ -160,7 +161,7 @@ word-joined w (x ∷ vs) (suc i) v h g =
 -- a state with a voice started in slot i
 pub seated : (e : Engine) (i word : ℕ) (v : Voice) (o : List ℕ) → e .sounding < 2 ^ length (e .voices) → i < length (e .voices)
     → word ≡ bitOr (e .sounding) (2 ^ i)
-    → record { voices = set (e .voices) i v; channels = e .channels; sounding = word; order = o; clock = e .clock }
+    → changed e (set (e .voices) i v) (e .channels) word o (e .clock)
     ≡ withOrder (withSlots e (set (slotsOf e) i (sounds v))) o
 seated e i word v o h g q =
     ap₂ state
@@ -168,7 +169,7 @@ seated e i word v o h g q =
     (q ∙ sym (word-joined (e .sounding) (e .voices) i v h g))
   where
     state : List Voice → ℕ → Engine
-    state vs w = record { voices = vs; channels = e .channels; sounding = w; order = o; clock = e .clock }
+    state vs w = changed e vs (e .channels) w o (e .clock)
 
 flags-slots : (w : ℕ) (vs : List Voice) → map (λ (s : Slot). s .sounding) (paired w vs) ≡ flagsOf (length vs) w
 unfolding paired flagsOf

@@ -15,6 +15,7 @@ use Rattle.arith.proofs.WordsLaws.{bit-zero, bit-suc}
 use Rattle.voice.specs.declared.Voice.{Voice}
 use Rattle.voice.specs.declared.Slot.{Slot}
 use Rattle.voice.specs.Changes.{blank, free}
+use Rattle.state.specs.Quiet.{changed}
 use Rattle.state.specs.Slots.{paired, recordsOf, wordOf, slotsOf, withSlots, cut, ofChannel}
 use Rattle.state.proofs.SlotsLaws.{map-at}
 use Rattle.state.specs.declared.Engine.{Engine}
@@ -134,7 +135,7 @@ word-fits f ss i n h =
 -- the state with other records
 abbrev pub withVoices : Engine → List Voice → Engine
 withVoices e vs =
-    record { voices = vs; channels = e .channels; sounding = e .sounding; order = e .order; clock = e .clock }
+    changed e vs (e .channels) (e .sounding) (e .order) (e .clock)
 
 -- the records of the slots, one of them set
 pub voices-set : (ss : List Slot) (i : ℕ) (s : Slot) → recordsOf (set ss i s) ≡ set (recordsOf ss) i (s .voice)
@@ -168,7 +169,7 @@ pub rebuilt : (e : Engine) (ss : List Slot) → recordsOf ss ≡ e .voices → w
 rebuilt e ss h = ap with (sym h)
   where
     with : List Voice → Engine
-    with vs = record { voices = vs; channels = e .channels; sounding = wordOf ss; order = e .order; clock = e .clock }
+    with vs = changed e vs (e .channels) (wordOf ss) (e .order) (e .clock)
 
 -- freeing keeps the record, and a free slot
 pub cut-voice : (p : Slot → Bool) (s : Slot) → cut p s .voice ≡ s .voice

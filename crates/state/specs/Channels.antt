@@ -3,6 +3,7 @@ use Prim.Native.Nat.{ℕ}
 use lib.ListN.{getD, set}
 use Rattle.voice.specs.declared.Channel.{Channel}
 use Rattle.state.specs.declared.Engine.{Engine}
+use Rattle.state.specs.Quiet.{changed}
 
 -- a channel of zeros, which a read past the end gives
 abbrev pub noChannel : Channel
@@ -14,11 +15,4 @@ channelAt e c = getD (e .channels) c noChannel
 
 -- the state with another channel c
 abbrev pub withChannel : Engine → ℕ → Channel → Engine
-withChannel e c x =
-    record {
-      voices = e .voices;
-      channels = set (e .channels) c x;
-      sounding = e .sounding;
-      order = e .order;
-      clock = e .clock;
-    }
+withChannel e c x = changed e (e .voices) (set (e .channels) c x) (e .sounding) (e .order) (e .clock)

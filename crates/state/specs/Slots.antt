@@ -8,18 +8,7 @@ use Rattle.voice.specs.declared.Slot.{Slot}
 use Rattle.voice.specs.Changes.{free, blank}
 use Rattle.voice.specs.declared.Voice.{Voice}
 use Rattle.state.specs.declared.Engine.{Engine}
-
--- the slots that a test picks are freed
-unfoldable pub cut : (Slot → Bool) → Slot → Slot
-cut picks s = cond (picks s) (free (s .voice)) s
-
--- it sounds, and is of the channel
-unfoldable pub ofChannel : ℕ → Slot → Bool
-ofChannel channel s = s .sounding && eqb (s .voice .channel) channel
-
--- a slot with another voice
-abbrev pub withVoice : Slot → Voice → Slot
-withVoice s v = record { sounding = s .sounding; voice = v }
+use Rattle.state.specs.Quiet.{changed}
 
 -- the records, each with its bit of the word (the lowest bit is slot 0)
 unfoldable pub paired : ℕ → List Voice → List Slot
@@ -45,21 +34,24 @@ slotAt e i = getD (slotsOf e) i (free blank)
 
 -- the state with other slots
 abbrev pub withSlots : Engine → List Slot → Engine
-withSlots e ss =
-    record {
-      voices = recordsOf ss;
-      channels = e .channels;
-      sounding = wordOf ss;
-      order = e .order;
-      clock = e .clock;
-    }
+withSlots e ss = changed e (recordsOf ss) (e .channels) (wordOf ss) (e .order) (e .clock)
 
 -- the state with another order of age
 abbrev pub withOrder : Engine → List ℕ → Engine
-withOrder e o =
-    record { voices = e .voices; channels = e .channels; sounding = e .sounding; order = o; clock = e .clock }
+withOrder e o = changed e (e .voices) (e .channels) (e .sounding) o (e .clock)
 
 -- the state with another clock
 abbrev pub withClock : Engine → ℕ → Engine
-withClock e t =
-    record { voices = e .voices; channels = e .channels; sounding = e .sounding; order = e .order; clock = t }
+withClock e t = changed e (e .voices) (e .channels) (e .sounding) (e .order) t
+
+-- the slots that a test picks are freed
+unfoldable pub cut : (Slot → Bool) → Slot → Slot
+cut picks s = cond (picks s) (free (s .voice)) s
+
+-- it sounds, and is of the channel
+unfoldable pub ofChannel : ℕ → Slot → Bool
+ofChannel channel s = s .sounding && eqb (s .voice .channel) channel
+
+-- a slot with another voice
+abbrev pub withVoice : Slot → Voice → Slot
+withVoice s v = record { sounding = s .sounding; voice = v }

@@ -48,7 +48,7 @@ use Rattle.reader.specs.declared.Taken.{Taken}
 use Rattle.reader.proofs.step_from.Symbol.{name as #reader·step-from}
 use Rattle.reader.proofs.next.Key.{name as #reader·next}
 use denote.Struct.Laws as LL
-use Rattle.reader.proofs.ReaderLaws as T
+use Rattle.reader.proofs.Reader as T
 use Rattle.reader.proofs.Reader.Laws as T′
 use Rattle.reader.proofs.Step as S
 use Rattle.reader.proofs.Step.Laws as S′

@@ -46,7 +46,7 @@ use Rattle.reader.specs.declared.Taken.{Taken}
 use Rattle.reader.proofs.next.Symbol.{name as #reader·next}
 use Rattle.reader.proofs.nth.Key.{name as #reader·nth}
 use denote.Struct.Laws as LL
-use Rattle.reader.proofs.ReaderLaws as T
+use Rattle.reader.proofs.Reader as T
 use Rattle.reader.proofs.Reader.Laws as T′
 use Rattle.reader.proofs.Taken as N
 use Rattle.reader.proofs.Taken.Laws as N′

@@ -46,7 +46,7 @@ use Rattle.reader.proofs.open.Key.{name as #reader·open}
 use Rattle.bank.proofs.admission_number as callee
 use Rattle.bank.proofs.admission_number.Symbol as callee-def
 use Rattle.bank.proofs.admission_number.Met as callee-thm
-use Rattle.reader.proofs.ReaderLaws as T
+use Rattle.reader.proofs.Reader as T
 use Rattle.reader.proofs.Reader.Laws as T′
 use Rattle.reader.proofs.Opened as O
 use Rattle.reader.proofs.Opened.Laws as O′

@@ -10,9 +10,10 @@ use lib.Seq.{take-all}
 use Rattle.voice.specs.declared.Slot.{Slot}
 use Rattle.state.specs.Slots.{slotsOf}
 use Rattle.state.specs.Reach.{endsPast}
-use Rattle.engine.specs.Rendering.{lacking}
+use Rattle.engine.specs.Rendering.{lacking, lacks as lackingIn}
 use Rattle.state.proofs.SlotLoopLaws.{paired-length}
-use Rattle.engine.proofs.RenderingLaws.{lack-none, lack-turn}
+use Rattle.arith.proofs.Loops.{any-none, any-turn}
+use Rattle.voice.specs.Changes.{blank, free}
 use Rattle.engine.proofs.rendering.lacks.Statement.{statement}
 use Rattle.engine.proofs.rendering.lacks.Tie as tie
 
@@ -24,10 +25,11 @@ abbrev μ-loop : tie.MeasureT-loop
 μ-loop e ram rom found₀ i₀ found i = 32 - i
 
 loop-holds : tie.Need-loop-holds Inv-loop μ-loop
+unfolding lacking
 loop-holds c =
     let a = c .args in (
       paired-length (a .e .sounding) (a .e .voices) ∙ simp length-map at (c .good .0 .1 .1 .0 .1 .0 .1),
-      sym (lack-none (a .ram .now) (a .rom .now) (slotsOf (a .e))),
+      sym (any-none (lackingIn (a .ram .now) (a .rom .now)) (slotsOf (a .e))),
       omega arith,
     )
 
@@ -44,13 +46,14 @@ loop-less : tie.Need-loop-less Inv-loop μ-loop
 loop-less c = search needs
 
 loop-again : tie.Need-loop-again Inv-loop μ-loop
+unfolding lacking
 loop-again c =
     let l = c .before .before .before in
     let a = l .before .args in (
       l .loop .inv .0,
       c .or-lacks .ensures
           ∙ ap₂ (λ (b : Bool) (s : Slot). b || s .sounding && endsPast (a .ram .now) (a .rom .now) (s .voice)) (l .loop .inv .1) (c .before .slot-of .ensures)
-          ∙ sym (lack-turn (a .ram .now) (a .rom .now) (slotsOf (a .e)) (l .loop .i) (omega (arith, l .loop .inv .0))),
+          ∙ sym (any-turn (lackingIn (a .ram .now) (a .rom .now)) (slotsOf (a .e)) (l .loop .i) (free blank) (omega (arith, l .loop .inv .0))),
       omega arith,
     )
 

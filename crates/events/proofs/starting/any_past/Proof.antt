@@ -8,7 +8,7 @@ use lib.ListN.{length, getD, take}
 use Rattle.voice.specs.Changes.{blank}
 use Rattle.state.specs.Reach.{endsPast}
 use Rattle.events.specs.Starting.{anyPast}
-use Rattle.events.proofs.StartingLaws.{past-none, past-turn}
+use Rattle.arith.proofs.Loops.{any-none, any-turn}
 use Rattle.events.proofs.starting.any_past.Statement.{statement}
 use Rattle.events.proofs.starting.any_past.Tie as tie
 
@@ -20,7 +20,8 @@ abbrev μ-loop : tie.MeasureT-loop
 μ-loop ram rom n voices found₀ i₀ found i = n - i
 
 loop-holds : tie.Need-loop-holds Inv-loop μ-loop
-loop-holds c = (c .good .1 .1 .0 .1 .0 .1, sym (past-none (c .args .ram .now) (c .args .rom .now) (c .args .t3)), omega arith, omega arith)
+unfolding anyPast
+loop-holds c = (c .good .1 .1 .0 .1 .0 .1, sym (any-none (endsPast (c .args .ram .now) (c .args .rom .now)) (c .args .t3)), omega arith, omega arith)
 
 mul-v : tie.Need-mul-v Inv-loop μ-loop
 mul-v c = search needs
@@ -38,12 +39,13 @@ loop-less : tie.Need-loop-less Inv-loop μ-loop
 loop-less c = search needs
 
 loop-again : tie.Need-loop-again Inv-loop μ-loop
+unfolding anyPast
 loop-again c =
     let l = c .before .before .before in
     let a = l .before .args in (
       l .loop .inv .0,
       c .or-past .ensures ∙ ap (λ (b : Bool). b || endsPast (a .ram .now) (a .rom .now) (getD (a .t3) (l .loop .i) blank)) (l .loop .inv .1)
-          ∙ sym (past-turn (a .ram .now) (a .rom .now) (a .t3) (l .loop .i) (omega (arith, l .loop .inv .0))),
+          ∙ sym (any-turn (endsPast (a .ram .now) (a .rom .now)) (a .t3) (l .loop .i) blank (omega (arith, l .loop .inv .0))),
       omega arith,
       omega arith,
     )

@@ -6,8 +6,8 @@ use Prim.Native.Nat.{ℕ, _-_, _≤_}
 use mathlib.Core.Bool.{Bool, _||_}
 use lib.ListN.{length, getD, take}
 use Rattle.voice.specs.Changes.{blank}
-use Rattle.events.specs.Starting.{classIn}
-use Rattle.events.proofs.StartingLaws.{sameClass, class-none, class-turn}
+use Rattle.events.specs.Starting.{classIn, sameClass}
+use Rattle.arith.proofs.Loops.{any-none, any-turn}
 use Rattle.events.proofs.starting.class_in.Statement.{statement}
 use Rattle.events.proofs.starting.class_in.Tie as tie
 
@@ -19,7 +19,8 @@ abbrev μ-loop : tie.MeasureT-loop
 μ-loop class n voices found₀ i₀ found i = n - i
 
 loop-holds : tie.Need-loop-holds Inv-loop μ-loop
-loop-holds c = (c .good .1 .0 .1 .0 .1, sym (class-none (c .args .class) (c .args .t2)), omega arith, omega arith)
+unfolding classIn
+loop-holds c = (c .good .1 .0 .1 .0 .1, sym (any-none (sameClass (c .args .class)) (c .args .t2)), omega arith, omega arith)
 
 mul-v : tie.Need-mul-v Inv-loop μ-loop
 mul-v c = search needs
@@ -37,12 +38,13 @@ loop-less : tie.Need-loop-less Inv-loop μ-loop
 loop-less c = search needs
 
 loop-again : tie.Need-loop-again Inv-loop μ-loop
+unfolding classIn
 loop-again c =
     let l = c .before .before .before in
     let a = l .before .args in (
       l .loop .inv .0,
       c .or-class .ensures ∙ ap (λ (b : Bool). b || sameClass (a .class) (getD (a .t2) (l .loop .i) blank)) (l .loop .inv .1)
-          ∙ sym (class-turn (a .class) (a .t2) (l .loop .i) (omega (arith, l .loop .inv .0))),
+          ∙ sym (any-turn (sameClass (a .class)) (a .t2) (l .loop .i) blank (omega (arith, l .loop .inv .0))),
       omega arith,
       omega arith,
     )
