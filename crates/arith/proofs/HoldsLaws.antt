@@ -1,5 +1,5 @@
 -- Which case of a hold the tests of the code lead to.
-use mathlib.Core.Path.{_≡_, ap, _∙_, refl, subst}
+use mathlib.Core.Path.{_≡_, ap, _∙_, subst, refl}
 use mathlib.Core.Bool.{Bool, true, false, cond}
 use lib.IntN.{ℤ, pos, negsuc}
 use lib.Signed.{ltZ}

@@ -1,6 +1,6 @@
 -- Laws of render: a free slot is skipped, what all slots add to the sums, and the output made of the sums.
 use mathlib.Core.Path.{_≡_, refl, sym, ap, _∙_, subst, ap₂}
-use mathlib.Core.Bool.{cond, Bool, true, false, _&&_, _||_, or-false, or-assoc}
+use mathlib.Core.Bool.{cond, Bool, true, false}
 use mathlib.Core.List.{List, [], _∷_, _++_}
 use lib.IntN.{ℤ, pos, _+ℤ_, +ℤ-assoc, +ℤ-idr, +ℤ-idl}
 use Prim.Native.Nat.{ℕ, _*_, _≤_, _+_, _%_, _<_, zero, suc}
@@ -19,8 +19,6 @@ use Rattle.engine.specs.Rendering.{window, distance, lacking, renderNumb
 use Rattle.state.specs.declared.Engine.{Engine}
 use Rattle.state.specs.Slots.{slotsOf}
 use Rattle.voice.specs.declared.Slot.{Slot}
-use Rattle.state.specs.Reach.{endsPast}
-use Rattle.voice.specs.Changes.{blank, free}
 use Rattle.voice.specs.declared.Channel.{Channel}
 use Rattle.voice.specs.Motion.{step}
 use Rattle.voice.specs.Sound.{loss}
@@ -31,6 +29,7 @@ use Rattle.voice.proofs.Silence.{adds-nothing, stays-small}
 use Rattle.voice.proofs.Advance.{free-stays}
 use Rattle.voice.specs.Internal.Sums.{addTo, Small}
 use Rattle.voice.proofs.SumsLaws.{addTo-none, small-none, addTo-length}
+use Rattle.voice.specs.Changes.{blank, free}
 use Rattle.state.specs.Channels.{channelAt}
 use Rattle.engine.specs.Internal.Sums.{addAll, mixedTo, slotHeard}
 use Rattle.arith.specs.Lists.{sumOf}

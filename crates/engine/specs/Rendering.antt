@@ -1,6 +1,6 @@
 -- 01, "A voice, frame by frame" (output), "Slots, keys and the clock" (clock), and the table: render.
 use Prim.Native.Nat.{ℕ, _+_, _-_, _%_, _*_, zero, suc}
-use mathlib.Core.Bool.{cond, _&&_, Bool, false, _||_}
+use mathlib.Core.Bool.{cond, _&&_, Bool}
 use mathlib.Core.List.{List, [], _∷_, _++_, map}
 use lib.Dec.{leb, ltb, eqb}
 use lib.IntN.{ℤ, pos, negsuc}
@@ -11,8 +11,8 @@ use Rattle.voice.specs.declared.Voice.{Voice}
 use Rattle.voice.specs.Motion.{span}
 use Rattle.state.specs.Reach.{memory, endsPast}
 use Rattle.voice.specs.declared.Slot.{Slot}
+use Rattle.arith.specs.Lists.{anyOf, sumOf}
 use Rattle.state.specs.Slots.{slotsOf, withSlots, withClock}
-use Rattle.arith.specs.Lists.{sumOf, anyOf}
 use Rattle.voice.specs.Frames.{after, leftIn, rightIn}
 use Rattle.state.specs.Channels.{channelAt}
 use Rattle.arith.specs.Holds.{heldTo}

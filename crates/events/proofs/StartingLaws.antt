@@ -1,17 +1,13 @@
 -- Laws of a note-on's loops: each goes along the first layers of a list, and a turn is one layer more.
-use mathlib.Core.Path.{_≡_, sym, ap, _∙_, refl}
-use mathlib.Core.Bool.{Bool, _||_, or-false, or-assoc, false, not, _&&_}
+use mathlib.Core.Path.{_≡_, refl}
 use mathlib.Core.List.{List, [], _∷_, _++_}
-use lib.IntN.{ℤ}
-use lib.ListN.{take, length, getD}
 use Prim.Native.Nat.{ℕ, _+_, _<_}
+use lib.ListN.{take, length, getD}
 use native.Mathlib.Numerals.{add-one}
 use lib.Seq.{take-suc}
-use lib.Dec.{eqb}
 use Rattle.voice.specs.declared.Voice.{Voice}
-use Rattle.state.specs.Reach.{endsPast}
-use Rattle.events.specs.Starting.{anyPast, classIn, rival, Started, start, startAll}
-use Rattle.voice.specs.Changes.{blank, free}
+use Rattle.events.specs.Starting.{rival, Started, start, startAll}
+use Rattle.voice.specs.Changes.{free, blank}
 use Rattle.state.specs.Slots.{ofChannel, cut}
 
 -- a free slot is no rival

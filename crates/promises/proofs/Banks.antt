@@ -52,12 +52,12 @@ pub record Came (x : Call) (u : Voice) : Type 0 where
 
 -- each of them, by its bank and its call
 pub came : (x : Call) (e : Engine) (u : Voice) → Among u (begun x e) → Came x u
-came (Calls.noteOn b ram rom c k v) e u a = by (eqb status 0) refl (eqb v 0) refl a
+came (Calls.NoteOn b ram rom c k v) e u a = by (eqb status 0) refl (eqb v 0) refl a
   where
     status : ℕ
-    status = does (Calls.noteOn b ram rom c k v) e .status
+    status = does (Calls.NoteOn b ram rom c k v) e .status
 
-    by : (s : Bool) → eqb status 0 ≡ s → (z : Bool) → eqb v 0 ≡ z → Among u (cond s (cond z [] (layerVoices (bankFrom b) c k v e)) []) → Came (Calls.noteOn b ram rom c k v) u
+    by : (s : Bool) → eqb status 0 ≡ s → (z : Bool) → eqb v 0 ≡ z → Among u (cond s (cond z [] (layerVoices (bankFrom b) c k v e)) []) → Came (Calls.NoteOn b ram rom c k v) u
     by false h z q a = absurd a
     by true h true q a = absurd a
     by true h false q a =
@@ -74,9 +74,9 @@ came (Calls.noteOn b ram rom c k v) e u a = by (eqb status 0) refl (eqb v 0) ref
           struck = rw (q, eq-eqb c (u .channel) (sym (g .channel)), eq-eqb k (u .key) (sym (g .key))) refl;
         })
         (note-on-numbers b ram rom c k v e .done .0 (eqb-true status 0 h))
-came (Calls.noteOff c k) e u a = absurd a
-came (Calls.control c n v) e u a = absurd a
-came (Calls.program c p) e u a = absurd a
-came (Calls.bend c b) e u a = absurd a
-came (Calls.render to ram rom out) e u a = absurd a
-came (Calls.ask i) e u a = absurd a
+came (Calls.NoteOff c k) e u a = absurd a
+came (Calls.Control c n v) e u a = absurd a
+came (Calls.Program c p) e u a = absurd a
+came (Calls.Bend c b) e u a = absurd a
+came (Calls.Render to ram rom out) e u a = absurd a
+came (Calls.Ask i) e u a = absurd a

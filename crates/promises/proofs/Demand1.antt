@@ -85,26 +85,26 @@ kept to ram rom out e h = by (eqb (renderNumber to ram rom (length out) e) 0) h
 -- call by call: each is refused as it was, or done
 pub changes-nothing : RefusalsChangeNothing
 unfolding noteOff controlChange programChange pitchBend noteOn render
-changes-nothing (Calls.noteOn b ram rom c k v) e h =
-    untouched (Calls.noteOn b ram rom c k v) e refl
+changes-nothing (Calls.NoteOn b ram rom c k v) e h =
+    untouched (Calls.NoteOn b ram rom c k v) e refl
     (answers (cond (pastTwo c k v) 2 0) e _
     (choose e (eqb v 0) _ _ (off-fine c k e)
     (answers (noteOnNumber (bankFrom b) ram rom c k v e) e _ (fine e (done (length (layerVoices (bankFrom b) c k v e)) (struck c (layerVoices (bankFrom b) c k v e) e .engine)) refl)))) h
-changes-nothing (Calls.noteOff c k) e h =
-    untouched (Calls.noteOff c k) e refl (answers (cond (pastOne c k) 2 0) e (offKey c k e) (off-fine c k e)) h
-changes-nothing (Calls.control c n v) e h =
-    untouched (Calls.control c n v) e refl
+changes-nothing (Calls.NoteOff c k) e h =
+    untouched (Calls.NoteOff c k) e refl (answers (cond (pastOne c k) 2 0) e (offKey c k e) (off-fine c k e)) h
+changes-nothing (Calls.Control c n v) e h =
+    untouched (Calls.Control c n v) e refl
     (answers (cond (pastTwo c n v) 2 0) e (done 0 (controlled c n v e)) (fine e (done 0 (controlled c n v e)) refl)) h
-changes-nothing (Calls.program c p) e h =
+changes-nothing (Calls.Program c p) e h =
     let x = done 0 (withChannel e c (withProgram (channelAt e c) p)) in
-    untouched (Calls.program c p) e refl (answers (cond (pastOne c p) 2 0) e x (fine e x refl)) h
-changes-nothing (Calls.bend c b) e h =
+    untouched (Calls.Program c p) e refl (answers (cond (pastOne c p) 2 0) e x (fine e x refl)) h
+changes-nothing (Calls.Bend c b) e h =
     let x = done 0 (withChannel e c (withBend (channelAt e c) b)) in
-    untouched (Calls.bend c b) e refl (answers (cond (pastBend c b) 2 0) e x (fine e x refl)) h
-changes-nothing (Calls.render to ram rom out) e h =
+    untouched (Calls.Bend c b) e refl (answers (cond (pastBend c b) 2 0) e x (fine e x refl)) h
+changes-nothing (Calls.Render to ram rom out) e h =
     let x = done 0 (withClock (played ram rom (distance e to) e) to) in
-    untouched (Calls.render to ram rom out) e (kept to ram rom out e h) (answers (renderNumber to ram rom (length out) e) e x (fine e x refl)) h
-changes-nothing (Calls.ask i) e h = record { count = refl; state = refl; output = refl }
+    untouched (Calls.Render to ram rom out) e (kept to ram rom out e h) (answers (renderNumber to ram rom (length out) e) e x (fine e x refl)) h
+changes-nothing (Calls.Ask i) e h = record { count = refl; state = refl; output = refl }
 
 -- ---- render's numbers
 
@@ -456,7 +456,7 @@ zero-or-two false n e = inl e
 -- the tests give no other number
 pub no-other : NoOther
 unfolding noteOff offKey controlChange programChange pitchBend
-no-other (Calls.noteOn b ram rom c k v) e =
+no-other (Calls.NoteOn b ram rom c k v) e =
     by (pastTwo c k v) (eqb v 0) (not (bankFrom b .admitted)) (not (bankFrom b .hasPreset (channelBank e c) (channelAt e c .program))) (ltb 32 (length (layerVoices (bankFrom b) c k v e))) (anyPast ram rom (layerVoices (bankFrom b) c k v e))
     (status-is (bankFrom b) ram rom c k v e)
   where
@@ -471,11 +471,11 @@ no-other (Calls.noteOn b ram rom c k v) e =
     by false false false false true w h = inr (inr (inr (inr (inl h))))
     by false false false false false true h = inr (inr (inr (inr (inr h))))
     by false false false false false false h = inl h
-no-other (Calls.noteOff c k) e = zero-or-two (pastOne c k) _ (number-is (cond (pastOne c k) 2 0) e (offKey c k e .count) (offKey c k e .engine))
-no-other (Calls.control c k v) e = zero-or-two (pastTwo c k v) _ (number-is (cond (pastTwo c k v) 2 0) e 0 (controlled c k v e))
-no-other (Calls.program c k) e = zero-or-two (pastOne c k) _ (number-is (cond (pastOne c k) 2 0) e 0 (withChannel e c (withProgram (channelAt e c) k)))
-no-other (Calls.bend c k) e = zero-or-two (pastBend c k) _ (number-is (cond (pastBend c k) 2 0) e 0 (withChannel e c (withBend (channelAt e c) k)))
-no-other (Calls.render to ram rom out) e =
+no-other (Calls.NoteOff c k) e = zero-or-two (pastOne c k) _ (number-is (cond (pastOne c k) 2 0) e (offKey c k e .count) (offKey c k e .engine))
+no-other (Calls.Control c k v) e = zero-or-two (pastTwo c k v) _ (number-is (cond (pastTwo c k v) 2 0) e 0 (controlled c k v e))
+no-other (Calls.Program c k) e = zero-or-two (pastOne c k) _ (number-is (cond (pastOne c k) 2 0) e 0 (withChannel e c (withProgram (channelAt e c) k)))
+no-other (Calls.Bend c k) e = zero-or-two (pastBend c k) _ (number-is (cond (pastBend c k) 2 0) e 0 (withChannel e c (withBend (channelAt e c) k)))
+no-other (Calls.Render to ram rom out) e =
     by (leb 2147483648 (distance e to)) (ltb 4096 (distance e to)) (ltb (length out) (2 * distance e to)) (lacking ram rom (slotsOf e)) (render-status to ram rom out e)
   where
     n : ℕ
@@ -487,7 +487,7 @@ no-other (Calls.render to ram rom out) e =
     by false false true d h = inr (inr (inr (inl h)))
     by false false false true h = inr (inr (inr (inr h)))
     by false false false false h = inl h
-no-other (Calls.ask i) e = zero-or-two (ltb 31 i) _ (ask-number i e)
+no-other (Calls.Ask i) e = zero-or-two (ltb 31 i) _ (ask-number i e)
 
 -- ---- admission and listing
 

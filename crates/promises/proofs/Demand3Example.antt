@@ -10,7 +10,7 @@ use native.Mathlib.Omega.{arith}
 use borrow.Author.Tests.{eqb-false}
 use Rattle.voice.specs.declared.Stage.the-variants.{Delay}
 use Rattle.voice.specs.declared.Voice.{Voice}
-use Rattle.promises.specs.Calls.{Call, noteOn, noteOff, bend, render, run, framesRun, voiceIn, seats, among}
+use Rattle.promises.specs.Calls.{Call, NoteOn, NoteOff, Bend, Render, run, framesRun, voiceIn, seats, among}
 use Rattle.voice.specs.Changes.{blank}
 use Rattle.state.specs.declared.Engine.{Engine}
 use Rattle.state.specs.Quiet.{freshChannel, upFrom, fresh}
@@ -111,7 +111,7 @@ voice =
 
 -- it is struck
 abbrev before : List Call
-before = noteOn bell ram [] 0 60 100 ∷ []
+before = NoteOn bell ram [] 0 60 100 ∷ []
 
 -- the state then
 abbrev struckBell : Engine
@@ -121,12 +121,12 @@ struckBell =
 -- five frames in two cuts; between them a key is left, another channel is bent, a note-on is refused and another key is struck
 abbrev meanwhile : List Call
 meanwhile =
-    render 3 ram [] (replicate 6 nan)
-    ∷ noteOff 0 61
-    ∷ bend 1 9000
-    ∷ noteOn [] ram [] 0 60 100
-    ∷ noteOn bell ram [] 0 64 90
-    ∷ render 5 ram [] (replicate 4 nan)
+    Render 3 ram [] (replicate 6 nan)
+    ∷ NoteOff 0 61
+    ∷ Bend 1 9000
+    ∷ NoteOn [] ram [] 0 60 100
+    ∷ NoteOn bell ram [] 0 64 90
+    ∷ Render 5 ram [] (replicate 4 nan)
     ∷ []
 
 -- what is computed: the state once it is struck; that each call meets the conditions, at a pitch total of 0 cents; the frames;

@@ -247,7 +247,7 @@ abbrev pub seatsAt : (c k : ℕ) → List Voice → Engine → (t z q : Bool) �
 seatsAt c k vs e t z q n = seats (strikesAt c k vs e t z q n) (record { engine = cleared c (strikesAt c k vs e t z q n) e; mine = 0 })
 
 -- a note-on
-note-on-to : (b : List ℕ) (ram rom : List ℤ) (c k v : ℕ) (e : Engine) (i : ℕ) → What (Calls.noteOn b ram rom c k v) e i
+note-on-to : (b : List ℕ) (ram rom : List ℤ) (c k v : ℕ) (e : Engine) (i : ℕ) → What (Calls.NoteOn b ram rom c k v) e i
 unfolding noteOn
 note-on-to b ram rom c k v e i = by (pastTwo c k v) (eqb v 0) (eqb number 0) number
   where
@@ -265,7 +265,7 @@ note-on-to b ram rom c k v e i = by (pastTwo c k v) (eqb v 0) (eqb number 0) num
     by false false false n = stands refl refl
 
 -- a render
-render-to : (to : ℕ) (ram rom : List ℤ) (out : List Float) (e : Engine) (i : ℕ) → What (Calls.render to ram rom out) e i
+render-to : (to : ℕ) (ram rom : List ℤ) (out : List Float) (e : Engine) (i : ℕ) → What (Calls.Render to ram rom out) e i
 unfolding render played
 render-to to ram rom out e i = by (eqb (renderNumber to ram rom (length out) e) 0) refl
   where
@@ -285,12 +285,12 @@ render-to to ram rom out e i = by (eqb (renderNumber to ram rom (length out) e) 
 -- every call
 pub what : (x : Call) (e : Engine) (i : ℕ) → What x e i
 unfolding noteOff controlChange programChange pitchBend
-what (Calls.noteOn b ram rom c k v) e i = note-on-to b ram rom c k v e i
-what (Calls.noteOff c k) e i = answered e i c _ _ (cond (pastOne c k) 2 0) (offKey c k e) (let-key e i c _ _ k)
-what (Calls.control c n v) e i = answered e i c _ _ (cond (pastTwo c n v) 2 0) (done 0 (controlled c n v e)) (control-to e i c _ _ n v)
-what (Calls.program c p) e i =
+what (Calls.NoteOn b ram rom c k v) e i = note-on-to b ram rom c k v e i
+what (Calls.NoteOff c k) e i = answered e i c _ _ (cond (pastOne c k) 2 0) (offKey c k e) (let-key e i c _ _ k)
+what (Calls.Control c n v) e i = answered e i c _ _ (cond (pastTwo c n v) 2 0) (done 0 (controlled c n v e)) (control-to e i c _ _ n v)
+what (Calls.Program c p) e i =
     answered e i c _ _ (cond (pastOne c p) 2 0) (done 0 (withChannel e c (withProgram (channelAt e c) p))) (stands refl refl)
-what (Calls.bend c b) e i =
+what (Calls.Bend c b) e i =
     answered e i c _ _ (cond (pastBend c b) 2 0) (done 0 (withChannel e c (withBend (channelAt e c) b))) (stands refl refl)
-what (Calls.render to ram rom out) e i = render-to to ram rom out e i
-what (Calls.ask s) e i = stands refl refl
+what (Calls.Render to ram rom out) e i = render-to to ram rom out e i
+what (Calls.Ask s) e i = stands refl refl

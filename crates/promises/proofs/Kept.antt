@@ -64,25 +64,25 @@ module _ (P : Engine → Type 0) (l : Lasting P) where
   -- a call
   pub call-keeps : (x : Call) (e : Engine) → P e → P (next x e)
   unfolding noteOn noteOff controlChange programChange pitchBend render struck cleared played
-  call-keeps (Calls.noteOn b ram rom c k v) e h =
+  call-keeps (Calls.NoteOn b ram rom c k v) e h =
       let vs = layerVoices (bankFrom b) c k v e in
       told (cond (pastTwo c k v) 2 0) e _ h
       (either (λ (x : Answered). P (x .engine)) (eqb v 0) _ _ (lets c k e h)
       (told (noteOnNumber (bankFrom b) ram rom c k v e) e (done (length vs) (struck c vs e .engine)) h
       (layers vs (record { engine = cleared c vs e; mine = 0 }) (l .slots e (cut (rival c vs)) h))))
-  call-keeps (Calls.noteOff c k) e h = told (cond (pastOne c k) 2 0) e (offKey c k e) h (lets c k e h)
-  call-keeps (Calls.control c n v) e h = told (cond (pastTwo c n v) 2 0) e (done 0 (controlled c n v e)) h (controls c n v e h)
-  call-keeps (Calls.program c p) e h =
+  call-keeps (Calls.NoteOff c k) e h = told (cond (pastOne c k) 2 0) e (offKey c k e) h (lets c k e h)
+  call-keeps (Calls.Control c n v) e h = told (cond (pastTwo c n v) 2 0) e (done 0 (controlled c n v e)) h (controls c n v e h)
+  call-keeps (Calls.Program c p) e h =
       let x = withProgram (channelAt e c) p in
       told (cond (pastOne c p) 2 0) e (done 0 (withChannel e c x)) h (l .channel e c x h)
-  call-keeps (Calls.bend c b) e h =
+  call-keeps (Calls.Bend c b) e h =
       let x = withBend (channelAt e c) b in
       told (cond (pastBend c b) 2 0) e (done 0 (withChannel e c x)) h (l .channel e c x h)
-  call-keeps (Calls.render to ram rom out) e h =
+  call-keeps (Calls.Render to ram rom out) e h =
       let d = distance e to in
       told (renderNumber to ram rom (length out) e) e (done 0 (withClock (played ram rom d e) to)) h
       (l .clock (played ram rom d e) to (l .slots e (slotAfter ram rom e d) h))
-  call-keeps (Calls.ask i) e h = h
+  call-keeps (Calls.Ask i) e h = h
 
   -- a run
   pub run-keeps : (xs : List Call) (e : Engine) → P e → P (run xs e)

@@ -114,7 +114,7 @@ in-fifteen c n v q = ltb-false 15 c (or-no (ltb 15 c) (ltb 127 n) (or-no (ltb 15
 -- a call lifts the pedal of channel d
 pub record Lift (x : Call) (d : ℕ) : Type 0 where
   pub value : ℕ
-  pub is : x ≡ Calls.control d 64 value
+  pub is : x ≡ Calls.Control d 64 value
   pub range : d ≤ 15
   pub low : value < 64
 
@@ -163,27 +163,27 @@ module _ (d : ℕ) (e : Engine) (down : pedalDown e d ≡ true) where
   -- a pedal that is down stays down, unless the call lifts it
   stays-down : (x : Call) → (Lift x d → ⊥) → Down (next x e)
   unfolding noteOn noteOff controlChange programChange pitchBend render struck cleared played
-  stays-down (Calls.noteOn b ram rom c k v) h =
+  stays-down (Calls.NoteOn b ram rom c k v) h =
       let vs = layerVoices (bankFrom b) c k v e in
       told (cond (pastTwo c k v) 2 0) _
       (either (λ (x : Answered). Down (x .engine)) (eqb v 0) _ _ (off-down c k)
       (told (noteOnNumber (bankFrom b) ram rom c k v e) (done (length vs) (struck c vs e .engine)) (layers vs (record { engine = cleared c vs e; mine = 0 }) down)))
-  stays-down (Calls.noteOff c k) h = told (cond (pastOne c k) 2 0) (offKey c k e) (off-down c k)
-  stays-down (Calls.control c n v) h = by (pastTwo c n v) refl
+  stays-down (Calls.NoteOff c k) h = told (cond (pastOne c k) 2 0) (offKey c k e) (off-down c k)
+  stays-down (Calls.Control c n v) h = by (pastTwo c n v) refl
     where
       by : (t : Bool) → pastTwo c n v ≡ t → Down (answer (cond t 2 0) e (done 0 (controlled c n v e)) .engine)
       by true q = down
       by false q =
-          controls-down c n v (λ p m l. h (record { value = v; is = ap (λ (y : ℕ). Calls.control y n v) p ∙ ap (λ (y : ℕ). Calls.control d y v) m; range = subst (λ (y : ℕ). y ≤ 15) p (in-fifteen c n v q); low = l }))
-  stays-down (Calls.program c p) h =
+          controls-down c n v (λ p m l. h (record { value = v; is = ap (λ (y : ℕ). Calls.Control y n v) p ∙ ap (λ (y : ℕ). Calls.Control d y v) m; range = subst (λ (y : ℕ). y ≤ 15) p (in-fifteen c n v q); low = l }))
+  stays-down (Calls.Program c p) h =
       let x = withProgram (channelAt e c) p in
       told (cond (pastOne c p) 2 0) (done 0 (withChannel e c x)) (same c x refl)
-  stays-down (Calls.bend c b) h =
+  stays-down (Calls.Bend c b) h =
       let x = withBend (channelAt e c) b in
       told (cond (pastBend c b) 2 0) (done 0 (withChannel e c x)) (same c x refl)
-  stays-down (Calls.render to ram rom out) h =
+  stays-down (Calls.Render to ram rom out) h =
       told (renderNumber to ram rom (length out) e) (done 0 (withClock (played ram rom (distance e to) e) to)) down
-  stays-down (Calls.ask i) h = down
+  stays-down (Calls.Ask i) h = down
 
 -- ---- held voices, by their parts
 
@@ -331,28 +331,28 @@ module _ (c k : ℕ) where
 
   -- a call that leaves it
   left-call : c ≤ 15 → k ≤ 127 → (x : Call) (e : Engine) → leaves c k x ≡ true → Gone (next x e)
-  left-call hc hk (Calls.noteOn b ram rom ch key v) e l = by (eqb v 0) refl (eqb ch c) refl l
+  left-call hc hk (Calls.NoteOn b ram rom ch key v) e l = by (eqb v 0) refl (eqb ch c) refl l
     where
-      by : (z : Bool) → eqb v 0 ≡ z → (y : Bool) → eqb ch c ≡ y → cond z (cond y (eqb key k) false) false ≡ true → Gone (next (Calls.noteOn b ram rom ch key v) e)
+      by : (z : Bool) → eqb v 0 ≡ z → (y : Bool) → eqb ch c ≡ y → cond z (cond y (eqb key k) false) false ≡ true → Gone (next (Calls.NoteOn b ram rom ch key v) e)
       by false p y q r i = absurd (never r)
       by true p false q r i = absurd (never r)
       by true p true q r i =
-          ap (λ (y : ℕ). heldKey c k (slotAt (next (Calls.noteOn b ram rom y key v) e) i)) (eqb-true ch c q)
-          ∙ ap (λ (y : ℕ). heldKey c k (slotAt (next (Calls.noteOn b ram rom c y v) e) i)) (eqb-true key k r)
-          ∙ ap (λ (y : ℕ). heldKey c k (slotAt (next (Calls.noteOn b ram rom c k y) e) i)) (eqb-true v 0 p)
+          ap (λ (y : ℕ). heldKey c k (slotAt (next (Calls.NoteOn b ram rom y key v) e) i)) (eqb-true ch c q)
+          ∙ ap (λ (y : ℕ). heldKey c k (slotAt (next (Calls.NoteOn b ram rom c y v) e) i)) (eqb-true key k r)
+          ∙ ap (λ (y : ℕ). heldKey c k (slotAt (next (Calls.NoteOn b ram rom c k y) e) i)) (eqb-true v 0 p)
           ∙ ap (λ (a : Answered). heldKey c k (slotAt (a .engine) i)) (zero-off b ram rom c k e hc hk) ∙ reaches c k e hc hk .none i
-  left-call hc hk (Calls.noteOff ch key) e l = by (eqb ch c) refl l
+  left-call hc hk (Calls.NoteOff ch key) e l = by (eqb ch c) refl l
     where
-      by : (y : Bool) → eqb ch c ≡ y → cond y (eqb key k) false ≡ true → Gone (next (Calls.noteOff ch key) e)
+      by : (y : Bool) → eqb ch c ≡ y → cond y (eqb key k) false ≡ true → Gone (next (Calls.NoteOff ch key) e)
       by false q r i = absurd (never r)
       by true q r i =
-          ap (λ (y : ℕ). heldKey c k (slotAt (next (Calls.noteOff y key) e) i)) (eqb-true ch c q)
-          ∙ ap (λ (y : ℕ). heldKey c k (slotAt (next (Calls.noteOff c y) e) i)) (eqb-true key k r) ∙ reaches c k e hc hk .none i
-  left-call hc hk (Calls.control ch n v) e l = absurd (never l)
-  left-call hc hk (Calls.program ch p) e l = absurd (never l)
-  left-call hc hk (Calls.bend ch b) e l = absurd (never l)
-  left-call hc hk (Calls.render to ram rom out) e l = absurd (never l)
-  left-call hc hk (Calls.ask i) e l = absurd (never l)
+          ap (λ (y : ℕ). heldKey c k (slotAt (next (Calls.NoteOff y key) e) i)) (eqb-true ch c q)
+          ∙ ap (λ (y : ℕ). heldKey c k (slotAt (next (Calls.NoteOff c y) e) i)) (eqb-true key k r) ∙ reaches c k e hc hk .none i
+  left-call hc hk (Calls.Control ch n v) e l = absurd (never l)
+  left-call hc hk (Calls.Program ch p) e l = absurd (never l)
+  left-call hc hk (Calls.Bend ch b) e l = absurd (never l)
+  left-call hc hk (Calls.Render to ram rom out) e l = absurd (never l)
+  left-call hc hk (Calls.Ask i) e l = absurd (never l)
 
   -- a run behind whose last strike the key is left
   gone-run : c ≤ 15 → k ≤ 127 → (xs : List Call) (e : Engine) (b : Bool) → (b ≡ false → Gone e) → struckAfter c k b xs ≡ false → Gone (run xs e)

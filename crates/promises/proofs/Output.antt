@@ -96,22 +96,22 @@ module _ (d : ℕ) (e : Engine) where
 -- call by call: only its own channel is set
 pub channels-stand : OtherChannelsStand
 unfolding noteOn noteOff offKey off controlChange programChange pitchBend render struck cleared played
-channels-stand (Calls.noteOn b ram rom c k v) e d h =
+channels-stand (Calls.NoteOn b ram rom c k v) e d h =
     let vs = layerVoices (bankFrom b) c k v e in
     told d e (cond (pastTwo c k v) 2 0) _
     (either (λ (x : Answered). Same d e (x .engine)) (eqb v 0) _ _ refl
     (told d e (noteOnNumber (bankFrom b) ram rom c k v e) (done (length vs) (struck c vs e .engine)) (layers d e vs (record { engine = cleared c vs e; mine = 0 }) refl)))
-channels-stand (Calls.noteOff c k) e d h = told d e (cond (pastOne c k) 2 0) (offKey c k e) refl
-channels-stand (Calls.control c n v) e d h = told d e (cond (pastTwo c n v) 2 0) (done 0 (controlled c n v e)) (controls d e c n v h)
-channels-stand (Calls.program c p) e d h =
+channels-stand (Calls.NoteOff c k) e d h = told d e (cond (pastOne c k) 2 0) (offKey c k e) refl
+channels-stand (Calls.Control c n v) e d h = told d e (cond (pastTwo c n v) 2 0) (done 0 (controlled c n v e)) (controls d e c n v h)
+channels-stand (Calls.Program c p) e d h =
     let x = withProgram (channelAt e c) p in
     told d e (cond (pastOne c p) 2 0) (done 0 (withChannel e c x)) (apart d e c x h)
-channels-stand (Calls.bend c b) e d h =
+channels-stand (Calls.Bend c b) e d h =
     let x = withBend (channelAt e c) b in
     told d e (cond (pastBend c b) 2 0) (done 0 (withChannel e c x)) (apart d e c x h)
-channels-stand (Calls.render to ram rom out) e d h =
+channels-stand (Calls.Render to ram rom out) e d h =
     told d e (renderNumber to ram rom (length out) e) (done 0 (withClock (played ram rom (distance e to) e) to)) refl
-channels-stand (Calls.ask i) e d h = refl
+channels-stand (Calls.Ask i) e d h = refl
 
 -- ---- the output
 
@@ -167,8 +167,8 @@ module _ (ram rom : List ℤ) (e : Engine) where
       by false q f = f (l ∷ r ∷ t) d (below (eqb-false j n q))
 
 -- what a done render writes
-done-written : (to : ℕ) (ram rom : List ℤ) (out : List Float) (e : Engine) → does (Calls.render to ram rom out) e .status ≡ 0
-    → written (Calls.render to ram rom out) e ≡ output ram rom e (distance e to) ++ drop (2 * distance e to) out
+done-written : (to : ℕ) (ram rom : List ℤ) (out : List Float) (e : Engine) → does (Calls.Render to ram rom out) e .status ≡ 0
+    → written (Calls.Render to ram rom out) e ≡ output ram rom e (distance e to) ++ drop (2 * distance e to) out
 unfolding render rendered
 done-written to ram rom out e h = by (eqb number 0) refl h
   where
@@ -181,8 +181,8 @@ done-written to ram rom out e h = by (eqb number 0) refl h
     by false q k = absurd (eqb-false number 0 q k)
 
 -- and the state after it
-done-state : (to : ℕ) (ram rom : List ℤ) (out : List Float) (e : Engine) → does (Calls.render to ram rom out) e .status ≡ 0
-    → next (Calls.render to ram rom out) e ≡ withClock (played ram rom (distance e to) e) to
+done-state : (to : ℕ) (ram rom : List ℤ) (out : List Float) (e : Engine) → does (Calls.Render to ram rom out) e .status ≡ 0
+    → next (Calls.Render to ram rom out) e ≡ withClock (played ram rom (distance e to) e) to
 unfolding render
 done-state to ram rom out e h = by (eqb number 0) refl h
   where
@@ -210,8 +210,8 @@ exact to ram rom out e none h =
     }
   where
     -- number m of what was written, where all of it is known
-    fraction : {all : List Float} (m : ℕ) (z : ℤ) → written (Calls.render to ram rom out) e ≡ all → getD all m none ≡ mixed z
-        → Fraction (getD (written (Calls.render to ram rom out) e) m none) z
+    fraction : {all : List Float} (m : ℕ) (z : ℤ) → written (Calls.Render to ram rom out) e ≡ all → getD all m none ≡ mixed z
+        → Fraction (getD (written (Calls.Render to ram rom out) e) m none) z
     fraction m z w at = subst (λ (x : Float). Fraction x z) (sym (ap (λ (x : List Float). getD x m none) w ∙ at)) (mixed-fraction z)
 
 -- ---- cuts
@@ -263,13 +263,13 @@ add-up e a b h k l y q s = rw q (sum (e .clock) h (rw q at s))
 pub cuts : CutsDoNotMatter
 cuts mid to ram rom out more all e hc hm ht size one two few =
     let m = distance e mid in
-    let y = next (Calls.render mid ram rom out) e in
+    let y = next (Calls.Render mid ram rom out) e in
     let n = distance y to in
     let s1 = done-state mid ram rom out e one in
     let s2 = done-state to ram rom more y two in
     let d : distance e to ≡ m + n = add-up e mid to hc hm ht y (ap (λ (x : Engine). x .clock) s1) few in
     let room : 2 * distance e to ≤ length all = omega arith in
-    let ok : does (Calls.render to ram rom all) e .status ≡ 0 = render-numbers to ram rom all e .done .1 (omega arith, room, render-numbers mid ram rom out e .done .0 one .2) in
+    let ok : does (Calls.Render to ram rom all) e .status ≡ 0 = render-numbers to ram rom all e .done .1 (omega arith, room, render-numbers mid ram rom out e .done .0 one .2) in
     let s = done-state to ram rom all e ok in
     let w = done-written to ram rom all e ok in (
       s ∙ ap (λ (k : ℕ). withClock (played ram rom k e) to) d
@@ -281,7 +281,7 @@ cuts mid to ram rom out more all e hc hm ht size one two few =
           ∙ append-nil (output ram rom e (m + n)) ∙ output-cut ram rom e m n
           ∙ ap (λ (x : List Float). x ++ output ram rom (played ram rom m e) n)
           (sym (ap (take (2 * m)) (done-written mid ram rom out e one) ∙ take-at (output ram rom e m) (drop (2 * m) out) (2 * m) (out-length ram rom e m)))
-          ∙ ap (λ (x : List Float). take (2 * m) (written (Calls.render mid ram rom out) e) ++ x)
+          ∙ ap (λ (x : List Float). take (2 * m) (written (Calls.Render mid ram rom out) e) ++ x)
           (sym (ap (take (2 * n)) (done-written to ram rom more y two) ∙ take-at (output ram rom y n) (drop (2 * n) more) (2 * n) (out-length ram rom y n)
           ∙ ap (λ (x : Engine). output ram rom x n) s1 ∙ output-clock ram rom (played ram rom m e) mid n)),
     )

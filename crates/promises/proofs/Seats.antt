@@ -574,8 +574,8 @@ begin e c vs z o soft =
             subst (λ (t : Slot). t .voice .velocity ≤ 127) (sym s) (soft j (sym (ap (λ (t : Slot). t .sounding) s) ∙ o))
 
 -- the state after a done note-on of velocity above 0
-struck-is : (b : List ℕ) (ram rom : List ℤ) (c k v : ℕ) (e : Engine) → (v ≡ 0 → ⊥) → does (Calls.noteOn b ram rom c k v) e .status ≡ 0
-    → does (Calls.noteOn b ram rom c k v) e ≡ done (length (layerVoices (bankFrom b) c k v e)) (struck c (layerVoices (bankFrom b) c k v e) e .engine)
+struck-is : (b : List ℕ) (ram rom : List ℤ) (c k v : ℕ) (e : Engine) → (v ≡ 0 → ⊥) → does (Calls.NoteOn b ram rom c k v) e .status ≡ 0
+    → does (Calls.NoteOn b ram rom c k v) e ≡ done (length (layerVoices (bankFrom b) c k v e)) (struck c (layerVoices (bankFrom b) c k v e) e .engine)
 unfolding noteOn
 struck-is b ram rom c k v e n = by (pastTwo c k v) (eqb v 0) refl (eqb number 0) number refl
   where
@@ -594,9 +594,9 @@ struck-is b ram rom c k v e n = by (pastTwo c k v) (eqb v 0) refl (eqb number 0)
     by false false p false m r h = absurd (eqb-false m 0 r h)
 
 -- the voices that it starts
-begun-is : (b : List ℕ) (ram rom : List ℤ) (c k v : ℕ) (e : Engine) → (v ≡ 0 → ⊥) → does (Calls.noteOn b ram rom c k v) e .status ≡ 0
-    → begun (Calls.noteOn b ram rom c k v) e ≡ layerVoices (bankFrom b) c k v e
-begun-is b ram rom c k v e n h = rw (eq-eqb (does (Calls.noteOn b ram rom c k v) e .status) 0 h, ne-eqb v 0 n) refl
+begun-is : (b : List ℕ) (ram rom : List ℤ) (c k v : ℕ) (e : Engine) → (v ≡ 0 → ⊥) → does (Calls.NoteOn b ram rom c k v) e .status ≡ 0
+    → begun (Calls.NoteOn b ram rom c k v) e ≡ layerVoices (bankFrom b) c k v e
+begun-is b ram rom c k v e n h = rw (eq-eqb (does (Calls.NoteOn b ram rom c k v) e .status) 0 h, ne-eqb v 0 n) refl
 
 -- its velocities
 soft-all : (vs : List Voice) → ((u : Voice) → Among u vs → u .velocity ≤ 127) → Soft vs
@@ -636,7 +636,7 @@ pub by-the-rule : LayersByTheRule
 unfolding struck cleared cut
 by-the-rule xs b ram rom c k v p h =
     let e = run xs fresh in
-    let x = Calls.noteOn b ram rom c k v in
+    let x = Calls.NoteOn b ram rom c k v in
     let n : v ≡ 0 → ⊥ = λ q. some q in
     let vs = begun x e in
     let is = begun-is b ram rom c k v e n h in
@@ -698,7 +698,7 @@ module _ (i j : ℕ) (li : i < 32) (lj : j < 32) (apart : i ≡ j → ⊥) where
       ∙ ap (startedLast (seats vs (start v x)) i j) (ap (λ (q : List ℕ). older q i j) o ∙ renewed-older i j apart s (x .engine .order) l li lj h)
 
   note-on-older : (b : List ℕ) (ram rom : List ℤ) (c k v : ℕ) (e : Engine) → Ordered (e .order)
-      → older (next (Calls.noteOn b ram rom c k v) e .order) i j ≡ startedLast (startsIn (Calls.noteOn b ram rom c k v) e) i j (older (e .order) i j)
+      → older (next (Calls.NoteOn b ram rom c k v) e .order) i j ≡ startedLast (startsIn (Calls.NoteOn b ram rom c k v) e) i j (older (e .order) i j)
   unfolding noteOn offKey off struck cleared seats startedLast
   note-on-older b ram rom c k v e h = by (pastTwo c k v) (eqb v 0) (eqb number 0) number refl
     where
@@ -718,14 +718,14 @@ module _ (i j : ℕ) (li : i < 32) (lj : j < 32) (apart : i ≡ j → ⊥) where
   -- the other calls leave the order as it is
   call-older : (x : Call) (e : Engine) → Ordered (e .order) → older (next x e .order) i j ≡ startedLast (startsIn x e) i j (older (e .order) i j)
   unfolding noteOff offKey off controlChange programChange pitchBend render played seats startedLast
-  call-older (Calls.noteOn b ram rom c k v) e h = note-on-older b ram rom c k v e h
-  call-older (Calls.noteOff c k) e h = ap (λ (o : List ℕ). older o i j) (told e (cond (pastOne c k) 2 0) (offKey c k e) refl)
-  call-older (Calls.control c n v) e h = ap (λ (o : List ℕ). older o i j) (told e (cond (pastTwo c n v) 2 0) (done 0 (controlled c n v e)) (control-order c n v e))
-  call-older (Calls.program c p) e h = ap (λ (o : List ℕ). older o i j) (told e (cond (pastOne c p) 2 0) (done 0 (withChannel e c (withProgram (channelAt e c) p))) refl)
-  call-older (Calls.bend c b) e h = ap (λ (o : List ℕ). older o i j) (told e (cond (pastBend c b) 2 0) (done 0 (withChannel e c (withBend (channelAt e c) b))) refl)
-  call-older (Calls.render to ram rom out) e h =
+  call-older (Calls.NoteOn b ram rom c k v) e h = note-on-older b ram rom c k v e h
+  call-older (Calls.NoteOff c k) e h = ap (λ (o : List ℕ). older o i j) (told e (cond (pastOne c k) 2 0) (offKey c k e) refl)
+  call-older (Calls.Control c n v) e h = ap (λ (o : List ℕ). older o i j) (told e (cond (pastTwo c n v) 2 0) (done 0 (controlled c n v e)) (control-order c n v e))
+  call-older (Calls.Program c p) e h = ap (λ (o : List ℕ). older o i j) (told e (cond (pastOne c p) 2 0) (done 0 (withChannel e c (withProgram (channelAt e c) p))) refl)
+  call-older (Calls.Bend c b) e h = ap (λ (o : List ℕ). older o i j) (told e (cond (pastBend c b) 2 0) (done 0 (withChannel e c (withBend (channelAt e c) b))) refl)
+  call-older (Calls.Render to ram rom out) e h =
       ap (λ (o : List ℕ). older o i j) (told e (renderNumber to ram rom (length out) e) (done 0 (withClock (played ram rom (distance e to) e) to)) refl)
-  call-older (Calls.ask s) e h = refl
+  call-older (Calls.Ask s) e h = refl
 
   run-older : (xs : List Call) (e : Engine) → Ordered (e .order) → older (run xs e .order) i j ≡ startedLast (history xs e) i j (older (e .order) i j)
   unfolding run history startedLast

@@ -13,7 +13,7 @@ use Rattle.voice.specs.Release.{release}
 use Rattle.state.specs.declared.Engine.{Engine}
 use Rattle.state.specs.Slots.{slotAt, slotsOf, ofChannel}
 use Rattle.events.specs.Keys.{heldKey, pedalDown, mark, pedalHeld}
-use Rattle.promises.specs.Calls.{noteOff, does, next, voiceIn, noteOn, control, Call, run, program, bend, render, ask, among, history, framesRun, begun, channelOf, startsIn, framesOf, written, told}
+use Rattle.promises.specs.Calls.{NoteOff, does, next, voiceIn, NoteOn, Control, Call, run, Program, Bend, Render, Ask, among, history, framesRun, begun, channelOf, startsIn, framesOf, written, told}
 use Rattle.state.specs.Quiet.{fresh}
 use Rattle.voice.specs.Stages.{released}
 use Rattle.promises.specs.Age.{older, Ordered, startedLast}
@@ -36,10 +36,10 @@ use Rattle.voice.specs.Panel.{slotParts}
 -- held any more; every other slot is as it was; the answer counts them
 pub record Reached (channel key : ℕ) (e : Engine) : Type 0 where
   pub all : (i : ℕ) → heldKey channel key (slotAt e i) ≡ true
-      → voiceIn i (next (noteOff channel key) e) ≡ cond (pedalDown e channel) (mark (voiceIn i e)) (release (voiceIn i e))
-  pub none : (i : ℕ) → heldKey channel key (slotAt (next (noteOff channel key) e) i) ≡ false
-  pub others : (i : ℕ) → heldKey channel key (slotAt e i) ≡ false → slotAt (next (noteOff channel key) e) i ≡ slotAt e i
-  pub counted : does (noteOff channel key) e .count ≡ countIf (heldKey channel key) (slotsOf e)
+      → voiceIn i (next (NoteOff channel key) e) ≡ cond (pedalDown e channel) (mark (voiceIn i e)) (release (voiceIn i e))
+  pub none : (i : ℕ) → heldKey channel key (slotAt (next (NoteOff channel key) e) i) ≡ false
+  pub others : (i : ℕ) → heldKey channel key (slotAt e i) ≡ false → slotAt (next (NoteOff channel key) e) i ≡ slotAt e i
+  pub counted : does (NoteOff channel key) e .count ≡ countIf (heldKey channel key) (slotsOf e)
 
 -- that is so in every state, for every channel and key
 abbrev pub NoteOffReachesAll : Type 0
@@ -49,15 +49,15 @@ NoteOffReachesAll = (channel key : ℕ) (e : Engine) → channel ≤ 15 → key 
 abbrev pub VelocityZeroIsNoteOff : Type 0
 VelocityZeroIsNoteOff =
     (b : List ℕ) (ram rom : List ℤ) (channel key : ℕ) (e : Engine) → channel ≤ 15 → key ≤ 127
-    → does (noteOn b ram rom channel key 0) e ≡ does (noteOff channel key) e
+    → does (NoteOn b ram rom channel key 0) e ≡ does (NoteOff channel key) e
 
 -- ---- 2. Under the pedal none is lost
 
 -- control 64 below 64: each marked voice of the channel is released, none stays marked, every other slot is as it was
 pub record Lifted (channel value : ℕ) (e : Engine) : Type 0 where
-  pub all : (i : ℕ) → pedalHeld channel (slotAt e i) ≡ true → voiceIn i (next (control channel 64 value) e) ≡ release (voiceIn i e)
-  pub none : (i : ℕ) → pedalHeld channel (slotAt (next (control channel 64 value) e) i) ≡ false
-  pub others : (i : ℕ) → pedalHeld channel (slotAt e i) ≡ false → slotAt (next (control channel 64 value) e) i ≡ slotAt e i
+  pub all : (i : ℕ) → pedalHeld channel (slotAt e i) ≡ true → voiceIn i (next (Control channel 64 value) e) ≡ release (voiceIn i e)
+  pub none : (i : ℕ) → pedalHeld channel (slotAt (next (Control channel 64 value) e) i) ≡ false
+  pub others : (i : ℕ) → pedalHeld channel (slotAt e i) ≡ false → slotAt (next (Control channel 64 value) e) i ≡ slotAt e i
 
 -- that is so in every state, for every channel and every value below 64
 abbrev pub LiftingReleases : Type 0
@@ -73,23 +73,23 @@ NoMarkWithoutPedal =
 
 -- a call that strikes a key: a note-on of another velocity than 0
 abbrev pub strikes : ℕ → ℕ → Call → Bool
-strikes c k (noteOn b ram rom channel key velocity) = cond (eqb velocity 0) false (cond (eqb channel c) (eqb key k) false)
-strikes c k (noteOff channel key) = false
-strikes c k (control channel n value) = false
-strikes c k (program channel p) = false
-strikes c k (bend channel b) = false
-strikes c k (render to ram rom out) = false
-strikes c k (ask i) = false
+strikes c k (NoteOn b ram rom channel key velocity) = cond (eqb velocity 0) false (cond (eqb channel c) (eqb key k) false)
+strikes c k (NoteOff channel key) = false
+strikes c k (Control channel n value) = false
+strikes c k (Program channel p) = false
+strikes c k (Bend channel b) = false
+strikes c k (Render to ram rom out) = false
+strikes c k (Ask i) = false
 
 -- a call that leaves a key: its note-off, or a note-on of velocity 0
 abbrev pub leaves : ℕ → ℕ → Call → Bool
-leaves c k (noteOn b ram rom channel key velocity) = cond (eqb velocity 0) (cond (eqb channel c) (eqb key k) false) false
-leaves c k (noteOff channel key) = cond (eqb channel c) (eqb key k) false
-leaves c k (control channel n value) = false
-leaves c k (program channel p) = false
-leaves c k (bend channel b) = false
-leaves c k (render to ram rom out) = false
-leaves c k (ask i) = false
+leaves c k (NoteOn b ram rom channel key velocity) = cond (eqb velocity 0) (cond (eqb channel c) (eqb key k) false) false
+leaves c k (NoteOff channel key) = cond (eqb channel c) (eqb key k) false
+leaves c k (Control channel n value) = false
+leaves c k (Program channel p) = false
+leaves c k (Bend channel b) = false
+leaves c k (Render to ram rom out) = false
+leaves c k (Ask i) = false
 
 -- after some calls the key still stands struck: no call that leaves it came behind the last that strikes it; b is so before
 unfoldable pub struckAfter : ℕ → ℕ → Bool → List Call → Bool
@@ -172,9 +172,9 @@ pub record Struck (x : Call) (e : Engine) : Type 0 where
 abbrev pub LayersByTheRule : Type 0
 LayersByTheRule =
     (xs : List Call) (b : List ℕ) (ram rom : List ℤ) (c k v : ℕ) → 0 < v
-    → does (noteOn b ram rom c k v) (run xs fresh) .status ≡ 0
-    → (does (noteOn b ram rom c k v) (run xs fresh) .count ≡ length (begun (noteOn b ram rom c k v) (run xs fresh)))
-    × Struck (noteOn b ram rom c k v) (run xs fresh)
+    → does (NoteOn b ram rom c k v) (run xs fresh) .status ≡ 0
+    → (does (NoteOn b ram rom c k v) (run xs fresh) .count ≡ length (begun (NoteOn b ram rom c k v) (run xs fresh)))
+    × Struck (NoteOn b ram rom c k v) (run xs fresh)
 
 -- ---- 6. `order` holds each slot once and is the order of starting, without end
 
@@ -217,15 +217,15 @@ pub record Fraction (x : Float) (sum : ℤ) : Type 0 where
 -- a done render of n frames: as long as before; number 2j is left of frame j and 2j + 1 right, each exactly the sum of voices,
 -- held, over 2^23; behind the first 2n every number is as it was
 pub record Rendered (to : ℕ) (ram rom : List ℤ) (out : List Float) (e : Engine) (none : Float) : Type 0 where
-  pub long : length (written (render to ram rom out) e) ≡ length out
-  pub left : (j : ℕ) → j < distance e to → Fraction (getD (written (render to ram rom out) e) (2 * j) none) (leftSum ram rom e j)
-  pub right : (j : ℕ) → j < distance e to → Fraction (getD (written (render to ram rom out) e) (2 * j + 1) none) (rightSum ram rom e j)
-  pub behind : drop (2 * distance e to) (written (render to ram rom out) e) ≡ drop (2 * distance e to) out
+  pub long : length (written (Render to ram rom out) e) ≡ length out
+  pub left : (j : ℕ) → j < distance e to → Fraction (getD (written (Render to ram rom out) e) (2 * j) none) (leftSum ram rom e j)
+  pub right : (j : ℕ) → j < distance e to → Fraction (getD (written (Render to ram rom out) e) (2 * j + 1) none) (rightSum ram rom e j)
+  pub behind : drop (2 * distance e to) (written (Render to ram rom out) e) ≡ drop (2 * distance e to) out
 
 -- that is so of every render that is done (`none` is what a place past the output reads as)
 abbrev pub OutputIsExact : Type 0
 OutputIsExact =
-    (to : ℕ) (ram rom : List ℤ) (out : List Float) (e : Engine) (none : Float) → does (render to ram rom out) e .status ≡ 0
+    (to : ℕ) (ram rom : List ℤ) (out : List Float) (e : Engine) (none : Float) → does (Render to ram rom out) e .status ≡ 0
     → Rendered to ram rom out e none
 
 -- ---- 10. A render may be cut anywhere
@@ -235,14 +235,14 @@ abbrev pub CutsDoNotMatter : Type 0
 CutsDoNotMatter =
     (mid to : ℕ) (ram rom : List ℤ) (out more all : List Float) (e : Engine) →
     e .clock < 4294967296 → mid < 4294967296 → to < 4294967296 →
-    length all ≡ 2 * (distance e mid + distance (next (render mid ram rom out) e) to) →
-    does (render mid ram rom out) e .status ≡ 0 →
-    does (render to ram rom more) (next (render mid ram rom out) e) .status ≡ 0 →
-    distance e mid + distance (next (render mid ram rom out) e) to ≤ 4096 →
-    (next (render to ram rom all) e ≡ next (render to ram rom more) (next (render mid ram rom out) e))
-    × (written (render to ram rom all) e
-    ≡ take (2 * distance e mid) (written (render mid ram rom out) e)
-    ++ take (2 * distance (next (render mid ram rom out) e) to) (written (render to ram rom more) (next (render mid ram rom out) e)))
+    length all ≡ 2 * (distance e mid + distance (next (Render mid ram rom out) e) to) →
+    does (Render mid ram rom out) e .status ≡ 0 →
+    does (Render to ram rom more) (next (Render mid ram rom out) e) .status ≡ 0 →
+    distance e mid + distance (next (Render mid ram rom out) e) to ≤ 4096 →
+    (next (Render to ram rom all) e ≡ next (Render to ram rom more) (next (Render mid ram rom out) e))
+    × (written (Render to ram rom all) e
+    ≡ take (2 * distance e mid) (written (Render mid ram rom out) e)
+    ++ take (2 * distance (next (Render mid ram rom out) e) to) (written (Render to ram rom more) (next (Render mid ram rom out) e)))
 
 -- ---- 11. The panel's levels
 
@@ -255,4 +255,4 @@ Levels (n ∷ ns) (x ∷ xs) = Over x (pos n) 16777216 × Levels ns xs
 
 -- the panel is told the attack's level or the envelope's gain, and no level of other stages
 abbrev pub PanelIsExact : Type 0
-PanelIsExact = (i : ℕ) (e : Engine) → i < 32 → Levels (slotParts (slotAt e i)) (told (ask i) e)
+PanelIsExact = (i : ℕ) (e : Engine) → i < 32 → Levels (slotParts (slotAt e i)) (told (Ask i) e)

@@ -14,11 +14,11 @@ use lib.Bits.{bitOr, or-step, or-zero-r}
 use lib.Count.{ones}
 use Rattle.arith.specs.Internal.Words.{lowestClear}
 use Rattle.voice.specs.declared.Voice.{Voice}
-use Rattle.state.specs.Quiet.{changed}
 use Rattle.state.specs.Slots.{paired, wordOf, slotsOf, withSlots, withOrder}
 use Rattle.state.specs.Seats.{lowestFree, leastBy, without, renewed}
 use Rattle.state.specs.Internal.Seats.{firstAt}
 use Rattle.voice.specs.Changes.{sounds}
+use Rattle.state.specs.Quiet.{changed}
 use Rattle.state.specs.declared.Engine.{Engine}
 use Rattle.state.proofs.SlotLoopLaws.{voices-back, voices-set}
 use Rattle.arith.proofs.WordsLaws.{flagsOf, ones-flags, count-map}

@@ -15,9 +15,9 @@ use Rattle.arith.proofs.WordsLaws.{bit-zero, bit-suc}
 use Rattle.voice.specs.declared.Voice.{Voice}
 use Rattle.voice.specs.declared.Slot.{Slot}
 use Rattle.voice.specs.Changes.{blank, free}
-use Rattle.state.specs.Quiet.{changed}
 use Rattle.state.specs.Slots.{paired, recordsOf, wordOf, slotsOf, withSlots, cut, ofChannel}
 use Rattle.state.proofs.SlotsLaws.{map-at}
+use Rattle.state.specs.Quiet.{changed}
 use Rattle.state.specs.declared.Engine.{Engine}
 use Rattle.arith.proofs.Loops.{upto, upto-at, step-set, upto-all}
 use Rattle.state.specs.Internal.Slots.{withWord}

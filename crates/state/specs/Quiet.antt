@@ -4,8 +4,8 @@ use mathlib.Core.List.{List, [], _∷_}
 use lib.ListN.{replicate}
 use Rattle.voice.specs.declared.Channel.{Channel}
 use Rattle.voice.specs.declared.Voice.{Voice}
-use Rattle.voice.specs.Changes.{blank}
 use Rattle.state.specs.declared.Engine.{Engine}
+use Rattle.voice.specs.Changes.{blank}
 
 -- a state with other voices, channels, word, order of age and clock: beside `fresh`, the one place where a state is built
 abbrev pub changed : Engine → List Voice → List Channel → ℕ → List ℕ → ℕ → Engine

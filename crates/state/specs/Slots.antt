@@ -1,13 +1,13 @@
 -- 01, "Slots, keys and the clock": the state's 32 slots, and states with one part replaced.
-use mathlib.Core.Bool.{Bool, cond, _&&_}
 use Prim.Native.Nat.{ℕ, _/_, _%_, _+_, _*_}
 use lib.Dec.{eqb}
 use mathlib.Core.List.{List, [], _∷_, map}
+use mathlib.Core.Bool.{cond, Bool, _&&_}
 use lib.ListN.{getD}
 use Rattle.voice.specs.declared.Slot.{Slot}
-use Rattle.voice.specs.Changes.{free, blank}
 use Rattle.voice.specs.declared.Voice.{Voice}
 use Rattle.state.specs.declared.Engine.{Engine}
+use Rattle.voice.specs.Changes.{free, blank}
 use Rattle.state.specs.Quiet.{changed}
 
 -- the records, each with its bit of the word (the lowest bit is slot 0)

@@ -4,8 +4,7 @@ use mir.Facts.{toZ-ofZ}
 use lib.IntN.{pos, _+ℤ_}
 use lib.Dec.{lit<}
 use native.Mathlib.Nat.{lt-of-le-of-lt}
-use Rattle.arith.proofs.FloorsLaws.{mod-lift}
-use Rattle.arith.proofs.FloorsLaws.{bias-nonneg}
+use Rattle.arith.proofs.FloorsLaws.{mod-lift, bias-nonneg}
 use Rattle.arith.specs.Within.{Within}
 use Rattle.arith.proofs.WithinLaws.{w-lit, w-add, w-fits, w-back}
 use Rattle.records.proofs.windows.mod4.Statement.{statement}
