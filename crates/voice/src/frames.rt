@@ -34,6 +34,7 @@ use crate::stretch::add_pair;
 use crate::stretch::glide;
 use crate::stretch::limit_of;
 use crate::with_moved;
+use arith::least;
 use curves::gain;
 
 // A slot that adds nothing.
@@ -98,8 +99,7 @@ fn ahead(v: Voice, s: Stage, limit: u64, most: usize) -> usize
     if limit <= v.place {
         return 0;
     }
-    let m = calm(v, s) as usize;
-    if m < most { m } else { most }
+    least(calm(v, s) as u64, most as u64) as usize
 }
 
 // One frame of a slot, into frame k of the sums.

@@ -13,19 +13,15 @@ use crate::Voice;
 use crate::stages::age;
 use crate::stages::is_released;
 use crate::with_moved;
+use arith::hold;
+use arith::less;
 use curves::bend_cents;
 
 // The pitch total, held to -9,600..4,800.
 fn hold_pitch(p: i64) -> i32
     ensures { λ r. ⌜ r ≡ pitchHeld p ⌝ }
 {
-    if p < -9600 {
-        return -9600;
-    }
-    if 4800 < p {
-        return 4800;
-    }
-    p as i32
+    hold(-9600, 4800, p) as i32
 }
 
 // The pitch total at a bend, held.
@@ -115,8 +111,5 @@ pub fn go_on(v: Voice, s: Stage, step: u32) -> Slot
 pub fn span_of(v: Voice) -> u64
     ensures { λ r. ⌜ (r ≡ span v) × (r < 4294967296) ⌝ }
 {
-    if v.end < v.start {
-        return 0;
-    }
-    (v.end - v.start) as u64
+    less(v.end, v.start) as u64
 }

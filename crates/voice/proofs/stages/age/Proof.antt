@@ -11,8 +11,8 @@ use Rattle.voice.proofs.stages.age.Tie as tie
 enum-known-s : tie.Need-enum-known-s
 enum-known-s c = search needs
 
-less-one-requires : tie.Need-less-one-requires
-less-one-requires c κs = search needs
+less-requires : tie.Need-less-requires
+less-requires c κs = search needs
 
 enum-known-s-2 : tie.Need-enum-known-s-2
 enum-known-s-2 c = search needs
@@ -42,7 +42,7 @@ add-t13 : tie.Need-add-t13
 add-t13 c = let h = subst Room (c .before .s5 .given .1) (c .before .before .before .pre) in omega (arith, h)
 
 returns : tie.Need-returns
-returns c = ap Delay (c .less-one .ensures) ∙ sym (ap spent (c .before .before .s .given .1))
+returns c = ap Delay (c .less .ensures) ∙ sym (ap spent (c .before .before .s .given .1))
 
 returns-2 : tie.Need-returns-2
 returns-2 c = sym (ap spent (c .before .s2 .given .1))
@@ -64,7 +64,7 @@ age-spec =
     tie.close
     (tie.spec
     enum-known-s
-    less-one-requires
+    less-requires
     enum-known-s-2
     add-t10
     enum-known-s-3
