@@ -1,8 +1,9 @@
-// Calm frames: how many from a stage on have the same gain, and the stage after them.
+// Calm frames: how many from a stage on have the same gain.
 ghost use mathlib.Core.Path.{_≡_};
 ghost use Prim.Native.Nat.{_+_, _<_};
 ghost use Rattle.voice.specs.Stages.{decayAt};
-ghost use Rattle.voice.specs.Internal.Calm.{spentBy, RoomBy, Steady, Calms};
+ghost use Rattle.voice.specs.Internal.Calm.{Steady, Calms};
+ghost use Rattle.voice.specs.Internal.Stages.{RoomBy};
 use crate::Stage;
 use crate::Voice;
 use crate::stages::decay_at;
@@ -56,22 +57,5 @@ pub fn calm(v: Voice, s: Stage) -> u32
         Stage::Decay { t } => calm_decay(v.decay, v.sustain, t),
         Stage::Sustain => 4294967295,
         Stage::Release { from: _, t } => calm_count(v.release, t),
-    }
-}
-
-// The stage with m frames more spent.
-pub fn age_by(s: Stage, m: u32) -> Stage
-    requires { ⌜ RoomBy m s ⌝ }
-    ensures { λ r. ⌜ r ≡ spentBy m s ⌝ }
-{
-    match s {
-        Stage::Delay { left } => Stage::Delay {
-            left: less(left, m),
-        },
-        Stage::Attack { t } => Stage::Attack { t: t + m },
-        Stage::Hold { t } => Stage::Hold { t: t + m },
-        Stage::Decay { t } => Stage::Decay { t: t + m },
-        Stage::Sustain => Stage::Sustain,
-        Stage::Release { from, t } => Stage::Release { from, t: t + m },
     }
 }

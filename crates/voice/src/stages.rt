@@ -1,8 +1,8 @@
-// Stages: the envelope, the attack's level, leaving spent stages, one frame more spent.
+// Stages: the envelope, the attack's level, leaving spent stages, frames more spent.
 ghost use mathlib.Core.Path.{_≡_};
 ghost use Prim.Native.Nat.{_≤_, _<_};
-ghost use Rattle.voice.specs.Internal.Stages.{Room, Roomy};
-ghost use Rattle.voice.specs.Stages.{levelAt, decayAt, releaseAt, envelope, fromDecay, fromHold, fromAttack, fromDelay, entered, dead, waiting, released, spent};
+ghost use Rattle.voice.specs.Internal.Stages.{RoomBy, Roomy};
+ghost use Rattle.voice.specs.Stages.{levelAt, decayAt, releaseAt, envelope, fromDecay, fromHold, fromAttack, fromDelay, entered, dead, waiting, released, spentBy};
 use crate::Stage;
 use crate::Voice;
 use arith::least;
@@ -159,19 +159,19 @@ pub fn is_released(s: Stage) -> bool
     }
 }
 
-// One frame more spent.
-pub fn age(s: Stage) -> Stage
-    requires { ⌜ Room s ⌝ }
-    ensures { λ r. ⌜ r ≡ spent s ⌝ }
+// The stage with m frames more spent.
+pub fn age_by(s: Stage, m: u32) -> Stage
+    requires { ⌜ RoomBy m s ⌝ }
+    ensures { λ r. ⌜ r ≡ spentBy m s ⌝ }
 {
     match s {
         Stage::Delay { left } => Stage::Delay {
-            left: less(left, 1),
+            left: less(left, m),
         },
-        Stage::Attack { t } => Stage::Attack { t: t + 1 },
-        Stage::Hold { t } => Stage::Hold { t: t + 1 },
-        Stage::Decay { t } => Stage::Decay { t: t + 1 },
+        Stage::Attack { t } => Stage::Attack { t: t + m },
+        Stage::Hold { t } => Stage::Hold { t: t + m },
+        Stage::Decay { t } => Stage::Decay { t: t + m },
         Stage::Sustain => Stage::Sustain,
-        Stage::Release { from, t } => Stage::Release { from, t: t + 1 },
+        Stage::Release { from, t } => Stage::Release { from, t: t + m },
     }
 }

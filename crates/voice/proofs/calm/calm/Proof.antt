@@ -5,7 +5,8 @@ use native.Mathlib.Omega.{arith}
 use borrow.Author.Needs.{needs}
 use Rattle.voice.specs.declared.Stage.{Stage}
 use Rattle.voice.specs.declared.Voice.{Voice}
-use Rattle.voice.specs.Internal.Calm.{RoomBy, Calms}
+use Rattle.voice.specs.Internal.Calm.{Calms}
+use Rattle.voice.specs.Internal.Stages.{RoomBy}
 use Rattle.voice.proofs.CalmLaws.{none-calm, hold-calm, sustain-calm, decay-calm, release-calm}
 use Rattle.voice.proofs.calm.calm.Statement.{statement}
 use Rattle.voice.proofs.calm.calm.Tie as tie

@@ -3,7 +3,8 @@ use mathlib.Core.Path.{refl, sym, _∙_}
 use native.Mathlib.Nat.{not-suc-le-zero}
 use native.Mathlib.Omega.{arith}
 use borrow.Author.Needs.{needs}
-use Rattle.voice.proofs.CalmLaws.{none-calm, room-le}
+use Rattle.voice.proofs.CalmLaws.{none-calm}
+use Rattle.voice.proofs.StagesLaws.{room-le}
 use Rattle.voice.proofs.frames.ahead.Statement.{statement}
 use Rattle.voice.proofs.frames.ahead.Tie as tie
 

@@ -1,11 +1,12 @@
--- Each count grows by m.
+-- Frames more spent, by the stage: each return by that case of `spentBy`, and the count fits by `RoomBy`.
 use mathlib.Core.Path.{sym, ap, _∙_, subst}
 use native.Mathlib.Omega.{arith}
 use borrow.Author.Needs.{needs}
 use Rattle.voice.specs.declared.Stage.the-variants.{Delay}
-use Rattle.voice.specs.Internal.Calm.{spentBy, RoomBy}
-use Rattle.voice.proofs.calm.age_by.Statement.{statement}
-use Rattle.voice.proofs.calm.age_by.Tie as tie
+use Rattle.voice.specs.Internal.Stages.{RoomBy}
+use Rattle.voice.specs.Stages.{spentBy}
+use Rattle.voice.proofs.stages.age_by.Statement.{statement}
+use Rattle.voice.proofs.stages.age_by.Tie as tie
 
 enum-known-s : tie.Need-enum-known-s
 enum-known-s c = search needs
