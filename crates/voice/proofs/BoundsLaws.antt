@@ -1,13 +1,11 @@
 -- What a voice adds is within `loudest`, whatever its record says, and 32 times that fits the sums.
 use Prim.Native.Nat.{ℕ, _≤_, _%_, zero, suc, _*_, _<_}
 use mathlib.Core.List.{List}
-use lib.IntN.{ℤ, pos, negsuc}
+use lib.IntN.{ℤ, pos}
 use lib.Dec.{lit<, lit≤}
 use mathlib.Core.Bool.{Bool, true, false, cond}
 use native.Mathlib.Nat.{mod-lt, le-of-lt}
 use native.Mathlib.Omega.{arith}
-use mathlib.Core.Path.{_≡_, refl}
-use lib.Signed.{ltZ}
 use Rattle.arith.specs.Within.{Within}
 use Rattle.voice.specs.Reading.{sample, interpolated, reading}
 use Rattle.arith.proofs.WithinLaws.{w-nat, w-le, w-add, w-sub, w-mul, w-floor-by, w-lit}
@@ -18,7 +16,7 @@ use Rattle.voice.specs.declared.Stage.{Stage}
 use Rattle.voice.specs.declared.Stage.the-variants.{Delay, Attack, Hold, Decay, Sustain, Release}
 use Rattle.voice.specs.declared.Voice.{Voice}
 use Rattle.voice.specs.Frames.{loud, silent, moved, readAndMoved, living, frameAt, frame, after}
-use Rattle.arith.proofs.HoldsLaws.{amid}
+use Rattle.arith.proofs.HoldsLaws.{held-within}
 use Rattle.voice.specs.Internal.Sums.{loudest, Small}
 use Rattle.voice.specs.declared.Framed.{Framed}
 use Rattle.voice.specs.declared.Slot.{Slot}
@@ -67,12 +65,7 @@ loud-in l w v s h = shaped-in v s _ (gained-in _ _ (reading-in _ (v .loopfrom) (
 
 -- the pan's total is held to -500..500
 pan-in : (p : ℤ) → Within (panOf p) 500
-pan-in p = by (ltZ p (negsuc 499)) refl (ltZ (pos 500) p) refl
-  where
-    by : (a : Bool) → ltZ p (negsuc 499) ≡ a → (b : Bool) → ltZ (pos 500) p ≡ b → Within (cond a (negsuc 499) (cond b (pos 500) p)) 500
-    by true e b f = w-lit (negsuc 499)
-    by false e true f = w-lit (pos 500)
-    by false e false f = amid p 499 e f
+pan-in p = held-within p 499
 
 -- the left share
 left-in : (u p : ℤ) → Within u 25600002 → Within (leftOf u p) loudest

@@ -6,10 +6,10 @@ use native.Mathlib.Omega.{arith}
 use mathlib.Core.Bool.{cond, Bool}
 use lib.Dec.{eqb, leb}
 use borrow.Author.Tests.{lt-leb}
-use Rattle.voice.specs.Internal.Calm.{Steady, Calms, RoomBy}
+use Rattle.voice.specs.Internal.Calm.{Steady, Calms}
 use Rattle.voice.specs.Stages.{decayAt, releaseAt, fromHold, fromDecay}
 use Rattle.voice.specs.declared.Stage.{Stage}
-use Rattle.voice.specs.declared.Stage.the-variants.{Hold, Decay, Sustain, Release, Delay, Attack}
+use Rattle.voice.specs.declared.Stage.the-variants.{Hold, Decay, Sustain, Release}
 use Rattle.voice.specs.declared.Voice.{Voice}
 
 -- floor(1,000 * t / n) stays while the remainder does not reach n
@@ -80,12 +80,3 @@ module _ (v : Voice) where
   release-calm a t m s j k =
       let e = release-same (v .release) a t j (s j k) in
       record { enters = refl; waits = refl; dies = ap (leb 1000) e; frees = refl; cb = e; full = λ u. refl }
-
--- fewer frames need no more room
-pub room-le : (g : Stage) (m n : ℕ) → n ≤ m → RoomBy m g → RoomBy n g
-room-le (Delay left) m n h r = tt
-room-le (Attack t) m n h r = omega arith
-room-le (Hold t) m n h r = omega arith
-room-le (Decay t) m n h r = omega arith
-room-le Sustain m n h r = tt
-room-le (Release a t) m n h r = omega arith

@@ -12,7 +12,6 @@ use lib.Signed.{ltZ}
 use Rattle.voice.specs.Motion.{fold, pitchTotal, step}
 use Rattle.arith.proofs.HoldsLaws.{clamp-in}
 use Rattle.curves.specs.Pitch.{pitchHeld, stepAt, bendCents}
-use Rattle.arith.specs.Within.{Within}
 use Rattle.voice.specs.declared.Voice.{Voice}
 use Rattle.voice.specs.declared.Channel.{Channel}
 
@@ -91,11 +90,6 @@ held-again x = by (ltZ x (negsuc 9599)) refl (ltZ (pos 4800) x) refl
     by true e b f = refl
     by false e true f = refl
     by false e false f = clamp-in (negsuc 9599) (pos 4800) x e f
-
--- what the tests of the code say of a total that needs no holding
-pub pitch-in : (x : ℤ) → ltZ x (negsuc 9599) ≡ false → ltZ (pos 4800) x ≡ false → Within x 9600
-pitch-in (pos a) t u = record { within = omega (arith, ltb-false 4800 a u) }
-pitch-in (negsuc a) t u = record { within = omega (arith, ltb-false 9599 a t) }
 
 -- holding a total first does not change its step
 pub step-held : (x : ℤ) (rate : ℕ) → stepAt (pitchHeld x) rate ≡ stepAt x rate

@@ -12,7 +12,7 @@ use Rattle.voice.specs.Stages.{decayAt, releaseAt, fromDecay, fromHold, 
 use Rattle.voice.proofs.MotionLaws.{split}
 use Rattle.voice.specs.declared.Stage.{Stage}
 use Rattle.voice.specs.declared.Stage.the-variants.{Delay, Attack, Hold, Decay, Sustain, Release}
-use Rattle.voice.specs.Internal.Stages.{Room, Roomy}
+use Rattle.voice.specs.Internal.Stages.{RoomBy, Roomy}
 
 -- the frames of a voice's stages are 32-bit numbers
 pub record Narrow (v : Voice) : Type 0 where
@@ -31,7 +31,7 @@ unfolding decayAt
 decay-suc m z t = simp (eqb·suc-zero m)
 
 -- in a decay that is neither spent nor dead the count has room
-decay-count : (n z t : ℕ) → n < 4294967296 → decayAt n z t < z → decayAt n z t < 1000 → t < 4294967295
+decay-count : (n z t : ℕ) → n < 4294967296 → decayAt n z t < z → decayAt n z t < 1000 → t + 1 < 4294967296
 unfolding decayAt
 decay-count zero z t h a b = omega arith
 decay-count (suc m) z t h a b =
@@ -53,7 +53,7 @@ unfolding releaseAt
 release-suc m a t = simp (eqb·suc-zero m)
 
 -- in a release that is not dead the count has room
-release-count : (n a t : ℕ) → n < 4294967296 → releaseAt n a t < 1000 → t < 4294967295
+release-count : (n a t : ℕ) → n < 4294967296 → releaseAt n a t < 1000 → t + 1 < 4294967296
 unfolding releaseAt
 release-count zero a t h b = omega arith
 release-count (suc m) a t h b =
@@ -63,44 +63,44 @@ release-count (suc m) a t h b =
 
 module _ (v : Voice) (h : Narrow v) where
   -- alive in decay or what follows, it has room
-  in-decay : (t : ℕ) → dead v (fromDecay v t) ≡ false → Room (fromDecay v t)
+  in-decay : (t : ℕ) → dead v (fromDecay v t) ≡ false → RoomBy 1 (fromDecay v t)
   unfolding fromDecay
   in-decay t = by (leb (v .sustain) (decayAt (v .decay) (v .sustain) t)) refl
     where
       by : (b : Bool) → leb (v .sustain) (decayAt (v .decay) (v .sustain) t) ≡ b
-          → dead v (cond b Sustain (Decay t)) ≡ false → Room (cond b Sustain (Decay t))
+          → dead v (cond b Sustain (Decay t)) ≡ false → RoomBy 1 (cond b Sustain (Decay t))
       by true e d = tt
       by false e d = decay-count (v .decay) (v .sustain) t (h .decay) (leb-false _ _ e) (leb-false _ _ d)
 
   -- in hold or what follows
-  in-hold : (t : ℕ) → dead v (fromHold v t) ≡ false → Room (fromHold v t)
+  in-hold : (t : ℕ) → dead v (fromHold v t) ≡ false → RoomBy 1 (fromHold v t)
   unfolding fromHold
   in-hold t = by (leb (v .hold) t) refl
     where
-      by : (b : Bool) → leb (v .hold) t ≡ b → dead v (cond b (fromDecay v 0) (Hold t)) ≡ false → Room (cond b (fromDecay v 0) (Hold t))
+      by : (b : Bool) → leb (v .hold) t ≡ b → dead v (cond b (fromDecay v 0) (Hold t)) ≡ false → RoomBy 1 (cond b (fromDecay v 0) (Hold t))
       by true e d = in-decay 0 d
       by false e d = omega (arith, leb-false (v .hold) t e, h .hold)
 
   -- in attack or what follows
-  in-attack : (t : ℕ) → dead v (fromAttack v t) ≡ false → Room (fromAttack v t)
+  in-attack : (t : ℕ) → dead v (fromAttack v t) ≡ false → RoomBy 1 (fromAttack v t)
   unfolding fromAttack
   in-attack t = by (leb (v .attack) t) refl
     where
-      by : (b : Bool) → leb (v .attack) t ≡ b → dead v (cond b (fromHold v 0) (Attack t)) ≡ false → Room (cond b (fromHold v 0) (Attack t))
+      by : (b : Bool) → leb (v .attack) t ≡ b → dead v (cond b (fromHold v 0) (Attack t)) ≡ false → RoomBy 1 (cond b (fromHold v 0) (Attack t))
       by true e d = in-hold 0 d
       by false e d = omega (arith, leb-false (v .attack) t e, h .attack)
 
   -- in delay or what follows
-  in-delay : (left : ℕ) → dead v (fromDelay v left) ≡ false → Room (fromDelay v left)
+  in-delay : (left : ℕ) → dead v (fromDelay v left) ≡ false → RoomBy 1 (fromDelay v left)
   unfolding fromDelay
   in-delay left = by (eqb left 0)
     where
-      by : (b : Bool) → dead v (cond b (fromAttack v 0) (Delay left)) ≡ false → Room (cond b (fromAttack v 0) (Delay left))
+      by : (b : Bool) → dead v (cond b (fromAttack v 0) (Delay left)) ≡ false → RoomBy 1 (cond b (fromAttack v 0) (Delay left))
       by true d = in-attack 0 d
       by false d = tt
 
   -- alive in the stage that it enters, whichever it was in
-  pub alive-room : (s : Stage) → dead v (entered v s) ≡ false → Room (entered v s)
+  pub alive-room : (s : Stage) → dead v (entered v s) ≡ false → RoomBy 1 (entered v s)
   alive-room (Delay left) d = in-delay left d
   alive-room (Attack t) d = in-attack t d
   alive-room (Hold t) d = in-hold t d
@@ -110,4 +110,13 @@ module _ (v : Voice) (h : Narrow v) where
 
 -- the same, as the contract of `enter` says it
 pub entered-roomy : (v : Voice) → Narrow v → (s r : Stage) → r ≡ entered v s → (r ≡ entered v s) × Roomy v r
-entered-roomy v h s r e = (e, λ d. subst Room (sym e) (alive-room v h s (sym (ap (dead v) e) ∙ d)))
+entered-roomy v h s r e = (e, λ d. subst (RoomBy 1) (sym e) (alive-room v h s (sym (ap (dead v) e) ∙ d)))
+
+-- fewer frames need no more room
+pub room-le : (g : Stage) (m n : ℕ) → n ≤ m → RoomBy m g → RoomBy n g
+room-le (Delay left) m n h r = tt
+room-le (Attack t) m n h r = omega arith
+room-le (Hold t) m n h r = omega arith
+room-le (Decay t) m n h r = omega arith
+room-le Sustain m n h r = tt
+room-le (Release a t) m n h r = omega arith

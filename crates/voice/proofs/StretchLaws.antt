@@ -15,9 +15,9 @@ use Rattle.voice.specs.declared.Stage.{Stage}
 use Rattle.voice.specs.declared.Stage.the-variants.{Delay, Attack, Hold, Decay, Sustain, Release}
 use Rattle.voice.specs.declared.Voice.{Voice}
 use Rattle.voice.specs.Changes.{withMoved, sounds}
-use Rattle.voice.specs.Stages.{envelope, entered, dead, released, fromDelay, fromAttack, fromHold, fromDecay, spent}
+use Rattle.voice.specs.Stages.{envelope, entered, dead, released, fromDelay, fromAttack, fromHold, fromDecay, spent, spentBy}
 use Rattle.voice.specs.Motion.{folds, span}
-use Rattle.voice.specs.Internal.Calm.{spentBy, Calm, Calms}
+use Rattle.voice.specs.Internal.Calm.{Calm, Calms}
 use Rattle.voice.specs.Reading.{sample, interpolated, behind, reading}
 use Rattle.arith.specs.Floors.{floorZ}
 use Rattle.curves.specs.Levels.{gainOf}

@@ -1,11 +1,14 @@
-// Calm frames: how many from a stage on have the same gain, and the stage after them.
+// Calm frames: how many from a stage on have the same gain.
 ghost use mathlib.Core.Path.{_≡_};
-ghost use Prim.Native.Nat.{_+_, _-_, _<_};
+ghost use Prim.Native.Nat.{_+_, _<_};
 ghost use Rattle.voice.specs.Stages.{decayAt};
-ghost use Rattle.voice.specs.Internal.Calm.{spentBy, RoomBy, Steady, Calms};
+ghost use Rattle.voice.specs.Internal.Calm.{Steady, Calms};
+ghost use Rattle.voice.specs.Internal.Stages.{RoomBy};
 use crate::Stage;
 use crate::Voice;
 use crate::stages::decay_at;
+use arith::least;
+use arith::less;
 
 // Frames until floor(1,000 * t / n) changes.
 fn until_change(n: u32, t: u32) -> u32
@@ -23,15 +26,7 @@ fn calm_count(n: u32, t: u32) -> u32
     ensures { λ r. ⌜ Steady n t r × (t + r < 4294967296) ⌝ }
 {
     let m = until_change(n, t);
-    let room = 4294967295 - t;
-    if m < room { m } else { room }
-}
-
-// What is left of n frames after t.
-fn calm_hold(n: u32, t: u32) -> u32
-    ensures { λ r. ⌜ (r ≡ n - t) × (t + r < 4294967296) ⌝ }
-{
-    if n <= t { 0 } else { n - t }
+    least(m as u64, (4294967295 - t) as u64) as u32
 }
 
 // No frame of an attack is calm: its level moves.
@@ -58,26 +53,9 @@ pub fn calm(v: Voice, s: Stage) -> u32
     match s {
         Stage::Delay { left: _ } => 0,
         Stage::Attack { t } => calm_attack(t),
-        Stage::Hold { t } => calm_hold(v.hold, t),
+        Stage::Hold { t } => less(v.hold, t),
         Stage::Decay { t } => calm_decay(v.decay, v.sustain, t),
         Stage::Sustain => 4294967295,
         Stage::Release { from: _, t } => calm_count(v.release, t),
-    }
-}
-
-// The stage with m frames more spent.
-pub fn age_by(s: Stage, m: u32) -> Stage
-    requires { ⌜ RoomBy m s ⌝ }
-    ensures { λ r. ⌜ r ≡ spentBy m s ⌝ }
-{
-    match s {
-        Stage::Delay { left } => Stage::Delay {
-            left: calm_hold(left, m),
-        },
-        Stage::Attack { t } => Stage::Attack { t: t + m },
-        Stage::Hold { t } => Stage::Hold { t: t + m },
-        Stage::Decay { t } => Stage::Decay { t: t + m },
-        Stage::Sustain => Stage::Sustain,
-        Stage::Release { from, t } => Stage::Release { from, t: t + m },
     }
 }

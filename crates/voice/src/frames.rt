@@ -9,14 +9,14 @@ ghost use Rattle.curves.specs.Octave.{octaves};
 ghost use Rattle.voice.specs.Frames.{after, silent, frameAt};
 ghost use Rattle.voice.specs.Internal.Frames.{heard, afterAt, heardAt};
 ghost use Rattle.voice.specs.Stages.{dead};
-ghost use Rattle.voice.specs.Internal.Calm.{RoomBy, Calms};
+ghost use Rattle.voice.specs.Internal.Calm.{Calms};
+ghost use Rattle.voice.specs.Internal.Stages.{RoomBy};
 ghost use Rattle.voice.specs.Internal.Sums.{addTo, addAt, Small, From};
 use crate::Channel;
 use crate::Framed;
 use crate::Slot;
 use crate::Stage;
 use crate::Voice;
-use crate::calm::age_by;
 use crate::calm::calm;
 use crate::motion::go_on;
 use crate::motion::step_of;
@@ -25,7 +25,7 @@ use crate::sound::loud_of;
 use crate::sound::to_left;
 use crate::sound::to_right;
 use crate::sound::total_of;
-use crate::stages::age;
+use crate::stages::age_by;
 use crate::stages::enter;
 use crate::stages::envelope_of;
 use crate::stages::is_dead;
@@ -34,6 +34,7 @@ use crate::stretch::add_pair;
 use crate::stretch::glide;
 use crate::stretch::limit_of;
 use crate::with_moved;
+use arith::least;
 use curves::gain;
 
 // A slot that adds nothing.
@@ -65,7 +66,7 @@ pub fn frame_at(st: u32, l: i64, g: &[u32; 1441], w: &[i16], s: Slot) -> Framed
         });
     }
     if is_waiting(e) {
-        let y = age(e);
+        let y = age_by(e, 1);
         return silent_at(Slot {
             sounding: true,
             voice: with_moved(v, y, v.place, v.marked),
@@ -98,8 +99,7 @@ fn ahead(v: Voice, s: Stage, limit: u64, most: usize) -> usize
     if limit <= v.place {
         return 0;
     }
-    let m = calm(v, s) as usize;
-    if m < most { m } else { most }
+    least(calm(v, s) as u64, most as u64) as usize
 }
 
 // One frame of a slot, into frame k of the sums.

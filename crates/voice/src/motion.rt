@@ -5,27 +5,23 @@ ghost use Prim.Native.Nat.{_+_, _<_};
 ghost use Rattle.curves.specs.Octave.{octaves};
 ghost use Rattle.curves.specs.Pitch.{bendCents, pitchHeld, stepAt};
 ghost use Rattle.voice.specs.Motion.{folds, fold, span};
-ghost use Rattle.voice.specs.Internal.Stages.{Room};
+ghost use Rattle.voice.specs.Internal.Stages.{RoomBy};
 ghost use Rattle.voice.specs.Frames.{goOn};
 use crate::Slot;
 use crate::Stage;
 use crate::Voice;
-use crate::stages::age;
+use crate::stages::age_by;
 use crate::stages::is_released;
 use crate::with_moved;
+use arith::hold;
+use arith::less;
 use curves::bend_cents;
 
 // The pitch total, held to -9,600..4,800.
 fn hold_pitch(p: i64) -> i32
     ensures { λ r. ⌜ r ≡ pitchHeld p ⌝ }
 {
-    if p < -9600 {
-        return -9600;
-    }
-    if 4800 < p {
-        return 4800;
-    }
-    p as i32
+    hold(-9600, 4800, p) as i32
 }
 
 // The pitch total at a bend, held.
@@ -78,7 +74,7 @@ fn fold_at(a: u64, b: u64, p: u64) -> u64
 
 // The voice moved by its step, and folded or freed at once.
 pub fn go_on(v: Voice, s: Stage, step: u32) -> Slot
-    requires { ⌜ Room s ⌝ }
+    requires { ⌜ RoomBy 1 s ⌝ }
     ensures { λ r. ⌜ r ≡ goOn v s (v .place + step) ⌝ }
 {
     let st = step as u64;
@@ -88,7 +84,7 @@ pub fn go_on(v: Voice, s: Stage, step: u32) -> Slot
         let p = fold_at(a, b, fold_at(a, b, v.place) + st);
         return Slot {
             sounding: true,
-            voice: with_moved(v, age(s), p, v.marked),
+            voice: with_moved(v, age_by(s, 1), p, v.marked),
         };
     }
     let z = span_of(v) * 16777216;
@@ -107,7 +103,7 @@ pub fn go_on(v: Voice, s: Stage, step: u32) -> Slot
     }
     Slot {
         sounding: true,
-        voice: with_moved(v, age(s), p, v.marked),
+        voice: with_moved(v, age_by(s, 1), p, v.marked),
     }
 }
 
@@ -115,8 +111,5 @@ pub fn go_on(v: Voice, s: Stage, step: u32) -> Slot
 pub fn span_of(v: Voice) -> u64
     ensures { λ r. ⌜ (r ≡ span v) × (r < 4294967296) ⌝ }
 {
-    if v.end < v.start {
-        return 0;
-    }
-    (v.end - v.start) as u64
+    less(v.end, v.start) as u64
 }

@@ -13,6 +13,7 @@ use crate::motion::is_folding;
 use crate::reading::read;
 use crate::stages::envelope_of;
 use crate::stages::level_at;
+use arith::hold;
 use curves::cb_of;
 use curves::gain;
 
@@ -76,13 +77,7 @@ fn shape(v: Voice, s: Stage, u: i64) -> i64
 fn pan_of(p: i16) -> i64
     ensures { λ r. ⌜ (r ≡ panOf p) × Within r 500 ⌝ }
 {
-    if p < -500 {
-        return -500;
-    }
-    if 500 < p {
-        return 500;
-    }
-    p as i64
+    hold(-500, 500, p as i64)
 }
 
 // The floor of x / 1,000, by an offset that makes it positive: `/` rounds toward zero.

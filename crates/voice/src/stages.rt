@@ -1,10 +1,12 @@
-// Stages: the envelope, the attack's level, leaving spent stages, one frame more spent.
+// Stages: the envelope, the attack's level, leaving spent stages, frames more spent.
 ghost use mathlib.Core.Path.{_≡_};
-ghost use Prim.Native.Nat.{_-_, _≤_, _<_};
-ghost use Rattle.voice.specs.Internal.Stages.{Room, Roomy};
-ghost use Rattle.voice.specs.Stages.{levelAt, decayAt, releaseAt, envelope, fromDecay, fromHold, fromAttack, fromDelay, entered, dead, waiting, released, spent};
+ghost use Prim.Native.Nat.{_≤_, _<_};
+ghost use Rattle.voice.specs.Internal.Stages.{RoomBy, Roomy};
+ghost use Rattle.voice.specs.Stages.{levelAt, decayAt, releaseAt, envelope, fromDecay, fromHold, fromAttack, fromDelay, entered, dead, waiting, released, spentBy};
 use crate::Stage;
 use crate::Voice;
+use arith::least;
+use arith::less;
 
 // The attack's level in frame t of n.
 pub fn level_at(n: u32, t: u32) -> u32
@@ -13,8 +15,7 @@ pub fn level_at(n: u32, t: u32) -> u32
     if n == 0 {
         return 0;
     }
-    let q = 16777216 * (t as u64) / (n as u64);
-    if q < 16777216 { q as u32 } else { 16777216 }
+    least(16777216 * (t as u64) / (n as u64), 16777216) as u32
 }
 
 // The decay's cB in frame t of n.
@@ -24,8 +25,7 @@ pub fn decay_at(n: u32, z: u16, t: u32) -> u16
     if n == 0 {
         return z;
     }
-    let q = 1000 * (t as u64) / (n as u64);
-    if q < (z as u64) { q as u16 } else { z }
+    least(1000 * (t as u64) / (n as u64), z as u64) as u16
 }
 
 // The release's cB in frame t of n, from a.
@@ -159,26 +159,19 @@ pub fn is_released(s: Stage) -> bool
     }
 }
 
-// One frame fewer of a delay.
-fn less_one(n: u32) -> u32
-    ensures { λ r. ⌜ r ≡ n - 1 ⌝ }
-{
-    if n == 0 { 0 } else { n - 1 }
-}
-
-// One frame more spent.
-pub fn age(s: Stage) -> Stage
-    requires { ⌜ Room s ⌝ }
-    ensures { λ r. ⌜ r ≡ spent s ⌝ }
+// The stage with m frames more spent.
+pub fn age_by(s: Stage, m: u32) -> Stage
+    requires { ⌜ RoomBy m s ⌝ }
+    ensures { λ r. ⌜ r ≡ spentBy m s ⌝ }
 {
     match s {
         Stage::Delay { left } => Stage::Delay {
-            left: less_one(left),
+            left: less(left, m),
         },
-        Stage::Attack { t } => Stage::Attack { t: t + 1 },
-        Stage::Hold { t } => Stage::Hold { t: t + 1 },
-        Stage::Decay { t } => Stage::Decay { t: t + 1 },
+        Stage::Attack { t } => Stage::Attack { t: t + m },
+        Stage::Hold { t } => Stage::Hold { t: t + m },
+        Stage::Decay { t } => Stage::Decay { t: t + m },
         Stage::Sustain => Stage::Sustain,
-        Stage::Release { from, t } => Stage::Release { from, t: t + 1 },
+        Stage::Release { from, t } => Stage::Release { from, t: t + m },
     }
 }

@@ -15,18 +15,12 @@ use crate::reading::reading_of;
 use crate::sound::scaled_by;
 use crate::sound::to_left;
 use crate::sound::to_right;
+use arith::least;
 
 // How far a stretch came.
 pub struct Reached {
     pub frames: usize,
     pub place: u64,
-}
-
-// At most both.
-fn least(a: u64, b: u64) -> u64
-    ensures { λ r. ⌜ (r ≤ a) × (r ≤ b) ⌝ }
-{
-    if a < b { a } else { b }
 }
 
 // Below this place a frame reads two samples before the end, and a step leads to neither fold nor end.

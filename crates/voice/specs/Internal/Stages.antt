@@ -1,5 +1,5 @@
--- Room for one frame more in a stage's count.
-use Prim.Native.Nat.{_<_}
+-- Room for frames more in a stage's count.
+use Prim.Native.Nat.{ℕ, _+_, _<_}
 use mathlib.Core.Path.{_≡_}
 use mathlib.Core.Bool.{false}
 use Rattle.voice.specs.declared.Stage.{Stage}
@@ -7,15 +7,15 @@ use Rattle.voice.specs.declared.Stage.the-variants.{Delay, Attack, Hold,
 use Rattle.voice.specs.declared.Voice.{Voice}
 use Rattle.voice.specs.Stages.{dead}
 
--- the count of its frames is below 2^32 - 1
-abbrev pub Room : Stage → Type 0
-Room (Delay left) = Unit {0}
-Room (Attack t) = t < 4294967295
-Room (Hold t) = t < 4294967295
-Room (Decay t) = t < 4294967295
-Room Sustain = Unit {0}
-Room (Release a t) = t < 4294967295
+-- j frames more are a 32-bit count
+abbrev pub RoomBy : ℕ → Stage → Type 0
+RoomBy j (Delay left) = Unit {0}
+RoomBy j (Attack t) = t + j < 4294967296
+RoomBy j (Hold t) = t + j < 4294967296
+RoomBy j (Decay t) = t + j < 4294967296
+RoomBy j Sustain = Unit {0}
+RoomBy j (Release a t) = t + j < 4294967296
 
--- alive in stage s, it has room there
+-- alive in stage s, it has room there for one frame more
 abbrev pub Roomy : Voice → Stage → Type 0
-Roomy v s = dead v s ≡ false → Room s
+Roomy v s = dead v s ≡ false → RoomBy 1 s

@@ -5,7 +5,8 @@ use native.Mathlib.Omega.{arith}
 use borrow.Author.Needs.{needs}
 use Rattle.voice.specs.declared.Stage.{Stage}
 use Rattle.voice.specs.declared.Voice.{Voice}
-use Rattle.voice.specs.Internal.Calm.{RoomBy, Calms}
+use Rattle.voice.specs.Internal.Calm.{Calms}
+use Rattle.voice.specs.Internal.Stages.{RoomBy}
 use Rattle.voice.proofs.CalmLaws.{none-calm, hold-calm, sustain-calm, decay-calm, release-calm}
 use Rattle.voice.proofs.calm.calm.Statement.{statement}
 use Rattle.voice.proofs.calm.calm.Tie as tie
@@ -26,8 +27,8 @@ calm-attack-requires c κs = search needs
 enum-known-s-2 : tie.Need-enum-known-s-2
 enum-known-s-2 c = search needs
 
-calm-hold-requires : tie.Need-calm-hold-requires
-calm-hold-requires c κs = search needs
+less-requires : tie.Need-less-requires
+less-requires c κs = search needs
 
 enum-known-s-3 : tie.Need-enum-known-s-3
 enum-known-s-3 c = search needs
@@ -52,8 +53,8 @@ returns-2 c = seen _ _ (c .before .before .s .given .1) (none-calm _ _ _ (c .cal
 
 returns-3 : tie.Need-returns-3
 returns-3 c =
-    let e = c .calm-hold .ensures .0 in
-    seen _ _ (c .before .before .s2 .given .1) (hold-calm _ _ _ (λ z. omega arith), c .calm-hold .ensures .1)
+    let e = c .less .ensures in
+    seen _ _ (c .before .before .s2 .given .1) (hold-calm _ _ _ (λ z. omega arith), omega arith)
 
 returns-4 : tie.Need-returns-4
 returns-4 c = seen _ _ (c .before .before .s3 .given .1) (decay-calm _ _ _ (c .calm-decay .ensures .2) (c .calm-decay .ensures .0), c .calm-decay .ensures .1)
@@ -72,7 +73,7 @@ calm-spec =
     enum-known-s
     calm-attack-requires
     enum-known-s-2
-    calm-hold-requires
+    less-requires
     enum-known-s-3
     calm-decay-requires
     enum-told-2

@@ -3,7 +3,8 @@ use mathlib.Core.Path.{refl, sym, _∙_}
 use native.Mathlib.Nat.{not-suc-le-zero}
 use native.Mathlib.Omega.{arith}
 use borrow.Author.Needs.{needs}
-use Rattle.voice.proofs.CalmLaws.{none-calm, room-le}
+use Rattle.voice.proofs.CalmLaws.{none-calm}
+use Rattle.voice.proofs.StagesLaws.{room-le}
 use Rattle.voice.proofs.frames.ahead.Statement.{statement}
 use Rattle.voice.proofs.frames.ahead.Tie as tie
 
@@ -19,30 +20,24 @@ returns-2 c = (omega arith, omega arith, none-calm _ _ 0 refl, λ z. absurd (not
 calm-requires : tie.Need-calm-requires
 calm-requires c κs = search needs
 
-cast-m : tie.Need-cast-m
-cast-m c = search needs
+cast-least : tie.Need-cast-least
+cast-least c = search needs
+
+least-requires : tie.Need-least-requires
+least-requires c κs = search needs
 
 returns-3 : tie.Need-returns-3
 returns-3 c =
-    let y = c .before .before in
-    let n = y .before .before in (
-      omega arith,
-      omega arith,
-      c .before .calm .ensures .0,
-      λ z. (sym (n .before .is-dead .ensures) ∙ n .if1 .left, y .if2 .left, c .before .calm .ensures .1),
-    )
-
-returns-4 : tie.Need-returns-4
-returns-4 c =
+    let e = c .least .ensures in
     let y = c .before .before in
     let n = y .before .before in (
       omega arith,
       omega arith,
       λ j k. c .before .calm .ensures .0 j (omega arith),
-      λ z. (sym (n .before .is-dead .ensures) ∙ n .if1 .left, y .if2 .left, room-le (n .before .before .args .s) (c .before .calm .result) (n .before .before .args .most) (c .if3 .left) (c .before .calm .ensures .1)),
+      λ z. (sym (n .before .is-dead .ensures) ∙ n .if1 .left, y .if2 .left, room-le (n .before .before .args .s) (c .before .calm .result) (c .least .result) (omega arith) (c .before .calm .ensures .1)),
     )
 
 pub ahead-spec : {M : Type 1} → statement M
 ahead-spec =
     tie.close
-    (tie.spec is-dead-requires returns returns-2 calm-requires cast-m returns-3 returns-4)
+    (tie.spec is-dead-requires returns returns-2 calm-requires cast-least least-requires returns-3)

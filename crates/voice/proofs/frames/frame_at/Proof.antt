@@ -10,10 +10,10 @@ use mathlib.Core.Path.{_≡_, sym, ap, _∙_}
 use Rattle.voice.specs.declared.Framed.{Framed}
 use Rattle.voice.specs.declared.Slot.{Slot}
 use Rattle.voice.specs.Sound.{leftOf, rightOf}
-use Rattle.voice.specs.Internal.Stages.{Room}
+use Rattle.voice.specs.Internal.Stages.{RoomBy}
 use Rattle.voice.specs.Frames.{silent, loud, goOn, readAndMoved}
 use Rattle.voice.specs.Changes.{withMoved, sounds}
-use Rattle.voice.specs.Stages.{entered, dead, waiting, spent}
+use Rattle.voice.specs.Stages.{entered, dead, waiting, spentBy}
 use Rattle.voice.specs.declared.Voice.{Voice}
 use Rattle.voice.specs.declared.Stage.{Stage}
 use Rattle.arith.specs.Within.{Within}
@@ -27,7 +27,7 @@ quiet : {f g : Framed} {s : Slot} → f ≡ silent s → silent s ≡ g → (f �
 quiet e h = (e ∙ h, rw e (w-nat (lit≤ tt)), rw e (w-nat (lit≤ tt)))
 
 -- the stage that is entered alive has room
-room : (c : tie.Else2) → Room (c .before .before .enter .result)
+room : (c : tie.Else2) → RoomBy 1 (c .before .before .enter .result)
 room c = let d = c .before in d .before .enter .ensures .1 (sym (d .is-dead .ensures) ∙ c .if2 .left)
 
 framed : {s s′ : Slot} {l l′ r r′ : ℤ} → s ≡ s′ → l ≡ l′ → r ≡ r′ →
@@ -67,8 +67,8 @@ returns-2 c = let d = c .before .before in
 is-waiting-requires : tie.Need-is-waiting-requires
 is-waiting-requires c κs = search needs
 
-age-requires : tie.Need-age-requires
-age-requires c κs = room (c .before .before)
+age-by-requires : tie.Need-age-by-requires
+age-by-requires c κs = room (c .before .before)
 
 with-moved-requires : tie.Need-with-moved-requires
 with-moved-requires c κs = search needs
@@ -88,7 +88,7 @@ returns-3 c = let d = c .before .before .before .before .before .before in
     let e = d .before .enter .ensures .0 in
     let t = sym (ap (dead v) e) ∙ sym (d .is-dead .ensures) ∙ c .before .before .before .before .before .if2 .left in
     let u = sym (ap waiting e) ∙ sym (c .before .before .before .before .is-waiting .ensures) ∙ c .before .before .before .if3 .taken in
-    let m = c .before .with-moved .ensures ∙ ap (λ (x : Stage). withMoved v x (v .place) (v .marked)) (c .before .before .age .ensures ∙ ap spent e) in
+    let m = c .before .with-moved .ensures ∙ ap (λ (x : Stage). withMoved v x (v .place) (v .marked)) (c .before .before .age-by .ensures ∙ ap (spentBy 1) e) in
     quiet (c .silent-at3 .ensures) (ap (λ (x : Voice). silent (sounds x)) m ∙ sym (on ∙ living-waits st l w v (entered v (v .stage)) t u))
 
 loud-of-requires : tie.Need-loud-of-requires
@@ -141,7 +141,7 @@ frame-at-spec =
     silent-at-requires-2
     returns-2
     is-waiting-requires
-    age-requires
+    age-by-requires
     with-moved-requires
     silent-at-requires-3
     returns-3

@@ -22,7 +22,7 @@ use Rattle.voice.specs.Internal.Frames.{afterAt, heardAt}
 use Rattle.voice.specs.Internal.Calm.{Calms}
 use Rattle.voice.specs.Internal.Stretch.{Clear, plains}
 use Rattle.voice.proofs.StretchLaws.{stretch-slot, stretch-sums}
-use Rattle.voice.proofs.CalmLaws.{room-le}
+use Rattle.voice.proofs.StagesLaws.{room-le}
 use Rattle.voice.specs.Internal.Sums.{Small, addAt}
 use Rattle.voice.proofs.frames.go.Statement.{statement}
 use Rattle.voice.proofs.frames.go.Tie as tie

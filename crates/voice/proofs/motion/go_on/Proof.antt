@@ -35,8 +35,8 @@ add-fold-at c = search needs
 fold-at-requires-2 : tie.Need-fold-at-requires-2
 fold-at-requires-2 c κs = let h = folds-loop _ _ (sym (c .before .before .before .before .is-folding .ensures) ∙ c .before .before .before .if1 .taken) in omega (arith, h)
 
-age-requires : tie.Need-age-requires
-age-requires c κs = search needs
+age-by-requires : tie.Need-age-by-requires
+age-by-requires c κs = search needs
 
 with-moved-requires : tie.Need-with-moved-requires
 with-moved-requires c κs = search needs
@@ -52,7 +52,7 @@ returns c = let f = c .before .before .before in
     let e = sym (t .before .is-folding .ensures) ∙ t .if1 .taken in
     let h = folds-loop v s e in
     let p = c .before .before .fold-at2 .ensures .0 ∙ ap (λ (x : ℕ). fold a b (x + st)) (f .fold-at .ensures .0) ∙ fold-add a b (v .place) st (omega (arith, h)) in
-    ap sounds (c .with-moved .ensures ∙ ap₂ (λ (x : Stage) (y : ℕ). withMoved v x y (v .marked)) (c .before .age .ensures) p) ∙ sym (go-fold v s (v .place + st) e)
+    ap sounds (c .with-moved .ensures ∙ ap₂ (λ (x : Stage) (y : ℕ). withMoved v x y (v .marked)) (c .before .age-by .ensures) p) ∙ sym (go-fold v s (v .place + st) e)
 
 span-of-requires : tie.Need-span-of-requires
 span-of-requires c κs = search needs
@@ -75,8 +75,8 @@ returns-3 c = let n = c .before .before .before .before in
     let e = sym (n .before .before .is-folding .ensures) ∙ n .before .if1 .left in
     sym (go-end v _ _ e (omega (arith, c .if3 .taken, n .span-of .ensures .0)))
 
-age-requires-2 : tie.Need-age-requires-2
-age-requires-2 c κs = search needs
+age-by-requires-2 : tie.Need-age-by-requires-2
+age-by-requires-2 c κs = search needs
 
 with-moved-requires-2 : tie.Need-with-moved-requires-2
 with-moved-requires-2 c κs = search needs
@@ -87,7 +87,7 @@ returns-4 c = let n = c .before .before .before .before .before .before in
     let s = n .before .before .before .args .s in
     let st = n .before .before .before .args .step in
     let e = sym (n .before .before .is-folding .ensures) ∙ n .before .if1 .left in
-    ap sounds (c .with-moved2 .ensures ∙ ap (λ (x : Stage). withMoved v x (v .place + st) (v .marked)) (c .before .age2 .ensures))
+    ap sounds (c .with-moved2 .ensures ∙ ap (λ (x : Stage). withMoved v x (v .place + st) (v .marked)) (c .before .age-by2 .ensures))
     ∙ sym (go-stay v s (v .place + st) e (omega (arith, c .before .before .if3 .left, n .span-of .ensures .0)))
 
 pub go-on-spec : {M : Type 1} → statement M
@@ -102,7 +102,7 @@ go-on-spec =
     fold-at-requires
     add-fold-at
     fold-at-requires-2
-    age-requires
+    age-by-requires
     with-moved-requires
     returns
     span-of-requires
@@ -110,6 +110,6 @@ go-on-spec =
     returns-2
     add-p
     returns-3
-    age-requires-2
+    age-by-requires-2
     with-moved-requires-2
     returns-4)

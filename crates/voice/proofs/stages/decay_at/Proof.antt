@@ -1,7 +1,4 @@
--- The decay's cB: each return by what the tests before it say of `decayAt` and of the lesser of two numbers.
-use Prim.Native.Nat.{_≤_, _*_, _/_}
-use native.Mathlib.Nat.{min-eq-left, min-eq-right}
-use native.Mathlib.Omega.{arith}
+-- The decay's cB: each return by what the test before it says of `decayAt`.
 use borrow.Author.Tests.{eq-eqb, ne-eqb}
 use borrow.Author.Needs.{needs}
 use Rattle.voice.specs.Stages.{decayAt}
@@ -12,26 +9,22 @@ returns : tie.Need-returns
 unfolding decayAt
 returns c = simp (eq-eqb _ _ (c .if1 .taken))
 
-mul-q : tie.Need-mul-q
-mul-q c = search needs
+mul-least : tie.Need-mul-least
+mul-least c = search needs
 
-div-q : tie.Need-div-q
-div-q c = search needs
+div-least : tie.Need-div-least
+div-least c = search needs
+
+least-requires : tie.Need-least-requires
+least-requires c κs = search needs
 
 cast-result : tie.Need-cast-result
 cast-result c = search needs
 
 returns-2 : tie.Need-returns-2
 unfolding decayAt
-returns-2 c = let a = c .before .before .args in
-    let h : 1000 * a .t / a .n ≤ a .z = omega arith in
-    simp (ne-eqb (a .n) 0 (c .before .if1 .left), min-eq-left h)
-
-returns-3 : tie.Need-returns-3
-unfolding decayAt
-returns-3 c = let a = c .before .before .args in
-    let h : a .z ≤ 1000 * a .t / a .n = omega arith in
-    simp (ne-eqb (a .n) 0 (c .before .if1 .left), min-eq-right h)
+returns-2 c = let n = c .before in simp (ne-eqb (n .before .args .n) 0 (n .if1 .left)) (c .least .ensures)
 
 pub decay-at-spec : {M : Type 1} → statement M
-decay-at-spec = tie.close (tie.spec returns mul-q div-q cast-result returns-2 returns-3)
+decay-at-spec =
+    tie.close (tie.spec returns mul-least div-least least-requires cast-result returns-2)

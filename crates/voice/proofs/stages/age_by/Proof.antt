@@ -1,17 +1,18 @@
--- Each count grows by m.
+-- Frames more spent, by the stage: each return by that case of `spentBy`, and the count fits by `RoomBy`.
 use mathlib.Core.Path.{sym, ap, _∙_, subst}
 use native.Mathlib.Omega.{arith}
 use borrow.Author.Needs.{needs}
 use Rattle.voice.specs.declared.Stage.the-variants.{Delay}
-use Rattle.voice.specs.Internal.Calm.{spentBy, RoomBy}
-use Rattle.voice.proofs.calm.age_by.Statement.{statement}
-use Rattle.voice.proofs.calm.age_by.Tie as tie
+use Rattle.voice.specs.Internal.Stages.{RoomBy}
+use Rattle.voice.specs.Stages.{spentBy}
+use Rattle.voice.proofs.stages.age_by.Statement.{statement}
+use Rattle.voice.proofs.stages.age_by.Tie as tie
 
 enum-known-s : tie.Need-enum-known-s
 enum-known-s c = search needs
 
-calm-hold-requires : tie.Need-calm-hold-requires
-calm-hold-requires c κs = search needs
+less-requires : tie.Need-less-requires
+less-requires c κs = search needs
 
 enum-known-s-2 : tie.Need-enum-known-s-2
 enum-known-s-2 c = search needs
@@ -41,7 +42,7 @@ add-t14 : tie.Need-add-t14
 add-t14 c = let k = c .before .before .before in let h = subst (RoomBy (k .args .m)) (c .before .s5 .given .1) (k .pre) in omega (arith, h)
 
 returns : tie.Need-returns
-returns c = let k = c .before .before .before .before in ap Delay (c .calm-hold .ensures .0) ∙ sym (ap (spentBy (k .args .m)) (c .before .before .s .given .1))
+returns c = let k = c .before .before .before .before in ap Delay (c .less .ensures) ∙ sym (ap (spentBy (k .args .m)) (c .before .before .s .given .1))
 
 returns-2 : tie.Need-returns-2
 returns-2 c = sym (ap (spentBy (c .before .before .before .args .m)) (c .before .s2 .given .1))
@@ -63,7 +64,7 @@ age-by-spec =
     tie.close
     (tie.spec
     enum-known-s
-    calm-hold-requires
+    less-requires
     enum-known-s-2
     add-t11
     enum-known-s-3
