@@ -1,4 +1,4 @@
-//! Cases from real files: a SoundFont bank and a standard MIDI file, as a case for `play` and as strikes for `strike`.
+//! Cases from real files: a SoundFont bank and a standard MIDI file.
 
 use crate::case::{MEMORY_ROOM, OUTPUT_ROOM};
 use std::io::{self, Error, Write};
@@ -24,7 +24,10 @@ fn chunks(mut body: &[u8]) -> io::Result<Vec<([u8; 4], &[u8])>> {
     let mut found = Vec::new();
     while body.len() >= 8 {
         let length = u32_at(body, 4) as usize;
-        let end = 8usize.checked_add(length).filter(|end| *end <= body.len()).ok_or_else(|| bad("a chunk runs past the file's end"))?;
+        let end = 8usize
+            .checked_add(length)
+            .filter(|end| *end <= body.len())
+            .ok_or_else(|| bad("a chunk runs past the file's end"))?;
         found.push(([body[0], body[1], body[2], body[3]], &body[8..end]));
         body = &body[(end + length % 2).min(body.len())..];
     }
@@ -258,7 +261,7 @@ pub fn write_strikes(bank: &RealBank, out: &mut impl Write) -> io::Result<()> {
     for (program, number) in bank.presets() {
         for key in (0..128).step_by(3) {
             for velocity in [1, 45, 90, 127] {
-                out.write_all(&[b'k', program, number, key, velocity])?;
+                out.write_all(&[b'h', program, number, key, velocity])?;
             }
         }
     }
