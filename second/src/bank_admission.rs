@@ -14,6 +14,13 @@ pub enum Kind {
     Window,
 }
 
+impl Kind {
+    /// The number that request M-102 gives the kind: 21 to 27, in the order of testing.
+    pub fn number(self) -> u8 {
+        21 + self as u8
+    }
+}
+
 /// A fault and the byte place of the record at fault.
 #[derive(Clone, Copy, Debug, PartialEq, Eq)]
 pub struct Fault {

@@ -1,8 +1,11 @@
 //! Case files and traces: commands are read from a case as it is played, and each call writes a line of the trace.
+//!
+//! The letters i, j, d, u and h are the repository's own: ../README.md says what each does.
 
 use crate::bank::Bank;
 use crate::bank_admission::{admit, list, Fault};
 use crate::slots_keys_clock::{Answer, Engine, Lent, BANK_NOT_ADMITTED};
+use crate::strike;
 use crate::tables_and_steps::{tables, Tables};
 use crate::voice::{Stage, Voice};
 use std::io::{self, ErrorKind, Read, Write};
@@ -16,7 +19,7 @@ pub const OUTPUT_ROOM: u32 = 8_448;
 const BEFORE: u32 = 0x1234_5678;
 
 /// Why a run ends: the case is damaged, or reading or writing failed.
-pub enum Stop {
+enum Stop {
     Bad,
     Failed(io::Error),
 }
@@ -32,13 +35,13 @@ impl From<io::Error> for Stop {
 }
 
 /// The numbers of a command, little-endian.
-pub struct Commands<R: Read> {
-    pub input: R,
+struct Commands<R: Read> {
+    input: R,
 }
 
 impl<R: Read> Commands<R> {
     /// The next command's letter, nothing at the end of the case.
-    pub fn letter(&mut self) -> Result<Option<u8>, Stop> {
+    fn letter(&mut self) -> Result<Option<u8>, Stop> {
         match self.byte() {
             Ok(letter) => Ok(Some(letter)),
             Err(Stop::Bad) => Ok(None),
@@ -46,7 +49,7 @@ impl<R: Read> Commands<R> {
         }
     }
 
-    pub fn byte(&mut self) -> Result<u8, Stop> {
+    fn byte(&mut self) -> Result<u8, Stop> {
         let mut bytes = [0; 1];
         self.input.read_exact(&mut bytes)?;
         Ok(bytes[0])
@@ -64,7 +67,7 @@ impl<R: Read> Commands<R> {
         Ok(u32::from_le_bytes(bytes))
     }
 
-    pub fn bytes(&mut self, count: usize) -> Result<Vec<u8>, Stop> {
+    fn bytes(&mut self, count: usize) -> Result<Vec<u8>, Stop> {
         let mut bytes = vec![0; count];
         self.input.read_exact(&mut bytes)?;
         Ok(bytes)
@@ -79,7 +82,7 @@ impl<R: Read> Commands<R> {
         Ok(length as usize)
     }
 
-    pub fn bank(&mut self) -> Result<Vec<u8>, Stop> {
+    fn bank(&mut self) -> Result<Vec<u8>, Stop> {
         let length = self.length(BANK_ROOM)?;
         self.bytes(length)
     }
@@ -125,7 +128,7 @@ struct Player {
 }
 
 /// Plays a case and writes its trace. A damaged case ends with the line `bad`.
-pub fn play(input: impl Read, output: impl Write) -> io::Result<()> {
+pub fn play(input: impl Read, mut output: impl Write) -> io::Result<()> {
     let mut player = Player {
         tables: tables(),
         engine: Engine::fresh(0),
@@ -133,20 +136,11 @@ pub fn play(input: impl Read, output: impl Write) -> io::Result<()> {
         ram: Memory::default(),
         rom: Memory::default(),
     };
-    run(input, output, |letter, commands| player.command(letter, commands))
-}
-
-/// Reads commands to the end and writes what each answers.
-pub fn run<R: Read>(
-    input: R,
-    mut output: impl Write,
-    mut command: impl FnMut(u8, &mut Commands<R>) -> Result<Vec<u8>, Stop>,
-) -> io::Result<()> {
     let mut commands = Commands { input };
     let stop = loop {
         match commands.letter() {
             Ok(None) => break None,
-            Ok(Some(letter)) => match command(letter, &mut commands) {
+            Ok(Some(letter)) => match player.command(letter, &mut commands) {
                 Ok(line) => output.write_all(&line)?,
                 Err(stop) => break Some(stop),
             },
@@ -162,7 +156,7 @@ pub fn run<R: Read>(
 }
 
 /// The line of a t command: a case's name.
-pub fn name_line<R: Read>(commands: &mut Commands<R>) -> Result<Vec<u8>, Stop> {
+fn name_line<R: Read>(commands: &mut Commands<R>) -> Result<Vec<u8>, Stop> {
     let length = commands.byte()?;
     let name = commands.bytes(length as usize)?;
     Ok([b"t ", name.as_slice(), b"\n"].concat())
@@ -179,6 +173,7 @@ impl Player {
             b'x' => self.rom.cut(c.u32()?),
             b'F' => self.engine = Engine::fresh(c.u32()?),
             b't' => return name_line(c),
+            b'h' => return self.hammer(c).map(String::into_bytes),
             _ => return self.call(letter, c).map(String::into_bytes),
         }
         Ok(Vec::new())
@@ -189,6 +184,10 @@ impl Player {
         let answer = match letter {
             b'a' => counted(self.admission()),
             b'l' => self.listing(c.u32()?),
+            b'i' => counted(self.admission()),
+            b'j' => self.listing(c.u32()?),
+            b'd' => self.defect(),
+            b'u' => format!("0 {}", self.engine.slots.iter().flatten().count()),
             b'n' => counted(self.note_on(c.byte()?, c.byte()?, c.byte()?)),
             b'o' => counted(self.engine.note_off(self.tables, c.byte()?, c.byte()?)),
             b'c' => {
@@ -220,6 +219,23 @@ impl Player {
                 Some((program, number, next)) => format!("0 {program} {number} {next}"),
             },
         }
+    }
+
+    /// The kind of the bank's fault and its place, 0 and 0 where it is admitted.
+    fn defect(&self) -> String {
+        match &self.bank {
+            Ok(_) => "0 0".to_string(),
+            Err(fault) => format!("{} {}", fault.kind.number(), fault.place),
+        }
+    }
+
+    /// The voices that a struck key would start; the engine has no part in it, and its state is not shown.
+    fn hammer<R: Read>(&self, c: &mut Commands<R>) -> Result<String, Stop> {
+        let [program, number, key, velocity] = [c.byte()?, c.byte()?, c.byte()?, c.byte()?];
+        if key > 127 || velocity == 0 || velocity > 127 {
+            return Err(Stop::Bad);
+        }
+        Ok(strike::lines(&self.bank, program, number, key, velocity))
     }
 
     fn note_on(&mut self, channel: u8, key: u8, velocity: u8) -> Answer {

@@ -1,16 +1,15 @@
-//! The second program's commands: play a case, strike keys, make the stored cases and their traces, make cases of real files.
+//! The second program's commands: play a case, make the stored cases and their traces, make cases of real files.
 
-use second::{case, make, real, strike};
+use second::{case, make, real};
 use std::fs;
 use std::io::{self, BufReader, BufWriter};
 use std::path::Path;
 use std::process::ExitCode;
 
 const USAGE: &str = "usage: second play < CASE > TRACE
-       second strike < STRIKES > LINES
        second make DIR
        second real BANK.sf2 PIECE.mid SECONDS > CASE
-       second struck BANK.sf2 > STRIKES";
+       second struck BANK.sf2 > CASE";
 
 /// The status is 0 for a damaged case too, whose trace ends with `bad`; 1 where reading or writing fails; 2 for usage.
 fn main() -> ExitCode {
@@ -18,10 +17,11 @@ fn main() -> ExitCode {
     let words: Vec<&str> = arguments.iter().map(String::as_str).collect();
     let done = match words.as_slice() {
         ["play"] => case::play(BufReader::new(io::stdin().lock()), BufWriter::new(io::stdout().lock())),
-        ["strike"] => strike::play(BufReader::new(io::stdin().lock()), BufWriter::new(io::stdout().lock())),
         ["make", directory] => make::write_all(Path::new(directory)),
         ["real", bank, piece, seconds] => real_case(bank, piece, seconds),
-        ["struck", bank] => real_bank(bank).and_then(|bank| real::write_strikes(&bank, &mut BufWriter::new(io::stdout().lock()))),
+        ["struck", bank] => {
+            real_bank(bank).and_then(|bank| real::write_strikes(&bank, &mut BufWriter::new(io::stdout().lock())))
+        }
         _ => {
             eprintln!("{USAGE}");
             return ExitCode::from(2);

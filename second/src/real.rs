@@ -1,4 +1,4 @@
-//! Cases from real files: a SoundFont bank and a standard MIDI file, as a case for `play` and as strikes for `strike`.
+//! Cases from real files: a SoundFont bank and a standard MIDI file.
 
 use crate::case::{MEMORY_ROOM, OUTPUT_ROOM};
 use std::io::{self, Error, Write};
@@ -261,7 +261,7 @@ pub fn write_strikes(bank: &RealBank, out: &mut impl Write) -> io::Result<()> {
     for (program, number) in bank.presets() {
         for key in (0..128).step_by(3) {
             for velocity in [1, 45, 90, 127] {
-                out.write_all(&[b'k', program, number, key, velocity])?;
+                out.write_all(&[b'h', program, number, key, velocity])?;
             }
         }
     }

@@ -1,48 +1,22 @@
-//! Strikes by themselves: the layers of a key, and the numbers of the voice that each layer starts, as lines of text.
-//!
-//! A strike file has the commands B and t of a case file, and k: u8 program, u8 bank, u8 key, u8 velocity.
+//! What a struck key starts: its layers, and the numbers of the voice that each layer starts, as lines of text.
 
 use crate::bank::Bank;
-use crate::bank_admission::{admit, Fault};
-use crate::case::{name_line, run, Commands, Stop};
+use crate::bank_admission::Fault;
 use crate::key_to_layers::{find_preset, layers, Numbers};
 use crate::tables_and_steps::tables;
-use std::io::{self, Read, Write};
 
-/// Plays a strike file; a damaged one ends with the line `bad`, as a case does.
-pub fn play(input: impl Read, output: impl Write) -> io::Result<()> {
-    let mut bank = admit(&[]);
-    run(input, output, |letter, commands| command(letter, commands, &mut bank))
-}
-
-fn command<R: Read>(letter: u8, c: &mut Commands<R>, bank: &mut Result<Bank, Fault>) -> Result<Vec<u8>, Stop> {
-    match letter {
-        b'B' => *bank = admit(&c.bank()?),
-        b't' => return name_line(c),
-        b'k' => {
-            let [program, number, key, velocity] = [c.byte()?, c.byte()?, c.byte()?, c.byte()?];
-            if key > 127 || velocity == 0 || velocity > 127 {
-                return Err(Stop::Bad);
-            }
-            return Ok(strike(bank, program, number, key, velocity).into_bytes());
-        }
-        _ => return Err(Stop::Bad),
-    }
-    Ok(Vec::new())
-}
-
-/// `k` and the number of layers, 33 for too many, `none` where there is no such preset; then a line for each layer of up
+/// `h` and the number of layers, 33 for too many, `none` where there is no such preset; then a line for each layer of up
 /// to 32.
-fn strike(bank: &Result<Bank, Fault>, program: u8, number: u8, key: u8, velocity: u8) -> String {
+pub fn lines(bank: &Result<Bank, Fault>, program: u8, number: u8, key: u8, velocity: u8) -> String {
     let preset = bank.as_ref().ok().and_then(|bank| {
         let preset = find_preset(bank, number as u16, program as u16)?;
         Some((bank, preset))
     });
     let Some((bank, preset)) = preset else {
-        return "k none\n".to_string();
+        return "h none\n".to_string();
     };
     let found = layers(bank, preset, key, velocity);
-    let mut text = format!("k {}\n", found.len());
+    let mut text = format!("h {}\n", found.len());
     if found.len() <= 32 {
         let numbers = found.iter().map(|l| l.numbers(tables(), key, velocity));
         text.extend(numbers.map(|n| voice_line(&n)));

@@ -65,6 +65,43 @@ n 1 0 | 00000001 00000000
     assert_eq!(trace(&s.bytes), expected);
 }
 
+/// The letters of our own with a line like those of the calls: the reader's i and j, the fault d, the count u.
+#[test]
+fn lines_of_our_own_letters() {
+    let mut s = two_layers();
+    s.opening();
+    s.defect();
+    s.row(0);
+    s.row(1);
+    s.in_use();
+    s.on(0, 60, 127);
+    s.in_use();
+    s.silence(0);
+    s.in_use();
+    s.bank(b"phdr");
+    s.opening();
+    s.defect();
+    s.row(0);
+    s.bank(&vec![0; 65_537]);
+    s.defect();
+    let expected = "t name
+i 0 0 | 00000000 00000000
+d 0 0 | 00000000 00000000
+j 0 0 0 1 | 00000000 00000000
+j 0 end | 00000000 00000000
+u 0 0 | 00000000 00000000
+n 0 2 | 00000000 00000003 0d 1d
+u 0 2 | 00000000 00000003 0d 1d
+c 0 0 | 00000000 00000000
+u 0 0 | 00000000 00000000
+i 1 0 | 00000000 00000000
+d 22 0 | 00000000 00000000
+j 1 | 00000000 00000000
+d 21 65536 | 00000000 00000000
+";
+    assert_eq!(trace(&s.bytes), expected);
+}
+
 /// FNV-1a over the bytes, the low byte of each number first, worked out here from its definition by itself.
 #[test]
 fn the_hash_is_over_all_of_the_output() {
@@ -98,14 +135,15 @@ fn damaged_cases_end_with_bad() {
     assert_eq!(between, 8, "in front of each of t B M O F n r t");
 }
 
-/// Behind each letter stand zeros, which no letter is: a call writes its line first, any other letter none.
+/// Behind each letter stand zeros, which no letter is: a call writes its line first, any other letter none. The hammer
+/// strikes with no velocity of 0.
 #[test]
 fn unknown_letters_end_with_bad() {
     for letter in 0..=255u8 {
         let lines = trace(&[letter, 0, 0, 0, 0, 0, 0, 0, 0, 0]);
         let (line, end) = lines.split_at(lines.len() - 4);
         assert_eq!(end, "bad\n");
-        let writes = b"alnocpbrst".contains(&letter);
+        let writes = b"alnocpbrstijdu".contains(&letter);
         assert_eq!(line.is_empty(), !writes, "letter {letter}");
     }
     assert_eq!(trace(b"?aaa"), "bad\n");
@@ -132,31 +170,32 @@ fn what_there_is_room_for() {
     }
 }
 
-/// Strikes: 44,100·2^(-10) = 43 frames for the default times, 119 cB for velocity 64, a semitone up.
+/// The hammer: 44,100·2^(-10) = 43 frames for the default times, 119 cB for velocity 64, a semitone up.
 #[test]
-fn lines_of_strikes() {
+fn lines_of_the_hammer() {
     let mut plan = one_zone(&[(17, -20), (54, 2), (57, -1)], sample(2, 9));
     let gens = quick(&[(37, 400), (38, 0), (54, 7), (48, 30)]);
     plan.instruments[0].push(zone_to(&gens, 53, 0));
     plan.strike_plan(1, &[], vec![zone_to(&[], 53, 0); 33]);
     let mut s = Script::default();
     s.title("strikes");
+    s.hammer(0, 0, 61, 64);
     s.bank(&plan.bytes());
     for program in 0..3 {
-        s.strike(program, 0, 61, 64);
+        s.hammer(program, 0, 61, 64);
     }
+    s.hammer(0, 0, 128, 64);
     s.admission();
-    let mut lines = Vec::new();
-    second::strike::play(s.bytes.as_slice(), &mut lines).expect("memory can be written");
     let expected = "t strikes
-k 2
+h none
+h 2
 v 43 43 43 43 43 0 -20 -1 119 100 44100 0 0 2 9 0 0
 v 0 0 0 0 44100 400 0 0 149 100 44100 3 0 2 9 0 7
-k 33
-k none
+h 33
+h none
 bad
 ";
-    assert_eq!(String::from_utf8_lossy(&lines), expected);
+    assert_eq!(trace(&s.bytes), expected);
 }
 
 #[test]
@@ -169,5 +208,11 @@ fn the_maker_writes_the_same_bytes_each_time() {
         let note_or_render = if number >= 5 { 'r' } else { 'n' };
         let given = format!("\n{note_or_render} {number} ");
         assert!(lines.contains(&given), "number {number} is never given");
+    }
+    for kind in 21..=27 {
+        assert!(lines.contains(&format!("\nd {kind} ")), "kind {kind} is never given");
+    }
+    for count in 0..=32 {
+        assert!(lines.contains(&format!("\nu 0 {count} ")), "{count} voices are never counted");
     }
 }

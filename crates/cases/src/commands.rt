@@ -31,7 +31,7 @@ fn bytes_behind(letter: u8) -> usize
         b's' | b't' => 1,
         b'o' | b'p' => 2,
         b'n' | b'c' | b'b' => 3,
-        b'B' | b'M' | b'O' | b'm' | b'x' | b'F' | b'l' | b'k' => 4,
+        b'B' | b'M' | b'O' | b'm' | b'x' | b'F' | b'l' | b'j' | b'h' => 4,
         b'r' => 8,
         _ => 0,
     }

@@ -3,6 +3,7 @@ ghost use mathlib.Core.Path.{_≡_};
 ghost use mathlib.Core.Bool.{true};
 ghost use Prim.Native.Nat.{_≤_};
 ghost use lib.ListN.{length, take};
+ghost use Rattle.cases.specs.Lending.{unlent};
 use crate::commands::Command;
 use crate::reading::Place;
 use crate::reading::next_bytes;
@@ -92,7 +93,7 @@ pub fn next_memory(room: &mut [u8; 65536], from: Place, into: &mut [i16], n: u32
 
 // Nothing is lent.
 pub fn nothing() -> Lent
-    ensures { λ r. ⌜ (r .bank ≡ 0) × (r .ram ≡ 0) × (r .rom ≡ 0) × (r .«ram_held» ≡ 0) × (r .«rom_held» ≡ 0) ⌝ }
+    ensures { λ r. ⌜ r ≡ unlent ⌝ }
 {
     Lent {
         bank: 0,

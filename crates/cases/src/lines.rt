@@ -1,4 +1,4 @@
-// The lines of a trace that more than one program writes, and a case's name.
+// The parts of a trace's lines, and a case's name.
 use crate::hash::bits_of;
 use crate::reading::Place;
 use crate::reading::next_bytes;
@@ -31,19 +31,21 @@ pub fn called(text: &mut [u8; 65536], at: usize, letter: u8, status: u8) -> usiz
 }
 
 // The listing's end.
-pub fn listed_end(text: &mut [u8; 65536], at: usize) -> usize {
-    word(text, at, b"l 0 end")
+pub fn listed_end(text: &mut [u8; 65536], at: usize, letter: u8) -> usize {
+    let to = put(text, at, letter);
+    word(text, to, b" 0 end")
 }
 
 // A row of the listing.
 pub fn listed_row(
     text: &mut [u8; 65536],
     at: usize,
+    letter: u8,
     program: u16,
     bank: u16,
     next: usize,
 ) -> usize {
-    let mut to = called(text, at, b'l', 0);
+    let mut to = called(text, at, letter, 0);
     to = spaced(text, to, program as u64);
     to = spaced(text, to, bank as u64);
     spaced(text, to, next as u64)

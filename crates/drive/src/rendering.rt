@@ -1,8 +1,6 @@
 // r: render, and its line with the hash of the output.
 ghost use Prim.Native.Nat.{_≤_};
-ghost use lib.ListN.{length};
-use crate::Run;
-use crate::spoilt;
+use crate::Played;
 use crate::trace;
 use cases::Command;
 use cases::Lent;
@@ -15,18 +13,20 @@ struct Heard {
     engine: Engine,
 }
 
-// Each number of the output holds the binary32 of bits 12345678 (hex) before a render.
-fn fill(out: &mut [f32]) {
-    let mut i = 0;
-    while i < out.len() {
-        out[i] = f32::from_bits(305419896);
-        i += 1;
-    }
+// Whether there is an output of so many numbers.
+pub fn has_room(length: u32) -> bool {
+    length <= 8448
+}
+
+// How many numbers are lent, at most all that there are.
+fn lent_numbers(length: u32) -> usize
+    ensures { λ r. ⌜ r ≤ 8448 ⌝ }
+{
+    if length < 8448 { length as usize } else { 8448 }
 }
 
 // A render into the output that is lent.
 fn sounded<'a>(ram: &'a [i16], rom: &'a [i16], out: &mut [f32], clock: u32, e: Engine) -> Heard {
-    fill(out);
     let a = engine::render(e, ram, rom, out, clock);
     let after = a.engine;
     Heard {
@@ -36,41 +36,34 @@ fn sounded<'a>(ram: &'a [i16], rom: &'a [i16], out: &mut [f32], clock: u32, e: E
     }
 }
 
-// The same with the lent part of each memory, and the first n numbers of the output.
-fn played<'a>(
-    ram: &'a [i16],
-    rom: &'a [i16],
-    out: &mut [f32],
-    n: usize,
-    lent: Lent,
-    clock: u32,
-    e: Engine,
-) -> Heard
-    requires { ⌜ n ≤ length (now out) ⌝ }
-{
-    sounded(
-        cases::first_samples(ram, lent.ram),
-        cases::first_samples(rom, lent.rom),
-        &mut out[..n],
-        clock,
-        e,
-    )
+// The same with an output of the length that is asked for, whose numbers hold the binary32 of bits 12345678 (hex) before.
+fn into_output<'a>(ram: &'a [i16], rom: &'a [i16], c: Command, e: Engine) -> Heard {
+    let before = f32::from_bits(305419896);
+    let mut out = [before; 8448];
+    let n = lent_numbers(c.second);
+    sounded(ram, rom, &mut out[..n], c.first, e)
 }
 
-// r: the call and its line.
+// The call and its line.
 pub fn render<'a>(
     ram: &'a [i16; 65536],
     rom: &'a [i16; 65536],
-    out: &mut [f32; 8448],
     text: &mut [u8; 65536],
+    at: usize,
+    lent: Lent,
     c: Command,
-    run: Run,
-) -> Run {
-    if 8448 < c.second {
-        return spoilt(run);
+    e: Engine,
+) -> Played {
+    let h = into_output(
+        cases::first_samples(ram, lent.ram),
+        cases::first_samples(rom, lent.rom),
+        c,
+        e,
+    );
+    let after = h.engine;
+    let to = cases::rendered(text, at, h.status, h.hash);
+    Played {
+        engine: after,
+        at: trace::state(text, to, after),
     }
-    let n = c.second as usize;
-    let h = played(ram, rom, out, n, run.lent, c.first, run.engine);
-    let at = cases::rendered(text, run.at, h.status, h.hash);
-    trace::stated(text, at, h.engine, run)
 }

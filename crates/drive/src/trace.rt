@@ -1,6 +1,5 @@
-// The end of a line of a trace: the state behind a call, or that a command was bad.
+// The state in a line of a trace.
 ghost use Prim.Native.Nat.{_<_};
-use crate::Run;
 use engine::Engine;
 use voice::Shown;
 
@@ -41,27 +40,8 @@ fn slots(text: &mut [u8; 65536], at: usize, e: Engine) -> usize {
 }
 
 // The state, to the line's end.
-fn state(text: &mut [u8; 65536], at: usize, e: Engine) -> usize {
+pub fn state(text: &mut [u8; 65536], at: usize, e: Engine) -> usize {
     let mut to = cases::state(text, at, e.clock, e.sounding);
     to = slots(text, to, e);
     cases::put(text, to, b'\n')
-}
-
-// The run behind a call, whose line is written up to the state.
-pub fn stated(text: &mut [u8; 65536], at: usize, e: Engine, run: Run) -> Run {
-    let mut next = run;
-    next.at = state(text, at, e);
-    next.engine = e;
-    next
-}
-
-// The run behind a command. Behind a bad one nothing is played.
-pub fn closed(text: &mut [u8; 65536], run: Run) -> Run {
-    let place = run.place;
-    let mut next = run;
-    if place.cut {
-        next.at = cases::bad(text, run.at);
-        next.over = true;
-    }
-    next
 }

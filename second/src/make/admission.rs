@@ -4,7 +4,7 @@ use super::bank_builder::*;
 use super::script::{noise, Script};
 
 /// A bank under a name.
-type Named = (String, Vec<u8>);
+pub type Named = (String, Vec<u8>);
 
 pub fn write(s: &mut Script) {
     let groups = [chunks(), records(), indexes(), numbers(), rates(), windows(), zones()];
@@ -19,7 +19,7 @@ pub fn write(s: &mut Script) {
 }
 
 /// Two presets, two instruments, two samples, with global zones and modulators on both sides.
-fn base() -> BankPlan {
+pub fn base() -> BankPlan {
     let with_mods = |plan: ZonePlan, mods| ZonePlan { mods, ..plan };
     let preset = |program| PresetPlan {
         program,
@@ -34,7 +34,8 @@ fn base() -> BankPlan {
     }
 }
 
-fn changed(name: &str, change: impl Fn(&mut RawBank)) -> Named {
+/// The base with a change of its chunks.
+pub fn changed(name: &str, change: impl Fn(&mut RawBank)) -> Named {
     let mut raw = base().raw();
     change(&mut raw);
     (name.to_string(), raw.bytes())
@@ -345,16 +346,17 @@ fn values_of_zones() -> Vec<Named> {
 
 /// 65,536 bytes and no more.
 fn long_banks() -> Vec<Named> {
-    let mut list = Vec::new();
-    for length in [65_536, 65_538] {
-        let mut plan = base();
-        let room = length - plan.bytes().len();
-        // Four bytes at a time with generators; a modulator of ten bytes where two bytes would be left.
-        let mods = (room % 4) / 2;
-        plan.presets[0].zones[0].mods += mods;
-        let gens = (room - 10 * mods) / 4;
-        plan.presets[0].zones[0].gens.extend(vec![(48, 7); gens]);
-        list.push((format!("{length} bytes"), plan.bytes()));
-    }
-    list
+    [65_536, 65_538].map(|length| (format!("{length} bytes"), bank_of(length))).to_vec()
+}
+
+/// The base, made to be of just so many bytes: four at a time with generators, and a modulator of ten bytes where two
+/// bytes would be left.
+pub fn bank_of(length: usize) -> Vec<u8> {
+    let mut plan = base();
+    let room = length - plan.bytes().len();
+    let mods = (room % 4) / 2;
+    plan.presets[0].zones[0].mods += mods;
+    let gens = (room - 10 * mods) / 4;
+    plan.presets[0].zones[0].gens.extend(vec![(48, 7); gens]);
+    plan.bytes()
 }

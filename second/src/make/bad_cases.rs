@@ -6,7 +6,7 @@ use crate::case::{BANK_ROOM, MEMORY_ROOM, OUTPUT_ROOM};
 use std::collections::BTreeSet;
 
 /// The commands with the number of bytes that follow the letter; those with a length are cut off further below.
-const FIXED: [(u8, usize); 13] = [
+const FIXED: [(u8, usize); 15] = [
     (b'm', 4),
     (b'x', 4),
     (b'F', 4),
@@ -20,6 +20,8 @@ const FIXED: [(u8, usize); 13] = [
     (b's', 1),
     (b't', 1),
     (b'B', 4),
+    (b'j', 4),
+    (b'h', 4),
 ];
 
 /// Each damaged case with its name.
@@ -35,6 +37,7 @@ pub fn all() -> Vec<(String, Vec<u8>)> {
     list.extend(unknown_letters());
     list.extend(cut_bodies());
     list.extend(too_large());
+    list.extend(not_playable());
     list.push(("nothing-behind".to_string(), after_start(b'?', b"s\0s\0a")));
     list
 }
@@ -91,4 +94,11 @@ fn too_large() -> Vec<(String, Vec<u8>)> {
         ("large-r".to_string(), after_start(b'r', &render(OUTPUT_ROOM + 1))),
         ("large-r-most".to_string(), after_start(b'r', &render(u32::MAX))),
     ]
+}
+
+/// Keys and velocities that no hammer strikes, each at its edge.
+fn not_playable() -> Vec<(String, Vec<u8>)> {
+    let strokes = [("key", 128, 100), ("velocity-none", 60, 0), ("velocity", 60, 128), ("both", 255, 255)];
+    let file = |(name, key, velocity)| (format!("hammer-{name}"), after_start(b'h', &[0, 0, key, velocity]));
+    strokes.map(file).to_vec()
 }

@@ -3,6 +3,7 @@
 use super::bank_builder::*;
 use super::chance::Chance;
 use super::script::{noise, Script};
+use std::ops::Range;
 
 const RUNS: u64 = 78;
 const DAMAGED: u64 = 105;
@@ -17,7 +18,14 @@ pub fn write(s: &mut Script) {
 /// The first so many of the runs.
 pub fn runs(s: &mut Script, count: u64) {
     for seed in 0..count {
-        run(s, seed);
+        run(s, seed, |_| {});
+    }
+}
+
+/// Runs in which each command is followed by a count of the voices that sound.
+pub fn counted_runs(s: &mut Script, seeds: Range<u64>) {
+    for seed in seeds {
+        run(s, seed, Script::in_use);
     }
 }
 
@@ -127,8 +135,8 @@ pub fn bank(c: &mut Chance, length: i64, most: i64) -> BankPlan {
 
 // Runs by chance
 
-/// A run of some forty commands over a bank by chance, its clock near the wrap in some.
-fn run(s: &mut Script, seed: u64) {
+/// A run of some forty commands over a bank by chance, its clock near the wrap in some; `behind` follows each of them.
+fn run(s: &mut Script, seed: u64, behind: fn(&mut Script)) {
     let c = &mut Chance::new(10_000 + seed);
     let length = c.from(70, 120);
     let plan = bank(c, length, 4);
@@ -140,8 +148,10 @@ fn run(s: &mut Script, seed: u64) {
     }
     for _ in 0..c.from(25, 45) {
         command(s, c, length as u32);
+        behind(s);
     }
     s.go(100);
+    behind(s);
 }
 
 fn command(s: &mut Script, c: &mut Chance, length: u32) {

@@ -41,12 +41,13 @@ fn chords() -> BankPlan {
     plan
 }
 
-fn begin(s: &mut Script, name: &str) {
+/// A case over the bank of chords.
+pub fn begin(s: &mut Script, name: &str) {
     s.begin_plan(name, &chords(), &noise(16, 80));
 }
 
 /// A strike of so many layers.
-fn chord(s: &mut Script, layers: u8, channel: u8, key: u8, velocity: u8) {
+pub fn chord(s: &mut Script, layers: u8, channel: u8, key: u8, velocity: u8) {
     s.need_program(channel, layers - 1);
     s.on(channel, key, velocity);
 }

@@ -25,15 +25,21 @@
 //! - the October night: key_cases::october_night, october_night_full
 //! - banks and runs from fixed seeds, damaged banks: chance_cases
 //! - damaged case files: bad_cases
-//! - the numbers of each layer's voice: strike_cases; values of the tables: number_lines
+//! - the reader's opening and its rows (i, j), and each fault's kind and place (d), over every bank that a case examines:
+//!   listing_cases; faults of two kinds, and several of one kind: fault_cases
+//! - how many voices sound (u): count_cases
+//! - the numbers of each layer's voice (h): strike_cases; values of the tables: number_lines
 
 mod admission;
 mod bad_cases;
 pub mod bank_builder;
 pub mod chance;
 pub mod chance_cases;
+mod count_cases;
+mod fault_cases;
 mod key_cases;
 mod layer_cases;
+mod listing_cases;
 mod number_lines;
 mod numbers_of_table;
 pub mod script;
@@ -41,25 +47,20 @@ mod strike_cases;
 mod value_cases;
 mod voice_cases;
 
-use crate::bank_admission::admit;
-use crate::{case, strike};
-use script::{Lending, Script};
-use std::collections::HashSet;
+use crate::case;
+use script::Script;
 use std::fs;
 use std::io;
 use std::path::Path;
 
-/// Writes drive/, list_banks/, strike/ and numbers/ into the directory.
+/// Writes drive/ and numbers/ into the directory.
 pub fn write_all(directory: &Path) -> io::Result<()> {
     let script = all_cases();
     write_case(&directory.join("drive"), "stdin", "stdout", &script.bytes)?;
-    let banks = list_banks(&script.banks);
-    write_case(&directory.join("list_banks"), "stdin", "stdout", &banks)?;
     for (name, bytes) in bad_cases::all() {
         let [case, trace] = ["case", "trace"].map(|end| format!("{name}.{end}"));
         write_case(&directory.join("drive/bad"), &case, &trace, &bytes)?;
     }
-    write_strikes(&directory.join("strike"), &strike_cases::strikes())?;
     let numbers = number_lines::lines();
     write_file(&directory.join("numbers/stdout"), numbers.as_bytes())
 }
@@ -72,14 +73,6 @@ fn write_case(directory: &Path, case: &str, trace: &str, bytes: &[u8]) -> io::Re
     write_file(&directory.join(trace), &played)
 }
 
-/// A strike file and its lines.
-fn write_strikes(directory: &Path, bytes: &[u8]) -> io::Result<()> {
-    let mut played = Vec::new();
-    strike::play(bytes, &mut played)?;
-    write_file(&directory.join("stdin"), bytes)?;
-    write_file(&directory.join("stdout"), &played)
-}
-
 fn write_file(path: &Path, bytes: &[u8]) -> io::Result<()> {
     if let Some(parent) = path.parent() {
         fs::create_dir_all(parent)?;
@@ -87,7 +80,7 @@ fn write_file(path: &Path, bytes: &[u8]) -> io::Result<()> {
     fs::write(path, bytes)
 }
 
-/// All cases, one behind the other.
+/// All cases, one behind the other: those of the form that others may use, then those with letters of our own.
 pub fn all_cases() -> Script {
     let mut script = Script::default();
     numbers_of_table::write(&mut script);
@@ -97,25 +90,9 @@ pub fn all_cases() -> Script {
     voice_cases::write(&mut script);
     key_cases::write(&mut script);
     chance_cases::write(&mut script);
+    listing_cases::write(&mut script);
+    strike_cases::write(&mut script);
+    fault_cases::write(&mut script);
+    count_cases::write(&mut script);
     script
-}
-
-/// Each bank that a case examines, once, with its admission and the whole listing, the end and one place past it.
-fn list_banks(banks: &[Lending]) -> Vec<u8> {
-    let mut seen = HashSet::new();
-    let mut script = Script::default();
-    for bank in banks {
-        if !bank.examined || !seen.insert(&bank.bytes) {
-            continue;
-        }
-        script.title(&bank.case);
-        script.bank(&bank.bytes);
-        script.admission();
-        let records = admit(&bank.bytes).map_or(0, |bank| bank.presets.len());
-        for place in 0..records as u32 + 2 {
-            script.list(place);
-        }
-        script.list(u32::MAX);
-    }
-    script.bytes
 }

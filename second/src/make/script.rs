@@ -3,6 +3,7 @@
 use super::bank_builder::BankPlan;
 
 /// A bank that a case lends, and whether the case asks for its admission or listing.
+#[derive(Clone)]
 pub struct Lending {
     pub case: String,
     pub bytes: Vec<u8>,
@@ -139,9 +140,29 @@ impl Script {
         self.put(b's', &[slot]);
     }
 
-    /// The command of a strike file, which is none of a case file.
-    pub fn strike(&mut self, program: u8, bank: u8, key: u8, velocity: u8) {
-        self.put(b'k', &[program, bank, key, velocity]);
+    /// The reader opens the bank.
+    pub fn opening(&mut self) {
+        self.put(b'i', &[]);
+    }
+
+    /// What the reader gives at a place.
+    pub fn row(&mut self, place: u32) {
+        self.put(b'j', &place.to_le_bytes());
+    }
+
+    /// The kind and the place of the bank's fault.
+    pub fn defect(&mut self) {
+        self.put(b'd', &[]);
+    }
+
+    /// How many voices sound.
+    pub fn in_use(&mut self) {
+        self.put(b'u', &[]);
+    }
+
+    /// The voices that a struck key would start.
+    pub fn hammer(&mut self, program: u8, bank: u8, key: u8, velocity: u8) {
+        self.put(b'h', &[program, bank, key, velocity]);
     }
 
     /// A render that is done: n frames on, into an output of just as many.

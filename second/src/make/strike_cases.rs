@@ -8,20 +8,18 @@ use std::collections::HashSet;
 /// How many of the runs by chance give their banks, to keep the file small.
 const RUNS: u64 = 40;
 
-pub fn strikes() -> Vec<u8> {
+pub fn write(s: &mut Script) {
     let mut source = Script::default();
     layer_cases::write(&mut source);
     value_cases::write(&mut source);
     voice_cases::write(&mut source);
     chance_cases::runs(&mut source, RUNS);
     let mut seen = HashSet::new();
-    let mut script = Script::default();
     for bank in &source.banks {
         if seen.insert(&bank.bytes) {
-            strikes_of(&mut script, bank);
+            strikes_of(s, bank);
         }
     }
-    script.bytes
 }
 
 /// Each preset at two strokes, those of a small bank at two more, and a preset that is not there.
@@ -37,8 +35,8 @@ fn strikes_of(script: &mut Script, lending: &Lending) {
     script.bank(&lending.bytes);
     for &(program, number) in &presets {
         for &(key, velocity) in &strokes[..count] {
-            script.strike(program, number, key, velocity);
+            script.hammer(program, number, key, velocity);
         }
     }
-    script.strike(126, 127, 60, 100);
+    script.hammer(126, 127, 60, 100);
 }

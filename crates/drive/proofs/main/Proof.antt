@@ -5,10 +5,10 @@ use Rattle.drive.proofs.main.Statement.{statement}
 use Rattle.drive.proofs.main.Tie as tie
 
 abbrev Inv-loop : tie.InvT-loop
-Inv-loop bank₀ ram₀ rom₀ out₀ room₀ text₀ run₀ turns₀ bank ram rom out room text run turns = Unit {0}
+Inv-loop bank₀ ram₀ rom₀ room₀ text₀ e₀ tape₀ turns₀ bank ram rom room text e tape turns = Unit {0}
 
 abbrev μ-loop : tie.MeasureT-loop
-μ-loop bank₀ ram₀ rom₀ out₀ room₀ text₀ run₀ turns₀ bank ram rom out room text run turns = turns
+μ-loop bank₀ ram₀ rom₀ room₀ text₀ e₀ tape₀ turns₀ bank ram rom room text e tape turns = turns
 
 large-buffer-requires : tie.Need-large-buffer-requires Inv-loop μ-loop
 large-buffer-requires c κs = search needs
@@ -16,14 +16,35 @@ large-buffer-requires c κs = search needs
 large-buffer-requires-2 : tie.Need-large-buffer-requires-2 Inv-loop μ-loop
 large-buffer-requires-2 c κs = search needs
 
+fresh-requires : tie.Need-fresh-requires Inv-loop μ-loop
+fresh-requires c κs = search needs
+
 begin-requires : tie.Need-begin-requires Inv-loop μ-loop
 begin-requires c κs = search needs
 
 loop-holds : tie.Need-loop-holds Inv-loop μ-loop
 loop-holds c = tt
 
-step-requires : tie.Need-step-requires Inv-loop μ-loop
-step-requires c κs = search needs
+next-command-requires : tie.Need-next-command-requires Inv-loop μ-loop
+next-command-requires c κs = search needs
+
+headed-requires : tie.Need-headed-requires Inv-loop μ-loop
+headed-requires c κs = search needs
+
+moves-requires : tie.Need-moves-requires Inv-loop μ-loop
+moves-requires c κs = search needs
+
+play-requires : tie.Need-play-requires Inv-loop μ-loop
+play-requires c κs = search needs
+
+written-requires : tie.Need-written-requires Inv-loop μ-loop
+written-requires c κs = search needs
+
+tell-requires : tie.Need-tell-requires Inv-loop μ-loop
+tell-requires c κs = search needs
+
+closed-requires : tie.Need-closed-requires Inv-loop μ-loop
+closed-requires c κs = search needs
 
 sub-turns : tie.Need-sub-turns Inv-loop μ-loop
 sub-turns c = omega arith
@@ -48,9 +69,16 @@ main-spec =
     μ-loop
     large-buffer-requires
     large-buffer-requires-2
+    fresh-requires
     begin-requires
     loop-holds
-    step-requires
+    next-command-requires
+    headed-requires
+    moves-requires
+    play-requires
+    written-requires
+    tell-requires
+    closed-requires
     sub-turns
     loop-less
     loop-again

@@ -1,6 +1,5 @@
-// The lines of a strike: how many layers, and each voice's numbers.
+// The lines of a struck key: how many layers, and each voice's numbers.
 use layers::Struck;
-use records::Found;
 use voice::Stage;
 use voice::Voice;
 
@@ -102,46 +101,12 @@ fn voice_lines(text: &mut [u8; 65536], at: usize, s: Struck) -> usize {
 }
 
 // How many layers there are, and, where they are at most 32, their voices.
-fn found(text: &mut [u8; 65536], at: usize, s: Struck) -> usize {
-    let mut to = cases::put(text, at, b'k');
+pub fn found(text: &mut [u8; 65536], at: usize, s: Struck) -> usize {
+    let mut to = cases::put(text, at, b'h');
     to = number(text, to, s.count);
     to = cases::put(text, to, b'\n');
     if 32 < s.count {
         return to;
     }
     voice_lines(text, to, s)
-}
-
-// No bank, or no such preset.
-pub fn none(text: &mut [u8; 65536], at: usize) -> usize {
-    cases::word(text, at, b"k none\n")
-}
-
-// A record's number, which is always below 2^32.
-fn short(h: usize) -> u32 {
-    if h < 4294967296 { h as u32 } else { 0 }
-}
-
-// k, and the voices of each layer. An admitted bank's chunks end within 65,536 bytes.
-pub fn strike(
-    b: &[u8],
-    text: &mut [u8; 65536],
-    at: usize,
-    program: u8,
-    bank: u8,
-    key: u8,
-    velocity: u8,
-) -> usize {
-    if 65536 < records::chunk_at(b, 9) {
-        return none(text, at);
-    }
-    let m = records::parts_of(b);
-    match layers::preset_for(b, m, bank as u16, program) {
-        Found::Nothing => none(text, at),
-        Found::At(h) => found(
-            text,
-            at,
-            layers::voices_for(b, m, short(h), 0, key, velocity),
-        ),
-    }
 }

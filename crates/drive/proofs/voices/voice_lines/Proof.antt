@@ -1,8 +1,8 @@
 -- At most 32 voices are read.
 use borrow.Author.Needs.{needs}
 use Prim.Native.Nat.{_-_, _≤_}
-use Rattle.strike.proofs.lines.voice_lines.Statement.{statement}
-use Rattle.strike.proofs.lines.voice_lines.Tie as tie
+use Rattle.drive.proofs.voices.voice_lines.Statement.{statement}
+use Rattle.drive.proofs.voices.voice_lines.Tie as tie
 
 abbrev Inv-loop : tie.InvT-loop
 Inv-loop text₀ at s to₀ i₀ text to i = i ≤ 32

@@ -4,8 +4,8 @@ use lib.Dec.{lit<}
 use mir.Facts.{toZ-ofZ}
 use mir.Syntax.{w16, w32}
 use Rattle.arith.proofs.WithinLaws.{w-of, w-fits}
-use Rattle.strike.proofs.lines.wide.Statement.{statement}
-use Rattle.strike.proofs.lines.wide.Tie as tie
+use Rattle.drive.proofs.voices.wide.Statement.{statement}
+use Rattle.drive.proofs.voices.wide.Tie as tie
 
 cast-result : tie.Need-cast-result
 cast-result c = rw (toZ-ofZ (c .fits .x)) (w-fits w32 (w-of w16 (c .fits .x)) (lit< tt))
