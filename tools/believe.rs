@@ -66,14 +66,8 @@ impl Known {
         files.flat_map(|(at, file)| (0..file.definitions.len()).map(move |place| (at, place))).collect()
     }
 
-    /// The places of the definitions to believe; of a table none.
     fn to_believe(&self) -> Vec<Place> {
-        let all = self.places(|file| file.table.is_none());
-        all.into_iter().filter(|place| self.believed.definitions.contains(place)).collect()
-    }
-
-    fn lines(&self, places: &[Place]) -> usize {
-        places.iter().map(|place| self.tree.definition(*place).lines).sum()
+        self.tree.to_believe(&self.believed)
     }
 
     fn label(&self, place: Place) -> String {
@@ -171,13 +165,23 @@ fn no_source(known: &Known) -> Vec<String> {
     complaints
 }
 
+/// A count with its word.
+fn plural(count: usize, word: &str) -> String {
+    format!("{count} {word}{}", if count == 1 { "" } else { "s" })
+}
+
 /// Prints the definitions of a file, where there are any, with what is said over each.
 fn print_file(known: &Known, file: usize, places: &[Place]) {
     let here: Vec<Place> = places.iter().copied().filter(|place| place.0 == file).collect();
     if here.is_empty() {
         return;
     }
-    println!("\n{}: {} definitions, {} lines", known.tree.specs[file].path, here.len(), known.lines(&here));
+    println!(
+        "\n{}: {}, {} lines",
+        known.tree.specs[file].path,
+        plural(here.len(), "definition"),
+        known.tree.lines(&here)
+    );
     let width = here.iter().map(|place| known.tree.definition(*place).name.chars().count()).max().unwrap_or(0);
     for place in here {
         let definition = known.tree.definition(place);
@@ -219,9 +223,8 @@ fn print_totals(known: &Known) {
     let places = known.to_believe();
     let files: BTreeSet<usize> = places.iter().map(|place| place.0).collect();
     let functions = known.tree.host_functions(&mut Vec::new()).len();
-    let statements = known.tree.statements().len();
-    println!("\nfrom the contracts of {functions} functions that a host may call, and {statements} types that promises proves or uses:");
-    println!("in all {} definitions, {} lines, in {} files", places.len(), known.lines(&places), files.len());
+    println!("\nfrom the contracts of {functions} functions that a host may call, and the statements of promises:");
+    println!("in all {} definitions, {} lines, in {} files", places.len(), known.tree.lines(&places), files.len());
 }
 
 /// Prints each complaint as a line, and gives how many there are.
@@ -233,7 +236,7 @@ fn print_complaints(known: &Known) -> usize {
             count += 1;
         }
     }
-    println!("believe: {count} complaints");
+    println!("believe: {}", plural(count, "complaint"));
     count
 }
 

@@ -318,6 +318,17 @@ impl Tree {
         self.closure(from)
     }
 
+    /// The definitions among them that a reader goes through, in order; those of tables are left out.
+    pub fn to_believe(&self, believed: &Reached) -> Vec<Place> {
+        let by_eye = |place: &&Place| self.specs[place.0].table.is_none();
+        believed.definitions.iter().filter(by_eye).copied().collect()
+    }
+
+    /// The lines of some definitions: signatures and clauses, with no comment and no blank line.
+    pub fn lines(&self, places: &[Place]) -> usize {
+        places.iter().map(|place| self.definition(*place).lines).sum()
+    }
+
     /// What the contracts of all functions rest on.
     pub fn cited_by_contracts(&self, lost: &mut Vec<String>) -> Reached {
         let mut from = Vec::new();
