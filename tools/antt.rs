@@ -13,6 +13,7 @@ pub enum Target {
     Variant(String, String),
 }
 
+/// How a definition is written.
 #[derive(Clone, Copy, PartialEq, Eq)]
 pub enum Kind {
     Clauses,
@@ -74,6 +75,7 @@ pub fn tokens(text: &str) -> Vec<String> {
     found
 }
 
+/// A word between signs: a name, nothing, or a bound name and its dot.
 fn push_name(name: &str, found: &mut Vec<String>) {
     match name.strip_suffix('.') {
         Some(bound) if !bound.is_empty() => found.extend([bound.to_string(), ".".to_string()]),
@@ -130,6 +132,7 @@ pub fn definitions(text: &str) -> Vec<Definition> {
 }
 
 impl Reader {
+    /// Takes a line: blank, a comment, of the head, or of a definition.
     fn line(&mut self, line: &str) {
         let text = line.trim_start();
         let indent = line.len() - text.len();
@@ -227,11 +230,13 @@ struct Walk<'a> {
 }
 
 impl<'a> Walk<'a> {
+    /// At the front of a text, with the parameters bound.
     fn new(lookup: Lookup<'a>, parameters: &[String]) -> Walk<'a> {
         let bound = parameters.iter().map(|name| (name.clone(), 0)).collect();
         Walk { lookup, bound, open: Vec::new(), lets: Vec::new(), cited: Vec::new() }
     }
 
+    /// Binds a name up to the end of the bracket that is open.
     fn bind(&mut self, name: &str) {
         self.bound.push((name.to_string(), self.open.len()));
     }
@@ -266,6 +271,7 @@ impl<'a> Walk<'a> {
         self.text(&words[equals.map_or(0, |at| at + 1)..]);
     }
 
+    /// Goes through a text. Each part takes the word that it begins with, and as many more as it gives back.
     fn text(&mut self, words: &[String]) {
         let mut at = 0;
         while at < words.len() {
@@ -283,7 +289,7 @@ impl<'a> Walk<'a> {
         }
     }
 
-    /// A name in a text; one before `=` in braces is a field's. Gives how many more words it took, as the others do.
+    /// A name in a text; one before `=` in braces is a field's.
     fn plain(&mut self, name: &str, rest: &[String]) -> usize {
         let field =
             rest.first().is_some_and(|next| next == "=") && self.open.last().is_some_and(|(sign, _)| sign == "{");
@@ -301,6 +307,7 @@ impl<'a> Walk<'a> {
         names
     }
 
+    /// A closed bracket: what was bound inside is forgotten, and the names of its front are bound.
     fn closed(&mut self) -> usize {
         let (_, names) = self.open.pop().unwrap_or_default();
         let depth = self.open.len();
@@ -319,17 +326,20 @@ impl<'a> Walk<'a> {
         end + 1
     }
 
+    /// The names of a function without a name, up to its dot or its first bracket.
     fn lambda(&mut self, rest: &[String]) -> usize {
         let names = rest.iter().position(|word| [".", "(", "{"].contains(&word.as_str())).unwrap_or(0);
         rest[..names].iter().for_each(|name| self.bind(name));
         names
     }
 
+    /// The name of a `let`, which is known behind its `in`.
     fn let_begins(&mut self, rest: &[String]) -> usize {
         self.lets.extend(rest.first().cloned());
         1
     }
 
+    /// The `in` of the last `let`.
     fn let_ends(&mut self) -> usize {
         if let Some(name) = self.lets.pop() {
             self.bind(&name);

@@ -51,6 +51,7 @@ struct Known {
 }
 
 impl Known {
+    /// Reads the repository that it is run in.
     fn load() -> Known {
         let tree = Tree::load();
         let mut lost = Vec::new();
@@ -66,10 +67,12 @@ impl Known {
         files.flat_map(|(at, file)| (0..file.definitions.len()).map(move |place| (at, place))).collect()
     }
 
+    /// The definitions to believe, in order.
     fn to_believe(&self) -> Vec<Place> {
         self.tree.to_believe(&self.believed)
     }
 
+    /// A definition by its file and its name.
     fn label(&self, place: Place) -> String {
         format!("{}: {}", self.tree.specs[place.0].path, self.tree.definition(place).name)
     }
@@ -80,6 +83,7 @@ fn leads_nowhere(known: &Known) -> Vec<String> {
     known.lost.iter().cloned().collect()
 }
 
+/// Definitions that a reader has to believe and would not look for in Internal.
 fn believed_in_internal(known: &Known) -> Vec<String> {
     let internal = known.places(Specs::internal);
     let believed = internal.into_iter().filter(|place| known.believed.definitions.contains(place));
@@ -104,6 +108,7 @@ fn not_believed(known: &Known) -> Vec<String> {
     others.map(|place| format!("{} ({})", known.label(place), who(place))).collect()
 }
 
+/// Definitions in Internal that serve no contract: they are for laws, or for nothing.
 fn internal_in_no_contract(known: &Known) -> Vec<String> {
     let internal = known.places(Specs::internal);
     let others = internal.into_iter().filter(|place| !known.in_contracts.definitions.contains(place));
@@ -127,6 +132,7 @@ fn same_name(known: &Known) -> Vec<String> {
     clashes.map(|(name, all)| format!("{name}: {}", label(&all))).collect()
 }
 
+/// Definitions to believe over which nothing is said.
 fn no_comment(known: &Known) -> Vec<String> {
     let silent = known.to_believe().into_iter().filter(|place| known.tree.definition(*place).comment.is_empty());
     silent.map(|place| known.label(place)).collect()
@@ -219,6 +225,7 @@ fn print_all(known: &Known) {
     }
 }
 
+/// Prints where the list begins, and its totals.
 fn print_totals(known: &Known) {
     let places = known.to_believe();
     let files: BTreeSet<usize> = places.iter().map(|place| place.0).collect();
@@ -240,6 +247,7 @@ fn print_complaints(known: &Known) -> usize {
     count
 }
 
+/// The status is 1 where there is a complaint, and 2 for usage or a file that cannot be read.
 fn main() -> ExitCode {
     let arguments: Vec<String> = std::env::args().skip(1).collect();
     let option = arguments.first().map_or("", String::as_str);

@@ -36,14 +36,17 @@ type Place = (Range<usize>, String);
 struct Counts(Vec<(String, usize)>);
 
 impl Counts {
+    /// One count more.
     fn add(&mut self, key: &str, value: usize) {
         self.0.push((key.to_string(), value));
     }
 
+    /// A count as README.md writes it, if there is one of that key.
     fn text(&self, key: &str) -> Option<String> {
         self.0.iter().find(|(name, _)| name == key).map(|(_, value)| with_commas(*value))
     }
 
+    /// Whether there are all counts of a sentence.
     fn has_all(&self, sentence: &str) -> bool {
         sentence.split('{').skip(1).filter_map(|rest| rest.split('}').next()).all(|key| self.text(key).is_some())
     }
@@ -125,6 +128,7 @@ fn count_runs(counts: &mut Counts) {
     counts.add("tests", lines_that("second/src", "rs", is_test) + lines_that("second/tests", "rs", is_test));
 }
 
+/// All counts.
 fn counts_of(tree: &Tree) -> Counts {
     let mut counts = Counts(Vec::new());
     count_sources(tree, &mut counts);
@@ -235,6 +239,7 @@ fn hold(file: &str, write: bool) -> usize {
     complaints.len()
 }
 
+/// The status is 1 where there is a complaint, and 2 for usage or a file that cannot be read.
 fn main() -> ExitCode {
     let arguments: Vec<String> = std::env::args().skip(1).collect();
     let words: Vec<&str> = arguments.iter().map(String::as_str).collect();

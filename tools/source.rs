@@ -78,6 +78,7 @@ fn behind(words: &[String], at: usize) -> usize {
     words[at..].iter().position(closes).map_or(words.len(), |end| at + end + 1)
 }
 
+/// All functions of a file, in order.
 fn functions(words: &[String]) -> Vec<Function> {
     let heads = (0..words.len()).filter(|&at| words[at] == "fn" && at + 2 < words.len());
     heads.map(|at| function(words, at)).collect()

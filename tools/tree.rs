@@ -17,11 +17,13 @@ pub struct Specs {
 }
 
 impl Specs {
+    /// Whether it stands in specs/Internal.
     pub fn internal(&self) -> bool {
         self.module.starts_with("Internal.")
     }
 }
 
+/// All crates, read and linked.
 pub struct Tree {
     pub crates: Vec<String>,
     pub specs: Vec<Specs>,
@@ -67,6 +69,7 @@ pub fn crates() -> Vec<String> {
     ordered
 }
 
+/// Reads a file of definitions.
 fn read_specs(krate: &str, path: &Path) -> Specs {
     let text = read(path);
     let root = format!("crates/{krate}/specs");
@@ -79,6 +82,7 @@ fn read_specs(krate: &str, path: &Path) -> Specs {
 }
 
 impl Tree {
+    /// Reads the repository that it is run in.
     pub fn load() -> Tree {
         let crates = crates();
         let (mut specs, mut sources) = (Vec::new(), Vec::new());
@@ -117,7 +121,7 @@ impl Tree {
         self.lost = lost;
     }
 
-    /// Finds the definitions that laws and proofs name anywhere.
+    /// Finds the definitions that laws and proofs name; a `use` line alone is no citation.
     fn read_proofs(&mut self) {
         let (mut all, mut promises) = (BTreeSet::new(), BTreeSet::new());
         for krate in &self.crates {
@@ -125,8 +129,10 @@ impl Tree {
                 let text = read(path);
                 let uses: Vec<Use> = text.lines().filter_map(antt::use_line).collect();
                 let scope = self.scope(&uses, "", &mut Vec::new());
-                let found: Vec<Target> =
-                    antt::tokens(&text).iter().filter_map(|name| self.resolve(&scope, name)).collect();
+                let lines =
+                    text.lines().filter(|line| antt::use_line(line).is_none() && !line.trim().starts_with("--"));
+                let words = lines.flat_map(antt::tokens);
+                let found: Vec<Target> = words.filter_map(|name| self.resolve(&scope, &name)).collect();
                 promises.extend(found.iter().filter(|_| krate == "promises").cloned());
                 all.extend(found);
             }
@@ -134,6 +140,7 @@ impl Tree {
         (self.in_proofs, self.in_promises) = (all, promises);
     }
 
+    /// The definition at a place.
     pub fn definition(&self, place: Place) -> &Definition {
         &self.specs[place.0].definitions[place.1]
     }
@@ -213,6 +220,7 @@ impl Scope {
         self.names.insert(name.to_string(), target);
     }
 
+    /// Brings in a definition of the file itself, with its constructors.
     fn own(&mut self, definition: &Definition, place: Place) {
         self.bring(&definition.name, Target::Definition(place));
         for constructor in definition.constructors.iter().filter(|_| definition.kind == Kind::Data) {
