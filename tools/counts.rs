@@ -2,8 +2,8 @@
 //
 //     rustc --edition 2021 -O -o target/counts tools/counts.rs && target/counts
 //
-// prints each as a line `KEY VALUE`. `--check README.md` complains, with status 1, where a sentence or a row of the table
-// of crates has another number or is not there; `--write README.md` puts the right numbers in.
+// prints each as a line `KEY VALUE`. `--check README.md` complains, with status 1, where a sentence or a row of the
+// table of crates has another number or is not there; `--write README.md` puts the right numbers in.
 // what believe alone asks of these is not used here
 #[allow(dead_code)]
 mod antt;

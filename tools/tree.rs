@@ -290,7 +290,7 @@ impl Tree {
         self.follow(krate, &passed?.1)
     }
 
-    /// All functions that a host may call: those that engine's root passes on, bank's admission, and reader's public ones.
+    /// All functions that a host may call: what engine's root passes on, bank's admission, and reader's public ones.
     pub fn host_functions(&self, lost: &mut Vec<String>) -> Vec<(&Source, &Function)> {
         let mut found = Vec::new();
         let root = self.sources.iter().find(|source| source.krate == "engine" && source.module == "lib");
