@@ -17,7 +17,7 @@ use Rattle.state.specs.Answers.{refused, answer, done, pastOne, pastTwo, pastBe
 use Rattle.events.specs.Keys.{offKey, noteOff}
 use Rattle.engine.specs.Rendering.{output, distance, played, renderNumber, render, rendered, lacking}
 use Rattle.promises.specs.Calls.{Call, does, lent, written}
-use Rattle.promises.specs.Demand1.{Untouched, RefusalsChangeNothing, Played, LayerPast, SlotPast, RenderNumbers, HasPreset, NoteOnNumbers, OthersNumbers, NoOther, Given, AdmissionNumbers, ListingNumbers}
+use Rattle.promises.specs.Demand1.{Untouched, RefusalsChangeNothing, Played, LayerPast, SlotPast, RenderNumbers, HasPreset, NoteOnNumbers, OthersNumbers, NoOther, Given, AdmissionNumbers, ListingNumbers, ListingInOrder}
 use Rattle.state.specs.Slots.{withClock, slotsOf, slotAt}
 use Rattle.state.specs.Channels.{channelAt, withChannel}
 use Rattle.events.specs.Controls.{controlled, controlChange}
@@ -44,7 +44,8 @@ use Rattle.bank.specs.declared.Fault.the-variants.{Fine, Long, Chunk, Records, 
 use Rattle.bank.proofs.RulesLaws.{rules-fine}
 use Rattle.records.specs.Sides.{partsOf}
 use Rattle.records.specs.Headers.{programOf, bankOf as bankNumber}
-use Rattle.bank.specs.Listing.{listed, listedNumber}
+use Rattle.bank.specs.Listing.{listed, listedNumber, listedValues}
+use Rattle.reader.proofs.ReaderLaws.{given-listed, listed-row, listed-end}
 use Rattle.promises.specs.Calls as Calls
 use Rattle.voice.specs.declared.Shown.the-variants as is
 
@@ -537,3 +538,9 @@ unfolding admitted
 listing-numbers b place =
     let e : listedNumber (listed b place) ≡ faultNumber (faultOf b) = list-number b place ∙ same-number (faultOf b) in
     rw e (admission-numbers b)
+
+-- a next gives what stands at its place of the listing
+pub listing-in-order : ListingInOrder
+listing-in-order b k a =
+    let well = rules-admitted b a in
+    (λ h. ap listedValues (given-listed b k ∙ listed-row b k well h), λ h. given-listed b k ∙ listed-end b k well h)
