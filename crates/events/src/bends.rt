@@ -3,9 +3,11 @@ ghost use mathlib.Core.Path.{_≡_};
 ghost use Rattle.events.specs.Bends.{pitchBend};
 use state::Answered;
 use state::Engine;
+use state::channel_of;
 use state::made;
 use state::past_bend;
 use state::refuse;
+use state::with_channel;
 
 // Pitch bend.
 pub fn pitch_bend(e: Engine, channel: u8, bend: u16) -> Answered

@@ -3,9 +3,11 @@ ghost use mathlib.Core.Path.{_≡_};
 ghost use Rattle.events.specs.Programs.{programChange};
 use state::Answered;
 use state::Engine;
+use state::channel_of;
 use state::made;
 use state::past_one;
 use state::refuse;
+use state::with_channel;
 
 // Program change: takes the stored bank.
 pub fn program_change(e: Engine, channel: u8, program: u8) -> Answered

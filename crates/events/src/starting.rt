@@ -10,6 +10,7 @@ ghost use Rattle.events.specs.Internal.Starting.{startedOf, begin};
 use crate::Begun;
 use arith::insert;
 use state::Engine;
+use state::ends_past;
 use state::flag;
 use state::freed_if;
 use state::of_channel;
