@@ -20,18 +20,15 @@ fn to_unit(k: i32) -> f32
 fn clamp(k: i32) -> i32
     ensures { λ r. ⌜ (r ≡ heldTo (negsuc 8388607) (pos 8388608) k) × Within r 8388608 ⌝ }
 {
-    if k < -8388608 {
-        return -8388608;
-    }
-    if 8388608 < k {
-        return 8388608;
-    }
-    k
+    hold(-8388608, 8388608, k as i64) as i32
 }
 
 // The stereo frame of two sums of voices.
 pub fn mix(l: i32, r: i32) -> Frame
-    ensures { λ f. ⌜ (f .left ≡ unitOf (heldTo (negsuc 8388607) (pos 8388608) l)) × (f .right ≡ unitOf (heldTo (negsuc 8388607) (pos 8388608) r)) × Over (f .left) (heldTo (negsuc 8388607) (pos 8388608) l) 8388608 × Over (f .right) (heldTo (negsuc 8388607) (pos 8388608) r) 8388608 ⌝ }
+    ensures left { λ f. ⌜ f .left ≡ unitOf (heldTo (negsuc 8388607) (pos 8388608) l) ⌝ }
+    ensures right { λ f. ⌜ f .right ≡ unitOf (heldTo (negsuc 8388607) (pos 8388608) r) ⌝ }
+    ensures left_exact { λ f. ⌜ Over (f .left) (heldTo (negsuc 8388607) (pos 8388608) l) 8388608 ⌝ }
+    ensures right_exact { λ f. ⌜ Over (f .right) (heldTo (negsuc 8388607) (pos 8388608) r) 8388608 ⌝ }
 {
     Frame {
         left: to_unit(clamp(l)),

@@ -91,7 +91,9 @@ pub struct Went {
 
 // How many frames may go in a stretch: none where the next one is not calm or not clear.
 fn ahead(v: Voice, s: Stage, limit: u64, most: usize) -> usize
-    ensures { λ r. ⌜ (r ≤ most) × (r < 4294967296) × Calms v s r × (0 < r → (dead v s ≡ false) × (v .place < limit) × RoomBy r s) ⌝ }
+    ensures count { λ r. ⌜ (r ≤ most) × (r < 4294967296) ⌝ }
+    ensures calm { λ r. ⌜ Calms v s r ⌝ }
+    ensures alive { λ r. ⌜ (0 < r → (dead v s ≡ false) × (v .place < limit) × RoomBy r s) ⌝ }
 {
     if is_dead(v, s) {
         return 0;
@@ -104,8 +106,13 @@ fn ahead(v: Voice, s: Stage, limit: u64, most: usize) -> usize
 
 // One frame of a slot, into frame k of the sums.
 fn one(st: u32, l: i64, g: &[u32; 1441], w: &[i16], s: Slot, acc: &mut [i32], k: usize) -> Went
-    requires { ⌜ (now g ≡ gains) × Within l 1099511627776 × (2 * k + 1 < length (now acc)) × From (2 * k) (now acc) ⌝ }
-    ensures { λ r. ⌜ (r .frames ≡ 1) × (r .slot ≡ afterAt st l (now (w .entry)) 1 s) × (now (acc .exit) ≡ addAt (2 * k) (heardAt st l (now (w .entry)) 1 s) (now (acc .entry))) × Small 1 (heardAt st l (now (w .entry)) 1 s) ⌝ }
+    requires tables { ⌜ now g ≡ gains ⌝ }
+    requires loss { ⌜ Within l 1099511627776 ⌝ }
+    requires sums { ⌜ (2 * k + 1 < length (now acc)) × From (2 * k) (now acc) ⌝ }
+    ensures count { λ r. ⌜ r .frames ≡ 1 ⌝ }
+    ensures slot { λ r. ⌜ r .slot ≡ afterAt st l (now (w .entry)) 1 s ⌝ }
+    ensures sums { λ r. ⌜ now (acc .exit) ≡ addAt (2 * k) (heardAt st l (now (w .entry)) 1 s) (now (acc .entry)) ⌝ }
+    ensures small { λ r. ⌜ Small 1 (heardAt st l (now (w .entry)) 1 s) ⌝ }
 {
     let f = frame_at(st, l, g, w, s);
     let t = f.slot;
@@ -124,8 +131,14 @@ fn go(
     k: usize,
     most: usize,
 ) -> Went
-    requires { ⌜ (now g ≡ gains) × Within l 1099511627776 × (s .sounding ≡ true) × (0 < most) × (2 * (k + most) ≤ length (now acc)) × From (2 * k) (now acc) ⌝ }
-    ensures { λ r. ⌜ (0 < r .frames) × (r .frames ≤ most) × (r .slot ≡ afterAt st l (now (w .entry)) (r .frames) s) × (now (acc .exit) ≡ addAt (2 * k) (heardAt st l (now (w .entry)) (r .frames) s) (now (acc .entry))) × Small 1 (heardAt st l (now (w .entry)) (r .frames) s) ⌝ }
+    requires tables { ⌜ now g ≡ gains ⌝ }
+    requires loss { ⌜ Within l 1099511627776 ⌝ }
+    requires sounding { ⌜ s .sounding ≡ true ⌝ }
+    requires sums { ⌜ (0 < most) × (2 * (k + most) ≤ length (now acc)) × From (2 * k) (now acc) ⌝ }
+    ensures count { λ r. ⌜ (0 < r .frames) × (r .frames ≤ most) ⌝ }
+    ensures slot { λ r. ⌜ r .slot ≡ afterAt st l (now (w .entry)) (r .frames) s ⌝ }
+    ensures sums { λ r. ⌜ now (acc .exit) ≡ addAt (2 * k) (heardAt st l (now (w .entry)) (r .frames) s) (now (acc .entry)) ⌝ }
+    ensures small { λ r. ⌜ Small 1 (heardAt st l (now (w .entry)) (r .frames) s) ⌝ }
 {
     let v = s.voice;
     let old = v.stage;
@@ -157,7 +170,9 @@ pub fn run_at(
     acc: &mut [i32],
     n: usize,
 ) -> Slot
-    requires { ⌜ (now g ≡ gains) × Within l 1099511627776 × (2 * n ≤ length (now acc)) × Small 31 (now acc) ⌝ }
+    requires tables { ⌜ now g ≡ gains ⌝ }
+    requires loss { ⌜ Within l 1099511627776 ⌝ }
+    requires sums { ⌜ (2 * n ≤ length (now acc)) × Small 31 (now acc) ⌝ }
     ensures { λ r. ⌜ (r ≡ afterAt st l (now (w .entry)) n s0) × (now (acc .exit) ≡ addTo (heardAt st l (now (w .entry)) n s0) (now (acc .entry))) × Small 1 (heardAt st l (now (w .entry)) n s0) ⌝ }
 {
     let mut s = s0;
@@ -184,7 +199,8 @@ pub fn run(
     acc: &mut [i32],
     n: usize,
 ) -> Slot
-    requires { ⌜ (now g ≡ gains) × (now o ≡ octaves) × (2 * n ≤ length (now acc)) × Small 31 (now acc) ⌝ }
+    requires tables { ⌜ (now g ≡ gains) × (now o ≡ octaves) ⌝ }
+    requires sums { ⌜ (2 * n ≤ length (now acc)) × Small 31 (now acc) ⌝ }
     ensures { λ r. ⌜ (r ≡ after c (now (w .entry)) n s) × (now (acc .exit) ≡ addTo (heard c (now (w .entry)) n s) (now (acc .entry))) × Small 1 (heard c (now (w .entry)) n s) ⌝ }
 {
     let v = s.voice;

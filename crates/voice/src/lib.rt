@@ -12,22 +12,10 @@ mod stretch;
 
 pub use changes::no_voice;
 pub use changes::with_moved;
-pub use frames::frame_at;
 pub use frames::run;
-pub use frames::run_at;
-pub use motion::step_of;
 pub use panel::show;
-pub use reading::read;
 pub use release::let_off;
-pub use sound::loss_of;
-pub use stages::decay_at;
-pub use stages::enter;
-pub use stages::envelope_of;
-pub use stages::is_dead;
 pub use stages::is_released;
-pub use stages::is_waiting;
-pub use stages::level_at;
-pub use stages::release_at;
 
 // A stage, with the frames already spent in it (in delay: those left).
 pub enum Stage {

@@ -26,7 +26,8 @@ pub struct Reached {
 // Below this place a frame reads two samples before the end, and a step leads to neither fold nor end.
 fn bound(end: u64, len: u64, st: u64) -> u64
     requires { ⌜ end < 4294967296 ⌝ }
-    ensures { λ r. ⌜ ((p : ℕ) → p < r → (p / 16777216 + 1 < end) × (p / 16777216 + 1 < len) × (p + st < end * 16777216)) × (r ≤ 72057594037927936) ⌝ }
+    ensures clear { λ r. ⌜ ((p : ℕ) → p < r → (p / 16777216 + 1 < end) × (p / 16777216 + 1 < len) × (p + st < end * 16777216)) ⌝ }
+    ensures size { λ r. ⌜ r ≤ 72057594037927936 ⌝ }
 {
     let last = least(end, len);
     if last == 0 {
@@ -51,7 +52,8 @@ fn end_of(v: Voice, s: Stage) -> u64
 
 // The place from which on a stretch may not go.
 pub fn limit_of(v: Voice, s: Stage, st: u32, w: &[i16]) -> u64
-    ensures { λ r. ⌜ ((p : ℕ) → p < r → Clear (now (w .entry)) v s st p) × (r ≤ 72057594037927936) ⌝ }
+    ensures clear { λ r. ⌜ ((p : ℕ) → p < r → Clear (now (w .entry)) v s st p) ⌝ }
+    ensures size { λ r. ⌜ r ≤ 72057594037927936 ⌝ }
 {
     let end = end_of(v, s);
     bound(end, w.len() as u64, st as u64)
@@ -71,7 +73,8 @@ fn read_on(w: &[i16], p: u64) -> i64
 
 // A frame's two numbers, added into frame k of the sums.
 pub fn add_pair(acc: &mut [i32], k: usize, left: i32, right: i32)
-    requires { ⌜ (2 * k + 1 < length (now acc)) × From (2 * k) (now acc) × Within left loudest × Within right loudest ⌝ }
+    requires sums { ⌜ (2 * k + 1 < length (now acc)) × From (2 * k) (now acc) ⌝ }
+    requires pair { ⌜ Within left loudest × Within right loudest ⌝ }
     ensures { λ _. ⌜ now (acc .exit) ≡ addAt (2 * k) (left ∷ right ∷ []) (now (acc .entry)) ⌝ }
 {
     let a = acc[2 * k] + left;
@@ -92,8 +95,13 @@ pub fn glide(
     k: usize,
     most: usize,
 ) -> Reached
-    requires { ⌜ (gain ≤ 16777216) × (limit ≤ 72057594037927936) × ((p : ℕ) → p < limit → p / 16777216 + 1 < length (now w)) × (2 * (k + most) ≤ length (now acc)) × From (2 * k) (now acc) ⌝ }
-    ensures { λ r. ⌜ (r .frames ≤ most) × (r .place ≡ from + r .frames * st) × ((j : ℕ) → j < r .frames → from + j * st < limit) × (0 < most → from < limit → 0 < r .frames) × (now (acc .exit) ≡ addAt (2 * k) (plains gain pan (now (w .entry)) st from (r .frames)) (now (acc .entry))) × Small 1 (plains gain pan (now (w .entry)) st from (r .frames)) ⌝ }
+    requires level { ⌜ gain ≤ 16777216 ⌝ }
+    requires window { ⌜ (limit ≤ 72057594037927936) × ((p : ℕ) → p < limit → p / 16777216 + 1 < length (now w)) ⌝ }
+    requires sums { ⌜ (2 * (k + most) ≤ length (now acc)) × From (2 * k) (now acc) ⌝ }
+    ensures count { λ r. ⌜ (r .frames ≤ most) × (0 < most → from < limit → 0 < r .frames) ⌝ }
+    ensures place { λ r. ⌜ (r .place ≡ from + r .frames * st) × ((j : ℕ) → j < r .frames → from + j * st < limit) ⌝ }
+    ensures sums { λ r. ⌜ now (acc .exit) ≡ addAt (2 * k) (plains gain pan (now (w .entry)) st from (r .frames)) (now (acc .entry)) ⌝ }
+    ensures small { λ r. ⌜ Small 1 (plains gain pan (now (w .entry)) st from (r .frames)) ⌝ }
 {
     let mut p = from;
     let mut m: usize = 0;

@@ -27,7 +27,7 @@ struck-requires c κs = search needs
 run-requires : tie.Need-run-requires Inv-loop μ-loop
 run-requires c κs =
     let l = c .before .before .before in
-    (l .loop .inv .0, l .loop .inv .1, omega arith, λ j. w-le (l .loop .inv .4 j) (omega arith))
+    ((l .loop .inv .0, l .loop .inv .1), (omega arith, λ j. w-le (l .loop .inv .4 j) (omega arith)))
 
 wrapping-add-u64-requires : tie.Need-wrapping-add-u64-requires Inv-loop μ-loop
 wrapping-add-u64-requires c κs = search needs

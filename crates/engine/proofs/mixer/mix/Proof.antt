@@ -22,7 +22,7 @@ returns c =
     let s = l .before .before in
     let left = rw (toZ-ofZ (sfits-of (l .before .clamp .ok)), l .before .clamp .ensures .0, toZ-ofZ (s .fits .l)) at (l .to-unit .ensures) in
     let right = rw (toZ-ofZ (sfits-of (c .before .clamp2 .ok)), c .before .clamp2 .ensures .0, toZ-ofZ (s .fits .r)) at (c .to-unit2 .ensures) in
-    (left .0, right .0, left .1, right .1)
+    (left .0, (right .0, (left .1, right .1)))
 
 pub mix-spec : {M : Type 1} → statement M
 mix-spec =

@@ -95,7 +95,7 @@ loop-again c =
     let one : toZ w32 (ofZ w32 x) ≡ x = toZ-ofZ {w = w32} {z = x} (record { sfits = c .before .before .l .given }) in
     let two : toZ w32 (ofZ w32 y) ≡ y = toZ-ofZ {w = w32} {z = y} (record { sfits = c .before .r .given }) in
     let left : c .mix .result .left ≡ mixed x = c .mix .ensures .0 ∙ ap mixed one in
-    let right : c .mix .result .right ≡ mixed y = c .mix .ensures .1 ∙ ap mixed two in
+    let right : c .mix .result .right ≡ mixed y = c .mix .ensures .1 .0 ∙ ap mixed two in
     let next : 2 * k + 2 ≡ 2 * (k + 1) = omega arith in (
       ap (λ (o : List Float). set (set o (2 * k) (c .mix .result .left)) (2 * k + 1) (c .mix .result .right)) (l .loop .inv .0)
           ∙ ap₂ (λ (p q : Float). set (set (mixedTo k xs ++ drop (2 * k) (a .out .now)) (2 * k) p) (2 * k + 1) q) left right

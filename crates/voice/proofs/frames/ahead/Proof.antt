@@ -12,10 +12,10 @@ is-dead-requires : tie.Need-is-dead-requires
 is-dead-requires c κs = search needs
 
 returns : tie.Need-returns
-returns c = (omega arith, omega arith, none-calm _ _ 0 refl, λ z. absurd (not-suc-le-zero z))
+returns c = ((omega arith, omega arith), (none-calm _ _ 0 refl, λ z. absurd (not-suc-le-zero z)))
 
 returns-2 : tie.Need-returns-2
-returns-2 c = (omega arith, omega arith, none-calm _ _ 0 refl, λ z. absurd (not-suc-le-zero z))
+returns-2 c = ((omega arith, omega arith), (none-calm _ _ 0 refl, λ z. absurd (not-suc-le-zero z)))
 
 calm-requires : tie.Need-calm-requires
 calm-requires c κs = search needs
@@ -31,10 +31,11 @@ returns-3 c =
     let e = c .least .ensures in
     let y = c .before .before in
     let n = y .before .before in (
-      omega arith,
-      omega arith,
-      λ j k. c .before .calm .ensures .0 j (omega arith),
-      λ z. (sym (n .before .is-dead .ensures) ∙ n .if1 .left, y .if2 .left, room-le (n .before .before .args .s) (c .before .calm .result) (c .least .result) (omega arith) (c .before .calm .ensures .1)),
+      (omega arith, omega arith),
+      (
+        λ j k. c .before .calm .ensures .0 j (omega arith),
+        λ z. (sym (n .before .is-dead .ensures) ∙ n .if1 .left, y .if2 .left, room-le (n .before .before .args .s) (c .before .calm .result) (c .least .result) (omega arith) (c .before .calm .ensures .1)),
+      ),
     )
 
 pub ahead-spec : {M : Type 1} → statement M

@@ -66,22 +66,22 @@ module _ (c : tie.After-glide) where
   some = omega (arith, no .if1 .left)
 
   more : 0 < count
-  more = c .glide .ensures .3 some (ah .ahead .ensures .3 some .1)
+  more = c .glide .ensures .0 .1 some (ah .ahead .ensures .1 .1 some .1)
 
   alive : dead voice stage ≡ false
-  alive = ah .ahead .ensures .3 some .0
+  alive = ah .ahead .ensures .1 .1 some .0
 
   enters : entered voice (voice .stage) ≡ stage
   enters = sym (lim .before .enter .ensures .0)
 
   calm : Calms voice stage count
-  calm j h = ah .ahead .ensures .2 j (omega (arith, c .glide .ensures .0))
+  calm j h = ah .ahead .ensures .1 .0 j (omega (arith, c .glide .ensures .0 .0))
 
   clear : (j : ℕ) → j < count → Clear w voice stage st (voice .place + j * st)
-  clear j h = lim .limit-of .ensures .0 (voice .place + j * st) (c .glide .ensures .2 j h)
+  clear j h = lim .limit-of .ensures .0 (voice .place + j * st) (c .glide .ensures .1 .0 .1 j h)
 
   on : start .args .s ≡ sounds voice
-  on = ap (λ (b : Bool). mk b voice) (start .pre .2)
+  on = ap (λ (b : Bool). mk b voice) (start .pre .1 .1 .0)
 
   pan : toZ w16 (ofZ w16 (voice .pan)) ≡ voice .pan
   pan = toZ-ofZ {w = w16} {z = voice .pan} (sfits-of (start .good .1 .1 .1 .1 .0 .1 .1 .1 .0 .1 .1 .1 .1 .1 .1 .1 .1 .1 .1 .1 .1 .1 .1 .1 .1 .1 .0 .1))
@@ -90,7 +90,7 @@ module _ (c : tie.After-glide) where
   sums =
       let g = c .before .before .before in
       let t = g .before in
-      let e = g .gain .ensures .0 ∙ ap gainOf (rw (w-back w64 (start .pre .1) (lit< tt)) at (t .total-of .ensures) ∙ ap (wholeLoss loss) (t .before .envelope-of .ensures .0)) in
+      let e = g .gain .ensures .0 ∙ ap gainOf (rw (w-back w64 (start .pre .1 .0) (lit< tt)) at (t .total-of .ensures) ∙ ap (wholeLoss loss) (t .before .envelope-of .ensures .0)) in
       ap (λ (x : ℕ). plains x (voice .pan) w st (voice .place) count) e
       ∙ sym (stretch-sums st loss w voice stage alive enters count calm clear)
       ∙ ap (heardAt st loss w count) (sym on)
@@ -107,7 +107,8 @@ ahead-requires c κs = search needs
 one-requires : tie.Need-one-requires
 one-requires c κs =
     let k = c .before .before .before .before .before .before in
-    (k .pre .0, rw (w-back w64 (k .pre .1) (lit< tt)) (k .pre .1), omega (arith, k .pre .3, k .pre .4), k .pre .5)
+    let p = k .pre .1 .1 .1 in
+    (k .pre .0, (rw (w-back w64 (k .pre .1 .0) (lit< tt)) (k .pre .1 .0), (omega (arith, p .0, p .1), p .2)))
 
 same-length : tie.Need-same-length
 same-length c = search needs
@@ -117,13 +118,16 @@ returns c =
     let o = c .before .one .ensures in
     let k = c .before .before .before .before .before .before .before .before in
     let a = k .args in
-    let b = w-back w64 (k .pre .1) (lit< tt) in
+    let b = w-back w64 (k .pre .1 .0) (lit< tt) in
     let f = o .0 in (
-      omega (arith, f),
-      omega (arith, f, k .pre .3),
-      rw b at (o .1) ∙ ap (λ (m : ℕ). afterAt (a .st) (a .l) (a .w .now) m (a .s)) (sym f),
-      rw b at (o .2) ∙ ap (λ (m : ℕ). addAt (2 * a .k) (heardAt (a .st) (a .l) (a .w .now) m (a .s)) (a .acc .now)) (sym f),
-      subst (λ (m : ℕ). Small 1 (heardAt (a .st) (a .l) (a .w .now) m (a .s))) (sym f) (rw b at (o .3)),
+      (omega (arith, f), omega (arith, f, k .pre .1 .1 .1 .0)),
+      (
+        rw b at (o .1 .0) ∙ ap (λ (m : ℕ). afterAt (a .st) (a .l) (a .w .now) m (a .s)) (sym f),
+        (
+          rw b at (o .1 .1 .0) ∙ ap (λ (m : ℕ). addAt (2 * a .k) (heardAt (a .st) (a .l) (a .w .now) m (a .s)) (a .acc .now)) (sym f),
+          subst (λ (m : ℕ). Small 1 (heardAt (a .st) (a .l) (a .w .now) m (a .s))) (sym f) (rw b at (o .1 .1 .1)),
+        ),
+      ),
     )
 
 envelope-of-requires : tie.Need-envelope-of-requires
@@ -141,10 +145,10 @@ glide-requires c κs =
     let lim = n .before .before in
     let k = lim .before .before .before in (
       c .before .before .gain .ensures .1,
-      lim .limit-of .ensures .1,
-      λ p h. lim .limit-of .ensures .0 p h .inside,
-      omega (arith, n .before .ahead .ensures .0, k .pre .4),
-      k .pre .5,
+      (
+        (lim .limit-of .ensures .1, λ p h. lim .limit-of .ensures .0 p h .inside),
+        (omega (arith, n .before .ahead .ensures .0 .0, k .pre .1 .1 .1 .1), k .pre .1 .1 .1 .2),
+      ),
     )
 
 cast-age-by : tie.Need-cast-age-by
@@ -153,7 +157,7 @@ cast-age-by c = search needs
 age-by-requires : tie.Need-age-by-requires
 age-by-requires c κs =
     let f = c .before .before in
-    room-le (stage f) (ah f .ahead .result) (count f) (f .glide .ensures .0) (ah f .ahead .ensures .3 (some f) .2)
+    room-le (stage f) (ah f .ahead .result) (count f) (f .glide .ensures .0 .0) (ah f .ahead .ensures .1 .1 (some f) .2)
 
 with-moved-requires : tie.Need-with-moved-requires
 with-moved-requires c κs = search needs
@@ -164,13 +168,16 @@ same-length-2 c = search needs
 returns-2 : tie.Need-returns-2
 returns-2 c =
     let f = c .before .before .before .before in (
-      more f,
-      omega (arith, f .glide .ensures .0, ah f .ahead .ensures .0),
-      ap sounds (c .with-moved .ensures ∙ ap₂ (λ (x : Stage) (p : ℕ). withMoved (voice f) x p (voice f .marked)) (c .before .age-by .ensures) (f .glide .ensures .1))
-          ∙ sym (stretch-slot (st f) (loss f) (w f) (voice f) (stage f) (alive f) (enters f) (count f) (more f) (calm f) (clear f))
-          ∙ ap (afterAt (st f) (loss f) (w f) (count f)) (sym (on f)),
-      rw (pan f) at (f .glide .ensures .4) ∙ ap (λ (xs : List ℤ). addAt (2 * start f .args .k) xs (start f .args .acc .now)) (sums f),
-      subst (Small 1) (sums f) (rw (pan f) at (f .glide .ensures .5)),
+      (more f, omega (arith, f .glide .ensures .0 .0, ah f .ahead .ensures .0 .0)),
+      (
+        ap sounds (c .with-moved .ensures ∙ ap₂ (λ (x : Stage) (p : ℕ). withMoved (voice f) x p (voice f .marked)) (c .before .age-by .ensures) (f .glide .ensures .1 .0 .0))
+            ∙ sym (stretch-slot (st f) (loss f) (w f) (voice f) (stage f) (alive f) (enters f) (count f) (more f) (calm f) (clear f))
+            ∙ ap (afterAt (st f) (loss f) (w f) (count f)) (sym (on f)),
+        (
+          rw (pan f) at (f .glide .ensures .1 .1 .0) ∙ ap (λ (xs : List ℤ). addAt (2 * start f .args .k) xs (start f .args .acc .now)) (sums f),
+          subst (Small 1) (sums f) (rw (pan f) at (f .glide .ensures .1 .1 .1)),
+        ),
+      ),
     )
 
 pub go-spec : {M : Type 1} → statement M

@@ -27,14 +27,18 @@ unfolding afterAt heardAt
 returns c =
     let f = c .before .before .before .before .before .before in
     let k = f .before in
-    let e = rw (w-back w64 (k .pre .1) (lit< tt)) at (f .frame-at .ensures .0) in
+    let e = rw (w-back w64 (k .pre .1 .0) (lit< tt)) at (f .frame-at .ensures .0) in
     let x = f .frame-at .ensures .1 in
     let y = f .frame-at .ensures .2 in (
       refl,
-      ap (λ (z : Framed). z .slot) e,
-      rw (w-back w32 x (lit< tt), w-back w32 y (lit< tt)) at (c .before .add-pair .ensures)
-          ∙ ap (λ (z : Framed). addAt (2 * k .args .k) (z .left ∷ z .right ∷ []) (k .args .acc .now)) e,
-      subst (λ (z : Framed). Small 1 (z .left ∷ z .right ∷ [])) e (small-two [] (f .frame-at .result .left) (f .frame-at .result .right) small-none x y),
+      (
+        ap (λ (z : Framed). z .slot) e,
+        (
+          rw (w-back w32 x (lit< tt), w-back w32 y (lit< tt)) at (c .before .add-pair .ensures)
+              ∙ ap (λ (z : Framed). addAt (2 * k .args .k) (z .left ∷ z .right ∷ []) (k .args .acc .now)) e,
+          subst (λ (z : Framed). Small 1 (z .left ∷ z .right ∷ [])) e (small-two [] (f .frame-at .result .left) (f .frame-at .result .right) small-none x y),
+        ),
+      ),
     )
 
 pub one-spec : {M : Type 1} → statement M

@@ -59,7 +59,7 @@ returns c =
     let k = l .loop .k in
     let z = toZ w64 (ofZ w64 (a .l)) in
     let e : k + (a .n - k) ≡ a .n = omega arith in
-    let b = w-back w64 (l .before .pre .1) (lit< tt) in
+    let b = w-back w64 (l .before .pre .1 .0) (lit< tt) in
     let off : afterAt (a .st) z w k (a .s0) .sounding ≡ false =
     sym (ap (λ (x : Slot). x .sounding) (l .loop .inv .0)) ∙ not-true (l .loop .s .sounding) (c .if1 .taken) in (
       rw (e, b) at (l .loop .inv .0 ∙ sym (stays (a .st) z w k (a .s0) off (a .n - k))),
@@ -81,21 +81,27 @@ go-requires c κs =
     let x : length xs ≡ 2 * l .loop .k = heard-length (a .st) z (a .w .now) (l .loop .k) (a .s0) in
     let t = n .before .before .loop-test .taken in (
       p .0,
-      rw (w-back w64 (p .1) (lit< tt)) (p .1),
-      not-false (l .loop .s .sounding) (n .if1 .left),
-      omega (arith, t),
-      omega (arith, t, l .loop .inv .2, l .loop .inv .4),
-      λ j h.
-          subst (λ (y : ℤ). Within y (31 * loudest))
-          (sym (ap (λ (q : List ℤ). getD q j (pos 0)) (l .loop .inv .1) ∙ to-beyond xs (a .acc .now) j (omega (arith, x))))
-          (p .3 j),
+      (
+        rw (w-back w64 (p .1 .0) (lit< tt)) (p .1 .0),
+        (
+          not-false (l .loop .s .sounding) (n .if1 .left),
+          (
+            omega (arith, t),
+            omega (arith, t, l .loop .inv .2, l .loop .inv .4),
+            λ j h.
+                subst (λ (y : ℤ). Within y (31 * loudest))
+                (sym (ap (λ (q : List ℤ). getD q j (pos 0)) (l .loop .inv .1) ∙ to-beyond xs (a .acc .now) j (omega (arith, x))))
+                (p .1 .1 .1 j),
+          ),
+        ),
+      ),
     )
 
 add-k : tie.Need-add-k Inv-loop μ-loop
-add-k c = let g = c .before .before .before in omega (arith, g .go .ensures .1, last g)
+add-k c = let g = c .before .before .before in omega (arith, g .go .ensures .0, last g)
 
 loop-less : tie.Need-loop-less Inv-loop μ-loop
-loop-less c = let g = c .before .before .before in omega (arith, g .go .ensures .0, g .go .ensures .1, last g)
+loop-less c = let g = c .before .before .before in omega (arith, g .go .ensures .0, last g)
 
 loop-again : tie.Need-loop-again Inv-loop μ-loop
 loop-again c =
@@ -111,16 +117,16 @@ loop-again c =
     let ys = a .acc .now in
     let cut : heardAt (a .st) z w (k + m) (a .s0) ≡ xs ++ heardAt (a .st) z w m s = heardAt-cut (a .st) z w k m (a .s0) in
     let e =
-    g .go .ensures .3
+    g .go .ensures .1 .1 .0
     ∙ ap₂ (λ (x : Slot) (q : List ℤ). addAt (2 * k) (heardAt (a .st) z w m x) q) (l .loop .inv .0) (l .loop .inv .1)
     ∙ add-next xs (heardAt (a .st) z w m s) ys (2 * k) (heard-length (a .st) z w k (a .s0))
     ∙ ap (λ (q : List ℤ). addTo q ys) (sym cut) in (
-      g .go .ensures .2 ∙ ap (afterAt (a .st) z w m) (l .loop .inv .0) ∙ sym (at-cut (a .st) z w k m (a .s0)),
+      g .go .ensures .1 .0 ∙ ap (afterAt (a .st) z w m) (l .loop .inv .0) ∙ sym (at-cut (a .st) z w k m (a .s0)),
       e,
       ap length e ∙ addTo-length (heardAt (a .st) z w (k + m) (a .s0)) ys,
-      omega (arith, g .go .ensures .1, last g),
+      omega (arith, g .go .ensures .0, last g),
       l .loop .inv .4,
-      subst (Small 1) (sym cut) (small-append xs (heardAt (a .st) z w m s) (l .loop .inv .5) (subst (λ (x : Slot). Small 1 (heardAt (a .st) z w m x)) (l .loop .inv .0) (g .go .ensures .4))),
+      subst (Small 1) (sym cut) (small-append xs (heardAt (a .st) z w m s) (l .loop .inv .5) (subst (λ (x : Slot). Small 1 (heardAt (a .st) z w m x)) (l .loop .inv .0) (g .go .ensures .1 .1 .1))),
     )
 
 same-length-2 : tie.Need-same-length-2 Inv-loop μ-loop
@@ -130,7 +136,7 @@ returns-2 : tie.Need-returns-2 Inv-loop μ-loop
 returns-2 c =
     let l = c .before in
     let e : l .loop .k ≡ l .before .args .n = omega arith in
-    let b = w-back w64 (l .before .pre .1) (lit< tt) in
+    let b = w-back w64 (l .before .pre .1 .0) (lit< tt) in
     (rw (e, b) at (l .loop .inv .0), rw (e, b) at (l .loop .inv .1), rw (e, b) at (l .loop .inv .5))
 
 pub run-at-spec : {M : Type 1} → statement M

@@ -29,11 +29,11 @@ module _ (c : tie.Start) where
 
   sum0 : (toZ w32 (ofZ w32 (getD ys i (pos 0))) +ℤ toZ w32 (ofZ w32 left) ≡ getD ys i (pos 0) +ℤ left)
       × SFits w32 (getD ys i (pos 0) +ℤ left) × (toZ w32 (ofZ w32 (getD ys i (pos 0) +ℤ left)) ≡ getD ys i (pos 0) +ℤ left)
-  sum0 = add-bits (getD ys i (pos 0)) left (c .pre .1 i (omega arith)) (c .pre .2)
+  sum0 = add-bits (getD ys i (pos 0)) left (c .pre .0 .1 i (omega arith)) (c .pre .1 .0)
 
   sum1 : (toZ w32 (ofZ w32 (getD ys (i + 1) (pos 0))) +ℤ toZ w32 (ofZ w32 right) ≡ getD ys (i + 1) (pos 0) +ℤ right)
       × SFits w32 (getD ys (i + 1) (pos 0) +ℤ right) × (toZ w32 (ofZ w32 (getD ys (i + 1) (pos 0) +ℤ right)) ≡ getD ys (i + 1) (pos 0) +ℤ right)
-  sum1 = add-bits (getD ys (i + 1) (pos 0)) right (c .pre .1 (i + 1) (omega arith)) (c .pre .3)
+  sum1 = add-bits (getD ys (i + 1) (pos 0)) right (c .pre .0 .1 (i + 1) (omega arith)) (c .pre .1 .1)
 
   read1 : getD (set ys i (getD ys i (pos 0) +ℤ left)) (i + 1) (pos 0) ≡ getD ys (i + 1) (pos 0)
   read1 = getD-set-other ys i (i + 1) (getD ys i (pos 0) +ℤ left) (pos 0) (λ e. omega arith)
@@ -94,7 +94,7 @@ same-length c = search needs
 returns : tie.Need-returns
 returns c =
     let s = c .before .before in
-    rw (sum0 s .0, sum0 s .2, read1 s, sum1 s .0, sum1 s .2) (pair-at (i s) (i s + 1) (left s) (right s) (ys s) (add-one (i s)) (s .pre .0))
+    rw (sum0 s .0, sum0 s .2, read1 s, sum1 s .0, sum1 s .2) (pair-at (i s) (i s + 1) (left s) (right s) (ys s) (add-one (i s)) (s .pre .0 .0))
 
 pub add-pair-spec : {M : Type 1} → statement M
 add-pair-spec =

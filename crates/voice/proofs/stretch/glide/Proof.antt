@@ -118,7 +118,7 @@ module _ (c : tie.After-to-right Inv-loop μ-loop) where
 
 loop-holds : tie.Need-loop-holds Inv-loop μ-loop
 unfolding plains
-loop-holds c = (omega arith, here (c .args .from) (c .args .st), λ j h. absurd (no j h), sym (addAt-none (2 * c .args .k) (c .args .acc .now)), refl, c .pre .3, small-none)
+loop-holds c = (omega arith, here (c .args .from) (c .args .st), λ j h. absurd (no j h), sym (addAt-none (2 * c .args .k) (c .args .acc .now)), refl, c .pre .1 .1 .0, small-none)
 
 same-length : tie.Need-same-length Inv-loop μ-loop
 same-length c = search needs
@@ -127,16 +127,15 @@ returns : tie.Need-returns Inv-loop μ-loop
 returns c =
     let l = c .before .before in
     let a = l .before .args in (
-      l .loop .inv .0,
-      l .loop .inv .1,
-      l .loop .inv .2,
-      λ z h. first (l .loop .m) (l .loop .p) (a .from) (a .st) (a .limit) (l .loop .inv .1) (c .if1 .taken) h,
-      rw (toZ-ofZ (l .before .fits .pan)) at (l .loop .inv .3),
-      rw (toZ-ofZ (l .before .fits .pan)) at (l .loop .inv .6),
+      (l .loop .inv .0, λ z h. first (l .loop .m) (l .loop .p) (a .from) (a .st) (a .limit) (l .loop .inv .1) (c .if1 .taken) h),
+      (
+        (l .loop .inv .1, l .loop .inv .2),
+        (rw (toZ-ofZ (l .before .fits .pan)) at (l .loop .inv .3), rw (toZ-ofZ (l .before .fits .pan)) at (l .loop .inv .6)),
+      ),
     )
 
 read-on-requires : tie.Need-read-on-requires Inv-loop μ-loop
-read-on-requires c κs = let l = c .before .before in l .before .pre .2 (l .loop .p) (c .if1 .left)
+read-on-requires c κs = let l = c .before .before in l .before .pre .1 .0 .1 (l .loop .p) (c .if1 .left)
 
 scaled-by-requires : tie.Need-scaled-by-requires Inv-loop μ-loop
 scaled-by-requires c κs = (rw (w-back w64 (c .read-on .ensures .1) (lit< tt)) (c .read-on .ensures .1), c .before .before .before .before .pre .0)
@@ -155,14 +154,12 @@ add-pair-requires c κs =
     let r = c .before in
     let u = r .to-right .ensures .1 in
     let t = r .before .to-left .ensures .1 in (
-      omega (arith, room r),
-      λ j h. subst (λ (z : ℤ). Within z (31 * loudest)) (sym (behind r j h)) (lp r .before .pre .4 j (omega arith)),
-      rw (w-back w32 t (lit< tt)) t,
-      rw (w-back w32 u (lit< tt)) u,
+      (omega (arith, room r), λ j h. subst (λ (z : ℤ). Within z (31 * loudest)) (sym (behind r j h)) (lp r .before .pre .1 .1 .1 j (omega arith))),
+      (rw (w-back w32 t (lit< tt)) t, rw (w-back w32 u (lit< tt)) u),
     )
 
 add-p : tie.Need-add-p Inv-loop μ-loop
-add-p c = let r = c .before .before .before in omega (arith, below r, lp r .before .pre .1)
+add-p c = let r = c .before .before .before in omega (arith, below r, lp r .before .pre .1 .0 .0)
 
 add-m : tie.Need-add-m Inv-loop μ-loop
 add-m c = let r = c .before .before .before in omega (arith, room r)
@@ -198,12 +195,11 @@ returns-2 : tie.Need-returns-2 Inv-loop μ-loop
 returns-2 c =
     let l = c .before in
     let e : l .loop .m ≡ l .before .args .most = omega arith in (
-      l .loop .inv .0,
-      l .loop .inv .1,
-      l .loop .inv .2,
-      λ z h. subst (λ (x : ℕ). 0 < x) (sym e) z,
-      rw (toZ-ofZ (l .before .fits .pan)) at (l .loop .inv .3),
-      rw (toZ-ofZ (l .before .fits .pan)) at (l .loop .inv .6),
+      (l .loop .inv .0, λ z h. subst (λ (x : ℕ). 0 < x) (sym e) z),
+      (
+        (l .loop .inv .1, l .loop .inv .2),
+        (rw (toZ-ofZ (l .before .fits .pan)) at (l .loop .inv .3), rw (toZ-ofZ (l .before .fits .pan)) at (l .loop .inv .6)),
+      ),
     )
 
 pub glide-spec : {M : Type 1} → statement M
