@@ -21,24 +21,39 @@ fn row(text: &mut [u8; 65536], at: usize, letter: u8, l: Listed) -> usize {
     }
 }
 
-// A kind of fault, by the number that request M-102 gives it, and its place.
-fn faulty(text: &mut [u8; 65536], at: usize, kind: u8, place: usize) -> usize {
-    let to = cases::called(text, at, b'd', kind);
-    cases::spaced(text, to, place as u64)
+// The number that request M-102 gives a kind of fault; 0 for none.
+fn kind_of(f: Fault) -> u8 {
+    match f {
+        Fault::Fine => 0,
+        Fault::Long(_) => 21,
+        Fault::Chunk(_) => 22,
+        Fault::Records(_) => 23,
+        Fault::Index(_) => 24,
+        Fault::Number(_) => 25,
+        Fault::Rate(_) => 26,
+        Fault::Window(_) => 27,
+    }
 }
 
-// What is wrong with a bank.
-fn fault(text: &mut [u8; 65536], at: usize, f: Fault) -> usize {
+// The byte place of a fault; 0 for none.
+fn place_of(f: Fault) -> usize {
     match f {
-        Fault::Fine => faulty(text, at, 0, 0),
-        Fault::Long(place) => faulty(text, at, 21, place),
-        Fault::Chunk(place) => faulty(text, at, 22, place),
-        Fault::Records(place) => faulty(text, at, 23, place),
-        Fault::Index(place) => faulty(text, at, 24, place),
-        Fault::Number(place) => faulty(text, at, 25, place),
-        Fault::Rate(place) => faulty(text, at, 26, place),
-        Fault::Window(place) => faulty(text, at, 27, place),
+        Fault::Fine => 0,
+        Fault::Long(place) => place,
+        Fault::Chunk(place) => place,
+        Fault::Records(place) => place,
+        Fault::Index(place) => place,
+        Fault::Number(place) => place,
+        Fault::Rate(place) => place,
+        Fault::Window(place) => place,
     }
+}
+
+// What is wrong with a bank: kind and place.
+fn fault(text: &mut [u8; 65536], at: usize, f: Fault) -> usize {
+    let place = place_of(f);
+    let to = cases::called(text, at, b'd', kind_of(f));
+    cases::spaced(text, to, place as u64)
 }
 
 // What is asked of a bank, by its letter.
@@ -53,19 +68,6 @@ fn of_bank(bank: &[u8], text: &mut [u8; 65536], at: usize, c: Command) -> usize 
     }
 }
 
-// a, i, d, j, l: the call and its line.
-pub fn ask_bank(
-    bank: &[u8; 66000],
-    text: &mut [u8; 65536],
-    c: Command,
-    e: Engine,
-    tape: Tape,
-) -> Tape {
-    let lent = tape.lent;
-    let at = of_bank(cases::first_bytes(bank, lent.bank), text, tape.at, c);
-    tapes::written(tape, trace::state(text, at, e))
-}
-
 // What the panel answers: a stage behind a space, and nothing where it is refused.
 fn shown(text: &mut [u8; 65536], at: usize, s: Shown) -> usize {
     match s {
@@ -77,16 +79,19 @@ fn shown(text: &mut [u8; 65536], at: usize, s: Shown) -> usize {
     }
 }
 
-// What is asked of the engine, by its letter.
-fn of_engine(text: &mut [u8; 65536], at: usize, c: Command, e: Engine) -> usize {
-    if c.letter == b'u' {
-        return cases::counted(text, at, b'u', 0, engine::voice_count(e));
+// What is asked, by its letter.
+fn asked(bank: &[u8], text: &mut [u8; 65536], at: usize, c: Command, e: Engine) -> usize {
+    let letter = c.letter;
+    match letter {
+        b's' => shown(text, at, engine::panel(e, c.one)),
+        b'u' => cases::counted(text, at, letter, 0, engine::voice_count(e)),
+        _ => of_bank(bank, text, at, c),
     }
-    shown(text, at, engine::panel(e, c.one))
 }
 
-// s, u: the call and its line.
-pub fn ask_engine(text: &mut [u8; 65536], c: Command, e: Engine, tape: Tape) -> Tape {
-    let at = of_engine(text, tape.at, c, e);
-    tapes::written(tape, trace::state(text, at, e))
+// a, i, d, j, l, s, u: the call and its line.
+pub fn ask(bank: &[u8; 66000], text: &mut [u8; 65536], c: Command, e: Engine, tape: Tape) -> Tape {
+    let lent = tape.lent;
+    let at = asked(cases::first_bytes(bank, lent.bank), text, tape.at, c, e);
+    tapes::written(tape, c, trace::state(text, at, e))
 }

@@ -1,16 +1,27 @@
-// The calls that answer a count and may change the state: note-on, note-off, control change, program change, pitch bend.
+// The calls that may change the state: note-on, note-off, control change, program change, pitch bend; and a fresh engine.
 use crate::Played;
+use crate::tapes::Tape;
 use crate::trace;
 use cases::Command;
 use cases::Lent;
 use engine::Answered;
 use engine::Engine;
 
-// n: note-on, with the lent part of the bank and of each memory.
+// The line of a call that answers a count.
+fn answered(text: &mut [u8; 65536], at: usize, letter: u8, a: Answered) -> Played {
+    let after = a.engine;
+    let to = cases::counted(text, at, letter, a.status, a.count);
+    Played {
+        engine: after,
+        at: trace::state(text, to, after),
+    }
+}
+
+// A note-on with the lent part of the bank and of each memory.
 fn note_on<'a>(
-    bank: &[u8; 66000],
-    ram: &'a [i16; 65536],
-    rom: &'a [i16; 65536],
+    bank: &[u8],
+    ram: &'a [i16],
+    rom: &'a [i16],
     lent: Lent,
     c: Command,
     e: Engine,
@@ -26,18 +37,31 @@ fn note_on<'a>(
     )
 }
 
-// The call by its letter.
-fn answer<'a>(
+// n: the call and its line.
+pub fn strike<'a>(
     bank: &[u8; 66000],
     ram: &'a [i16; 65536],
     rom: &'a [i16; 65536],
-    lent: Lent,
+    text: &mut [u8; 65536],
     c: Command,
     e: Engine,
-) -> Answered {
+    tape: Tape,
+) -> Played {
+    let a = note_on(bank, ram, rom, tape.lent, c, e);
+    answered(text, tape.at, b'n', a)
+}
+
+// F: a fresh engine, its clock at a value.
+fn fresh_at(clock: u32) -> Engine {
+    let mut e = engine::fresh();
+    e.clock = clock;
+    e
+}
+
+// The calls that need nothing lent, by their letters.
+fn answer(c: Command, e: Engine) -> Answered {
     let letter = c.letter;
     match letter {
-        b'n' => note_on(bank, ram, rom, lent, c, e),
         b'o' => engine::note_off(e, c.one, c.two),
         b'c' => engine::control_change(e, c.one, c.two, c.three),
         b'p' => engine::program_change(e, c.one, c.two),
@@ -45,22 +69,13 @@ fn answer<'a>(
     }
 }
 
-// n, o, c, p, b: the call and its line.
-pub fn call<'a>(
-    bank: &[u8; 66000],
-    ram: &'a [i16; 65536],
-    rom: &'a [i16; 65536],
-    text: &mut [u8; 65536],
-    at: usize,
-    lent: Lent,
-    c: Command,
-    e: Engine,
-) -> Played {
-    let a = answer(bank, ram, rom, lent, c, e);
-    let after = a.engine;
-    let to = cases::counted(text, at, c.letter, a.status, a.count);
-    Played {
-        engine: after,
-        at: trace::state(text, to, after),
+// F, and o, c, p, b with their lines.
+pub fn call(text: &mut [u8; 65536], c: Command, e: Engine, at: usize) -> Played {
+    if c.letter == b'F' {
+        return Played {
+            engine: fresh_at(c.first),
+            at,
+        };
     }
+    answered(text, at, c.letter, answer(c, e))
 }

@@ -21,10 +21,7 @@ fn short(h: usize) -> u32 {
 }
 
 // The lines by program, bank, key and velocity. An admitted bank's chunks end within 65,536 bytes.
-fn strike(b: &[u8], text: &mut [u8; 65536], at: usize, c: Command) -> usize {
-    if !bank::admitted(b) {
-        return none(text, at);
-    }
+fn struck(b: &[u8], text: &mut [u8; 65536], at: usize, c: Command) -> usize {
     if 65536 < records::chunk_at(b, 9) {
         return none(text, at);
     }
@@ -39,12 +36,20 @@ fn strike(b: &[u8], text: &mut [u8; 65536], at: usize, c: Command) -> usize {
     }
 }
 
+// The same for any bank.
+fn strike(b: &[u8], text: &mut [u8; 65536], at: usize, c: Command) -> usize {
+    if bank::admitted(b) {
+        return struck(b, text, at, c);
+    }
+    none(text, at)
+}
+
 // The call and its lines; the engine has no part in it.
 pub fn hit(bank: &[u8; 66000], text: &mut [u8; 65536], c: Command, tape: Tape) -> Tape {
     if !playable(c.three, c.four) {
-        return tapes::spoilt(tape);
+        return tapes::spoilt(tape, c);
     }
     let lent = tape.lent;
     let at = strike(cases::first_bytes(bank, lent.bank), text, tape.at, c);
-    tapes::written(tape, at)
+    tapes::written(tape, c, at)
 }

@@ -8,7 +8,6 @@ mod trace;
 mod voices;
 
 use cases::Command;
-use cases::Lent;
 use engine::Engine;
 use tapes::Tape;
 
@@ -28,36 +27,43 @@ fn moves(c: Command) -> bool {
     }
 }
 
-// F: a fresh engine, its clock at a value.
-fn fresh_at(clock: u32) -> Engine {
-    let mut e = engine::fresh();
-    e.clock = clock;
-    e
-}
-
 // A command for the engine, by its letter.
 fn play<'a>(
     bank: &[u8; 66000],
     ram: &'a [i16; 65536],
     rom: &'a [i16; 65536],
     text: &mut [u8; 65536],
-    at: usize,
-    lent: Lent,
     c: Command,
     e: Engine,
+    tape: Tape,
 ) -> Played {
     let letter = c.letter;
     match letter {
-        b'F' => Played {
-            engine: fresh_at(c.first),
-            at,
-        },
-        b'r' => rendering::render(ram, rom, text, at, lent, c, e),
-        _ => calls::call(bank, ram, rom, text, at, lent, c, e),
+        b'n' => calls::strike(bank, ram, rom, text, c, e, tape),
+        b'r' => rendering::render(ram, rom, text, c, e, tape),
+        _ => calls::call(text, c, e, tape.at),
     }
 }
 
-// What leaves the engine as it is, by its letter: what is lent, a case's name, and what is asked. A letter that nobody knows is a bad command.
+// What is written or asked, by its letter. One that nobody knows is a bad command.
+fn write(
+    bank: &[u8; 66000],
+    room: &mut [u8; 65536],
+    text: &mut [u8; 65536],
+    c: Command,
+    e: Engine,
+    tape: Tape,
+) -> Tape {
+    let letter = c.letter;
+    match letter {
+        b'a' | b'i' | b'd' | b'j' | b'l' | b's' | b'u' => asking::ask(bank, text, c, e, tape),
+        b'h' => hammer::hit(bank, text, c, tape),
+        b't' => tapes::name(room, text, c, tape),
+        _ => tapes::spoilt(tape, c),
+    }
+}
+
+// What leaves the engine as it is: things lent, and what is written or asked.
 fn tell(
     bank: &mut [u8; 66000],
     ram: &mut [i16; 65536],
@@ -71,11 +77,7 @@ fn tell(
     let letter = c.letter;
     match letter {
         b'B' | b'M' | b'O' | b'm' | b'x' => tapes::lend(bank, ram, rom, room, c, tape),
-        b't' => tapes::name(room, text, c, tape),
-        b'h' => hammer::hit(bank, text, c, tape),
-        b'a' | b'i' | b'd' | b'j' | b'l' => asking::ask_bank(bank, text, c, e, tape),
-        b's' | b'u' => asking::ask_engine(text, c, e, tape),
-        _ => tapes::spoilt(tape),
+        _ => write(bank, room, text, c, e, tape),
     }
 }
 
@@ -89,13 +91,12 @@ fn main() {
     let mut e = engine::fresh();
     let mut tape = tapes::begin();
     let mut turns = u64::MAX;
-    while turns > 0 && !tape.over {
+    while turns > 0 && !tape.place.cut {
         let c = cases::next_command(&mut room, tape.place);
-        tape = tapes::headed(tape, c);
         if moves(c) {
-            let p = play(&bank, &ram, &rom, &mut text, tape.at, tape.lent, c, e);
+            let p = play(&bank, &ram, &rom, &mut text, c, e, tape);
             e = p.engine;
-            tape = tapes::written(tape, p.at);
+            tape = tapes::written(tape, c, p.at);
         } else {
             tape = tell(
                 &mut bank,
@@ -108,8 +109,7 @@ fn main() {
                 tape,
             );
         }
-        tape = tapes::closed(&mut text, tape);
         turns -= 1;
     }
-    cases::flush(&text, tape.at);
+    tapes::finish(&mut text, tape);
 }

@@ -6,11 +6,12 @@ use cases::Place;
 // What a run has beside its engine.
 pub struct Tape {
     pub lent: Lent,
-    // what is still to be read of the case; cut marks a bad command
+    // what is still to be read of the case; where it is cut, nothing more is played
     pub place: Place,
     // how much of the trace is to be written yet
     pub at: usize,
-    pub over: bool,
+    // a command was bad: unknown, cut off, or one that names more than there is room for
+    pub bad: bool,
 }
 
 // Nothing is read, nothing lent.
@@ -19,31 +20,25 @@ pub fn begin() -> Tape {
         lent: cases::nothing(),
         place: cases::start(),
         at: 0,
-        over: false,
+        bad: false,
     }
 }
 
-// The tape behind a command's letter and numbers. Where no letter is left the run is over.
-pub fn headed(tape: Tape, c: Command) -> Tape {
+// The tape behind a command, with so much text to be written yet.
+pub fn written(tape: Tape, c: Command, at: usize) -> Tape {
     let place = c.place;
     let mut next = tape;
     next.place = place;
-    next.over = c.over;
-    next
-}
-
-// The tape with so much text to be written yet.
-pub fn written(tape: Tape, at: usize) -> Tape {
-    let mut next = tape;
     next.at = at;
     next
 }
 
-// A letter that nobody knows, or a command that names more than there is room for.
-pub fn spoilt(tape: Tape) -> Tape {
-    let place = tape.place;
+// The tape behind a command that has no meaning: a bad one, or the end of the case.
+pub fn spoilt(tape: Tape, c: Command) -> Tape {
+    let place = c.place;
     let mut next = tape;
     next.place = cases::spoilt(place);
+    next.bad = !c.over;
     next
 }
 
@@ -60,8 +55,9 @@ pub fn lend(
     let place = loan.place;
     let lent = loan.lent;
     let mut next = tape;
-    next.place = place;
     next.lent = lent;
+    next.place = place;
+    next.bad = place.cut;
     next
 }
 
@@ -72,16 +68,15 @@ pub fn name(room: &mut [u8; 65536], text: &mut [u8; 65536], c: Command, tape: Ta
     let mut next = tape;
     next.place = place;
     next.at = line.at;
+    next.bad = place.cut;
     next
 }
 
-// The tape behind a command. Behind a bad one nothing is played.
-pub fn closed(text: &mut [u8; 65536], tape: Tape) -> Tape {
-    let place = tape.place;
-    let mut next = tape;
-    if place.cut && !tape.over {
-        next.at = cases::bad(text, tape.at);
-        next.over = true;
+// The end of the trace: a bad command has a line, and what is left of the text is written.
+pub fn finish(text: &mut [u8; 65536], tape: Tape) {
+    let mut at = tape.at;
+    if tape.bad {
+        at = cases::bad(text, at);
     }
-    next
+    cases::flush(text, at);
 }

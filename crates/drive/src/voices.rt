@@ -66,16 +66,20 @@ fn levels(text: &mut [u8; 65536], at: usize, v: Voice) -> usize {
     number(text, to, long(v.rate))
 }
 
-// Mode, memory and window; a loop's places only where it loops.
+// Mode, memory and window.
 fn window(text: &mut [u8; 65536], at: usize, v: Voice) -> usize {
     let mut to = number(text, at, small(v.mode));
     to = number(text, to, bit(v.rom));
     to = number(text, to, v.start);
-    to = number(text, to, v.end);
+    number(text, to, v.end)
+}
+
+// A loop's places, only where it loops.
+fn loop_places(text: &mut [u8; 65536], at: usize, v: Voice) -> usize {
     if v.mode == 0 {
-        return cases::word(text, to, b" 0 0");
+        return cases::word(text, at, b" 0 0");
     }
-    to = number(text, to, v.loopfrom);
+    let to = number(text, at, v.loopfrom);
     number(text, to, v.loopto)
 }
 
@@ -85,6 +89,7 @@ fn voice_line(text: &mut [u8; 65536], at: usize, v: Voice) -> usize {
     to = times(text, to, v);
     to = levels(text, to, v);
     to = window(text, to, v);
+    to = loop_places(text, to, v);
     cases::put(text, to, b'\n')
 }
 

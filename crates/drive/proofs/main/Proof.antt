@@ -28,9 +28,6 @@ loop-holds c = tt
 next-command-requires : tie.Need-next-command-requires Inv-loop μ-loop
 next-command-requires c κs = search needs
 
-headed-requires : tie.Need-headed-requires Inv-loop μ-loop
-headed-requires c κs = search needs
-
 moves-requires : tie.Need-moves-requires Inv-loop μ-loop
 moves-requires c κs = search needs
 
@@ -43,9 +40,6 @@ written-requires c κs = search needs
 tell-requires : tie.Need-tell-requires Inv-loop μ-loop
 tell-requires c κs = search needs
 
-closed-requires : tie.Need-closed-requires Inv-loop μ-loop
-closed-requires c κs = search needs
-
 sub-turns : tie.Need-sub-turns Inv-loop μ-loop
 sub-turns c = omega arith
 
@@ -55,8 +49,8 @@ loop-less c = omega arith
 loop-again : tie.Need-loop-again Inv-loop μ-loop
 loop-again c = tt
 
-flush-requires : tie.Need-flush-requires Inv-loop μ-loop
-flush-requires c κs = search needs
+finish-requires : tie.Need-finish-requires Inv-loop μ-loop
+finish-requires c κs = search needs
 
 returns : tie.Need-returns Inv-loop μ-loop
 returns c = search needs
@@ -73,14 +67,12 @@ main-spec =
     begin-requires
     loop-holds
     next-command-requires
-    headed-requires
     moves-requires
     play-requires
     written-requires
     tell-requires
-    closed-requires
     sub-turns
     loop-less
     loop-again
-    flush-requires
+    finish-requires
     returns)
