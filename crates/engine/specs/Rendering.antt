@@ -8,7 +8,7 @@ use lib.ListN.{length, take, drop}
 use lib.Ieee.{Float}
 use Rattle.state.specs.declared.Engine.{Engine}
 use Rattle.voice.specs.declared.Voice.{Voice}
-use Rattle.voice.specs.Motion.{span}
+use Rattle.records.specs.Memory.{partOf}
 use Rattle.state.specs.Reach.{memory, endsPast}
 use Rattle.voice.specs.declared.Slot.{Slot}
 use Rattle.arith.specs.Lists.{anyOf, sumOf}
@@ -24,11 +24,9 @@ use Rattle.state.specs.Answers.{done, answer}
 unfoldable pub distance : Engine → ℕ → ℕ
 distance e to = (to + 4294967296 - e .clock) % 4294967296
 
--- a voice's window: its part of its memory, nothing where it does not lie within
+-- a voice's window: its part of its memory
 unfoldable pub window : List ℤ → List ℤ → Voice → List ℤ
-window ram rom v =
-    cond (leb (v .start) (v .end) && leb (v .end) (length (memory ram rom v)))
-    (take (span v) (drop (v .start) (memory ram rom v))) []
+window ram rom v = partOf (memory ram rom v) (v .start) (v .end)
 
 -- a slot sounds, and its window ends past its memory
 abbrev pub lacks : List ℤ → List ℤ → Slot → Bool
