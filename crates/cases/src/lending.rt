@@ -3,7 +3,7 @@ ghost use mathlib.Core.Path.{_≡_};
 ghost use mathlib.Core.Bool.{true};
 ghost use Prim.Native.Nat.{_≤_};
 ghost use lib.ListN.{length, take};
-ghost use Rattle.cases.specs.Lending.{unlent};
+ghost use Rattle.cases.specs.Internal.Lending.{unlent};
 use crate::commands::Command;
 use crate::reading::Place;
 use crate::reading::next_bytes;
