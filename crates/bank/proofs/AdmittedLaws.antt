@@ -125,29 +125,29 @@ le-le (negsuc a) (negsuc c) (pos d) h k = record { le = tt }
 le-le (negsuc a) (negsuc c) (negsuc d) h k = record { le = le→leb d a (omega (arith, leb→le c a (h .le), leb→le d c (k .le))) }
 
 -- a good window as numbers of 32 bits
-pub record WindowWords (b : List ℕ) (m : Parts) (local global : Zone) : Type 0 where
-  pub start-is : pos (word32 (startOf b m local global)) ≡ startOf b m local global
-  pub end-is : pos (word32 (endOf b m local global)) ≡ endOf b m local global
-  pub some : word32 (startOf b m local global) < word32 (endOf b m local global)
-  pub high : word32 (endOf b m local global) < 4294967296
-  pub loop-start-is : loops (modeOf b m local global) ≡ true → pos (word32 (loopStartOf b m local global)) ≡ loopStartOf b m local global
-  pub loop-end-is : loops (modeOf b m local global) ≡ true → pos (word32 (loopEndOf b m local global)) ≡ loopEndOf b m local global
-  pub loop-low : loops (modeOf b m local global) ≡ true → word32 (startOf b m local global) ≤ word32 (loopStartOf b m local global)
-  pub loop-some : loops (modeOf b m local global) ≡ true → word32 (loopStartOf b m local global) < word32 (loopEndOf b m local global)
-  pub loop-high : loops (modeOf b m local global) ≡ true → word32 (loopEndOf b m local global) ≤ word32 (endOf b m local global)
+pub record WindowWords (b : List ℕ) (m : Parts) (k : ℕ) (v : ℕ → ℤ) : Type 0 where
+  pub start-is : pos (word32 (startOf b m k v)) ≡ startOf b m k v
+  pub end-is : pos (word32 (endOf b m k v)) ≡ endOf b m k v
+  pub some : word32 (startOf b m k v) < word32 (endOf b m k v)
+  pub high : word32 (endOf b m k v) < 4294967296
+  pub loop-start-is : loops (modeOf v) ≡ true → pos (word32 (loopStartOf b m k v)) ≡ loopStartOf b m k v
+  pub loop-end-is : loops (modeOf v) ≡ true → pos (word32 (loopEndOf b m k v)) ≡ loopEndOf b m k v
+  pub loop-low : loops (modeOf v) ≡ true → word32 (startOf b m k v) ≤ word32 (loopStartOf b m k v)
+  pub loop-some : loops (modeOf v) ≡ true → word32 (loopStartOf b m k v) < word32 (loopEndOf b m k v)
+  pub loop-high : loops (modeOf v) ≡ true → word32 (loopEndOf b m k v) ≤ word32 (endOf b m k v)
 
-module _ {b : List ℕ} {m : Parts} {local global : Zone} (w : GoodWindow b m local global) where
+module _ {b : List ℕ} {m : Parts} {k : ℕ} {v : ℕ → ℤ} (w : GoodWindow b m k v) where
   abbrev start : ℤ
-  start = startOf b m local global
+  start = startOf b m k v
 
   abbrev end : ℤ
-  end = endOf b m local global
+  end = endOf b m k v
 
   abbrev loop-start : ℤ
-  loop-start = loopStartOf b m local global
+  loop-start = loopStartOf b m k v
 
   abbrev loop-end : ℤ
-  loop-end = loopEndOf b m local global
+  loop-end = loopEndOf b m k v
 
   start-word : Word start
   start-word = record { low = w .low; high = le-lt start end (pos 4294967296) (lt-le start end (w .some)) (w .high) }
@@ -155,21 +155,21 @@ module _ {b : List ℕ} {m : Parts} {local global : Zone} (w : GoodWindow b m lo
   end-word : Word end
   end-word = record { low = le-le (pos 0) start end (w .low) (lt-le start end (w .some)); high = w .high }
 
-  loop-start-word : loops (modeOf b m local global) ≡ true → Word loop-start
+  loop-start-word : loops (modeOf v) ≡ true → Word loop-start
   loop-start-word l =
       record {
         low = le-le (pos 0) start loop-start (w .low) (w .loop-low l);
         high = le-lt loop-start end (pos 4294967296) (le-le loop-start loop-end end (lt-le loop-start loop-end (w .loop-some l)) (w .loop-high l)) (w .high);
       }
 
-  loop-end-word : loops (modeOf b m local global) ≡ true → Word loop-end
+  loop-end-word : loops (modeOf v) ≡ true → Word loop-end
   loop-end-word l =
       record {
         low = le-le (pos 0) loop-start loop-end (loop-start-word l .low) (lt-le loop-start loop-end (w .loop-some l));
         high = le-lt loop-end end (pos 4294967296) (w .loop-high l) (w .high);
       }
 
-  pub window-words : WindowWords b m local global
+  pub window-words : WindowWords b m k v
   window-words =
       record {
         start-is = word-same start start-word;
