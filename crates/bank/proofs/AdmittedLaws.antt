@@ -18,7 +18,7 @@ use Rattle.records.specs.Chunks.{chunkAt}
 use Rattle.records.specs.Sides.{bagOf, genOf, modOf, partsOf}
 use Rattle.records.specs.declared.Side.{Side}
 use Rattle.arith.specs.Holds.{word32}
-use Rattle.records.specs.Windows.{startOf, endOf, loopStartOf, loopEndOf, modeOf, loops}
+use Rattle.records.specs.Windows.{startOf, endOf, loopStartOf, loopEndOf, modeOf, loops, movers}
 use Rattle.records.specs.declared.Parts.{Parts}
 use Rattle.records.specs.declared.Zone.{Zone}
 use Rattle.records.specs.Headers.{rateOf}
@@ -201,7 +201,7 @@ module _ {b : List ℕ} (a : Admitted b) {h z : ℕ} (w : Sounding b (partsOf b 
   pub rate-in : (400 ≤ rateOf b (partsOf b) (local .link)) × (rateOf b (partsOf b) (local .link) ≤ 50000)
   rate-in = (a .sounds .rate-low h z w, a .sounds .rate-high h z w)
 
-  pub window-in : WindowWords b (partsOf b) local global
+  pub window-in : WindowWords b (partsOf b) (local .link) (movers b (partsOf b) local global)
   window-in = window-words (a .sounds .windows h z w)
 
 -- a sounding preset zone of an admitted bank names an instrument

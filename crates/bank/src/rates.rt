@@ -38,7 +38,7 @@ fn bad_rated(b: &[u8], m: Parts, z: u32) -> bool
     let zone = records::zone_at(b, i, z);
     let known = (zone.link as usize) < less_one(i.nlinks);
     let bad = !good_rate(records::rate_of(b, m, zone.link as u32));
-    records::both(records::both(zone.sounding, known), bad)
+    zone.sounding && known && bad
 }
 
 // The lowest sample at fault, zone z looked at too.

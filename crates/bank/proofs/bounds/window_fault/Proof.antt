@@ -1,4 +1,4 @@
--- `bank::windows::window_fault` meets its contract.
+-- `window_fault` meets its contract.
 use borrow.Author.Needs.{needs}
 use mathlib.Core.Path.{_≡_, sym, _∙_}
 use native.Mathlib.Omega.{arith}

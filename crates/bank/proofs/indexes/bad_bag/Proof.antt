@@ -1,4 +1,4 @@
--- `bank::indexes::bad_bag` meets its contract.
+-- `bad_bag` meets its contract.
 use Prim.Native.Nat.{_-_}
 use mathlib.Core.Path.{_≡_, refl, sym, _∙_}
 use borrow.Author.Needs.{needs}

@@ -1,4 +1,4 @@
--- `bank::indexes::bad_head` meets its contract.
+-- `bad_head` meets its contract.
 use borrow.Author.Needs.{needs}
 use Rattle.bank.specs.Indexes.{badHead}
 use Rattle.records.specs.Sides.{bagOf}

