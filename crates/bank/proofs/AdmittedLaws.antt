@@ -61,9 +61,6 @@ module _ {index : ℕ → ℕ} {n m : ℕ} (r : Rising index n m) where
       let below : index i ≤ index (n - 1) = rw last at (up i (n - 1 - i) (omega arith)) in
       omega (arith, r .ends (n - 1) (omega arith))
 
-  pub index-up : (i j : ℕ) → i ≤ j → j < n → index i ≤ index j
-  index-up i j h l = let e : i + (j - i) ≡ j = omega arith in rw e at (up i (j - i) (omega arith))
-
 module _ {b : List ℕ} {s : Side} (g : GoodSide b s) where
   -- the bag index of a head; the generator and the modulator index of a bag
   pub bag-in : (h : ℕ) → h < s .nheads → bagOf b s h < s .nbags
@@ -126,12 +123,8 @@ le-le (negsuc a) (negsuc c) (negsuc d) h k = record { le = le→leb d a (omega (
 
 -- a good window as numbers of 32 bits
 pub record WindowWords (b : List ℕ) (m : Parts) (k : ℕ) (v : ℕ → ℤ) : Type 0 where
-  pub start-is : pos (word32 (startOf b m k v)) ≡ startOf b m k v
-  pub end-is : pos (word32 (endOf b m k v)) ≡ endOf b m k v
   pub some : word32 (startOf b m k v) < word32 (endOf b m k v)
   pub high : word32 (endOf b m k v) < 4294967296
-  pub loop-start-is : loops (modeOf v) ≡ true → pos (word32 (loopStartOf b m k v)) ≡ loopStartOf b m k v
-  pub loop-end-is : loops (modeOf v) ≡ true → pos (word32 (loopEndOf b m k v)) ≡ loopEndOf b m k v
   pub loop-low : loops (modeOf v) ≡ true → word32 (startOf b m k v) ≤ word32 (loopStartOf b m k v)
   pub loop-some : loops (modeOf v) ≡ true → word32 (loopStartOf b m k v) < word32 (loopEndOf b m k v)
   pub loop-high : loops (modeOf v) ≡ true → word32 (loopEndOf b m k v) ≤ word32 (endOf b m k v)
@@ -172,12 +165,8 @@ module _ {b : List ℕ} {m : Parts} {k : ℕ} {v : ℕ → ℤ} (w : GoodWindow 
   pub window-words : WindowWords b m k v
   window-words =
       record {
-        start-is = word-same start start-word;
-        end-is = word-same end end-word;
         some = word-lt start end start-word end-word (w .some);
         high = below (word32 end) (rw (word-same end end-word) (w .high));
-        loop-start-is = λ l. word-same loop-start (loop-start-word l);
-        loop-end-is = λ l. word-same loop-end (loop-end-word l);
         loop-low = λ l. word-le start loop-start start-word (loop-start-word l) (w .loop-low l);
         loop-some = λ l. word-lt loop-start loop-end (loop-start-word l) (loop-end-word l) (w .loop-some l);
         loop-high = λ l. word-le loop-end end (loop-end-word l) end-word (w .loop-high l);

@@ -23,7 +23,7 @@ use Rattle.records.specs.Zones.{zoneAt, zoneCount, zoneBelow, firstZone, value,
 use Rattle.records.specs.declared.Parts.{Parts}
 use Rattle.records.specs.declared.Zone.{Zone}
 use Rattle.bank.specs.Rates.{namesSample, badRate}
-use Rattle.records.specs.Internal.Amounts.{poured}
+use Rattle.records.specs.Internal.Amounts.{poured, at}
 use Rattle.records.proofs.AmountsLaws.{poured-value}
 use Rattle.records.specs.Windows.{placeMoved, startOf, endOf, loopStartOf, loopEndOf, modeOf, goodWindow, movers}
 use Rattle.bank.specs.Internal.Bounds.{badOver}

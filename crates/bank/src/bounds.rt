@@ -6,7 +6,7 @@ ghost use Rattle.bank.specs.Internal.Bounds.{badOver};
 ghost use Rattle.records.specs.Looking.{first, placed};
 ghost use Rattle.records.specs.Sides.{bagOf};
 ghost use Rattle.records.specs.Zones.{zoneCount};
-use crate::less_one;
+use arith::less;
 use records::Found;
 use records::Parts;
 
@@ -47,7 +47,7 @@ pub fn window_fault(b: &[u8], m: Parts) -> Found
     ensures { λ r. ⌜ r ≡ windowFault (now (b .entry)) m ⌝ }
 {
     let i = m.instruments;
-    let heads = less_one(i.nheads) as u32;
+    let heads = less(i.nheads, 1);
     let mut h: u32 = 0;
     while h < heads {
         let found = window_in(b, m, h);

@@ -1,8 +1,8 @@
 -- `bad_over` meets its contract.
-use mathlib.Core.Bool.{Bool, true, not, _&&_}
-use mathlib.Core.Path.{_≡_, refl, sym, ap, _∙_}
 use borrow.Author.Needs.{needs}
+use mathlib.Core.Bool.{Bool, true, not, _&&_}
 use mathlib.Core.List.{List}
+use mathlib.Core.Path.{_≡_, refl, sym, ap, _∙_}
 use lib.IntN.{ℤ}
 use Rattle.records.specs.declared.Zone.{Zone}
 use Rattle.records.specs.Internal.Amounts.{poured, at}
@@ -14,11 +14,11 @@ use Rattle.bank.proofs.bounds.bad_over.Tie as tie
 zone-at-requires : tie.Need-zone-at-requires
 zone-at-requires c κs = search needs
 
-cast-good-window : tie.Need-cast-good-window
-cast-good-window c = search needs
-
 poured-requires : tie.Need-poured-requires
 poured-requires c κs = search needs
+
+cast-good-window : tie.Need-cast-good-window
+cast-good-window c = search needs
 
 good-window-requires : tie.Need-good-window-requires
 good-window-requires c κs = search needs
@@ -30,10 +30,10 @@ sounds e f = rw e f
 returns : tie.Need-returns
 unfolding badOver
 returns c =
-    let k = c .before .before .before in
+    let k = c .before .before .before .before in
     let a = k .before .before .before .before .args in
     let e = k .before .zone-at .ensures in
-    let good = c .good-window .ensures ∙ ap (λ (v : List ℤ). goodWindow (a .b .now) (a .m) (k .before .zone-at .result .link) (at v)) (c .before .poured .ensures) in
+    let good = c .good-window .ensures ∙ ap (λ (v : List ℤ). goodWindow (a .b .now) (a .m) (k .before .zone-at .result .link) (at v)) (c .before .before .before .poured .ensures) in
     let same = ap (λ (zone : Zone). goodWindow (a .b .now) (a .m) (zone .link) (at (poured (a .b .now) (a .m .instruments) zone (a .global)))) e in
     sounds (sym (ap (λ (zone : Zone). zone .sounding) e) ∙ k .if1 .taken) (ap not (good ∙ same))
 
@@ -46,8 +46,8 @@ bad-over-spec =
     tie.close
     (tie.spec
     zone-at-requires
-    cast-good-window
     poured-requires
+    cast-good-window
     good-window-requires
     returns
     returns-2)
