@@ -1,4 +1,4 @@
--- 01, "From a key to layers" (bend, the pitch total's hold) and "Tables and steps" (step).
+-- 01, "From a key to layers" and "Tables and steps": the cents of a bend, and the step of a pitch total.
 use Prim.Native.Nat.{ℕ, _-_, _*_, _/_, _%_, _^_}
 use lib.IntN.{ℤ, pos, _-ℤ_, _*ℤ_, negsuc, natAbs, _+ℤ_}
 use lib.ListN.{getD}
