@@ -1,4 +1,4 @@
--- n frames as the code goes through them, with step and loss found once (law `once` of proofs/Run: it is the same).
+-- n frames as the code goes through them, with step and loss found once (`RunLaws.once`: it is the same).
 use Prim.Native.Nat.{ℕ, zero, suc}
 use mathlib.Core.List.{List, [], _∷_, _++_}
 use lib.IntN.{ℤ}

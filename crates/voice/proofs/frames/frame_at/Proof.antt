@@ -1,4 +1,4 @@
--- One frame of a slot, by the branch that is taken (free, dead, in delay, played): each return by its law of FrameLaws.
+-- One frame of a slot, by the branch that is taken (free, dead, in delay, played): each return by its law of FramesLaws.
 use borrow.Author.Needs.{sfits-of, needs}
 use mir.Facts.{toZ-ofZ}
 use mir.Syntax.{w64, w32, w16}

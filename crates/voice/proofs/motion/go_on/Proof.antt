@@ -1,4 +1,4 @@
--- The move by the step, by the branch that is taken (folded, ended, staying): each return by its law of FrameLaws, the fold by `fold-add`.
+-- The move by the step, by the branch that is taken (folded, ended, staying): each return by its law of FramesLaws, the fold by `fold-add`.
 use Prim.Native.Nat.{ℕ, _+_, _*_}
 use native.Mathlib.Omega.{arith}
 use mathlib.Core.Path.{ap₂, sym, ap, _∙_}
