@@ -1,6 +1,6 @@
 -- 01, "Bank admission": the listing, a step from one place, a record's number, to the next.
 use mathlib.Core.Bool.{cond}
-use mathlib.Core.List.{List}
+use mathlib.Core.List.{List, [], _∷_}
 use Prim.Native.Nat.{ℕ, _+_, _-_}
 use lib.Dec.{ltb}
 use Rattle.bank.specs.Admission.{admitted}
@@ -20,3 +20,9 @@ abbrev pub listedNumber : Listed → ℕ
 listedNumber Refused = 1
 listedNumber End = 0
 listedNumber (Row program bank next) = 0
+
+-- 01's values: program, bank and the next place, where a preset is told
+abbrev pub listedValues : Listed → List ℕ
+listedValues Refused = []
+listedValues End = []
+listedValues (Row program bank next) = program ∷ bank ∷ next ∷ []

@@ -1,1 +1,1 @@
-// What was promised of the engine, as theorems over its definitions: all of it stands in specs/.
+// What was promised of the engine, as theorems over its definitions: statements in specs/, proofs in proofs/.
