@@ -1,8 +1,4 @@
-<<<<<<< HEAD
--- n frames as the code goes through them, with step and loss found once (law `once` of proofs/RunLaws: it is the same).
-=======
 -- n frames as the code goes through them, with step and loss found once (`RunLaws.once`: it is the same).
->>>>>>> docs2
 use Prim.Native.Nat.{ℕ, zero, suc}
 use mathlib.Core.List.{List, [], _∷_, _++_}
 use lib.IntN.{ℤ}
