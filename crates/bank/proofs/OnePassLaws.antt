@@ -1,33 +1,38 @@
 -- One pass over the zones finds what the tests 6 and 7 of Admission look for.
+use Prim.Native.Nat.{ℕ, zero, suc, _<_, _+_, _-_}
+use mathlib.Core.List.{List}
 use mathlib.Core.Bool.{Bool, true, false, cond, _||_, not, _&&_, and-false, or-false, or-true}
 use mathlib.Core.Path.{_≡_, refl, sym, _∙_, ap}
-use Prim.Native.Nat.{ℕ, zero, suc, _<_, _+_, _-_}
 use native.Mathlib.Nat.{zero-add, not-suc-le-zero, le-of-suc-le-suc, eq-or-lt-of-le}
 use native.Mathlib.Omega.{arith}
 use lib.Dec.{ltb, eqb, lit<}
 use borrow.Author.Tests.{le-ltb, lt-ltb, ne-eqb, eqb-true, ltb-true, ltb-false, eq-eqb}
 use mathlib.Core.Logic.{⊎-elim}
-use mathlib.Core.List.{List}
 use native.Mathlib.Numerals.{add-one}
 use lib.IntN.{ℤ, pos}
-use lib.ListN.{replicate, getD, length-replicate, getD-replicate}
-use Rattle.records.specs.Looking.{first, orElse, given, isAt}
+use lib.ListN.{replicate, length-replicate, getD-replicate}
 use Rattle.records.specs.declared.Found.{Found}
 use Rattle.records.specs.declared.Found.the-variants.{Nothing, At}
-use Rattle.bank.specs.Internal.Rates.{lower, badRated, withZone, withZones, lowestBelow}
-use Rattle.records.proofs.LookingLaws.{first-is, first-absent}
+use Rattle.records.specs.Zones.{zoneCount, zoneAt, zoneBelow, firstZone, value, globalOf}
+use Rattle.records.specs.declared.Parts.{Parts}
 use Rattle.records.specs.Sides.{bagOf}
+use Rattle.bank.specs.Internal.Rates.{withZones, lower, badRated, withZone}
+use Rattle.records.specs.Looking.{first, orElse, given, isAt}
+use Rattle.records.proofs.LookingLaws.{first-is, first-absent}
+use Rattle.records.specs.Internal.Amounts.{at, poured}
 use Rattle.arith.specs.Holds.{between}
 use Rattle.records.specs.Headers.{rateOf}
-use Rattle.records.specs.Zones.{zoneAt, zoneCount, zoneBelow, firstZone, value, globalOf}
-use Rattle.records.specs.declared.Parts.{Parts}
 use Rattle.records.specs.declared.Zone.{Zone}
 use Rattle.bank.specs.Rates.{namesSample, badRate}
-use Rattle.records.specs.Internal.Amounts.{poured, at}
 use Rattle.records.proofs.AmountsLaws.{poured-value}
 use Rattle.records.specs.Windows.{placeMoved, startOf, endOf, loopStartOf, loopEndOf, modeOf, goodWindow, movers}
 use Rattle.bank.specs.Internal.Bounds.{badOver}
 use Rattle.bank.specs.Bounds.{badWindow}
+
+-- the lowest sample at fault that an instrument below n names
+unfoldable pub lowestBelow : List ℕ → Parts → ℕ → Found
+lowestBelow b m zero = Nothing
+lowestBelow b m (suc h) = withZones b m (bagOf b (m .instruments) h) (zoneCount b (m .instruments) h) (lowestBelow b m h)
 
 -- two tests that agree on n numbers find the same first
 first-same : (p q : ℕ → Bool) (n : ℕ) → ((k : ℕ) → k < n → q k ≡ p k) → first q 0 n ≡ first p 0 n

@@ -27,7 +27,6 @@ use Rattle.records.specs.declared.Parts.{Parts}
 use Rattle.records.specs.Headers.{sampleAt, rateOf}
 use Rattle.arith.specs.Holds.{between}
 use Rattle.records.specs.Windows.{startOf, endOf, loopStartOf, loopEndOf, modeOf, loops, goodPlaces, goodWindow, movers}
-use Rattle.records.specs.declared.Zone.{Zone}
 use Rattle.records.proofs.ChunksLaws.{chunk-up}
 use Rattle.bank.specs.Indexes as BankIndexes
 use Rattle.bank.specs.Framing as BankFraming

@@ -11,7 +11,6 @@ use Rattle.records.specs.Zones.{zoneAt, globalOf}
 use Rattle.records.specs.declared.Side.{Side}
 use Rattle.records.specs.Windows.{startOf, endOf, loopStartOf, loopEndOf, modeOf, loops, movers}
 use Rattle.records.specs.declared.Parts.{Parts}
-use Rattle.records.specs.declared.Zone.{Zone}
 use Rattle.records.specs.Headers.{rateOf}
 use Rattle.records.specs.Chunks.{names, sizes, leasts, chunkAt, nameAt, bytesIn, records}
 

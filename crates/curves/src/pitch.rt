@@ -1,7 +1,8 @@
 // Pitch: the cents of a bend, and the step of a pitch total.
 ghost use mathlib.Core.Path.{_≡_};
 ghost use Rattle.curves.specs.Octave.{octaves};
-ghost use Rattle.curves.specs.Pitch.{bendCents, stepAt};
+ghost use Rattle.curves.specs.Pitch.{bendCents};
+ghost use Rattle.curves.specs.Internal.Pitch.{stepAt};
 use crate::OctaveTable;
 use crate::octave::entry;
 use crate::octave::lift;

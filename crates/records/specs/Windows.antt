@@ -7,10 +7,10 @@ use lib.Dec.{eqb}
 use lib.Signed.{ltZ, leZ}
 use Rattle.arith.specs.Bytes.{u32At}
 use Rattle.records.specs.Headers.{sampleAt}
-use Rattle.records.specs.Zones.{value}
 use Rattle.records.specs.declared.Parts.{Parts}
-use Rattle.records.specs.declared.Zone.{Zone}
 use Rattle.arith.specs.Floors.{modZ}
+use Rattle.records.specs.Zones.{value}
+use Rattle.records.specs.declared.Zone.{Zone}
 
 -- a place, plus a fine amount, plus 32,768 times a coarse amount
 unfoldable pub shifted : ℕ → ℤ → ℤ → ℤ

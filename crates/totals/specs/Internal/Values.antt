@@ -4,7 +4,7 @@ use Prim.Native.Nat.{ℕ, zero, suc}
 use lib.IntN.{ℤ, pos}
 use lib.ListN.{replicate}
 use Rattle.totals.specs.Values.{totalOf, defaultOf}
-use Rattle.records.specs.Internal.Amounts.{poured, at}
+use Rattle.records.specs.Internal.Amounts.{at, poured}
 use Rattle.records.specs.declared.Parts.{Parts}
 use Rattle.totals.specs.declared.Layer.{Layer}
 

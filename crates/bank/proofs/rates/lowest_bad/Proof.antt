@@ -3,8 +3,7 @@ use borrow.Author.Needs.{needs}
 use mathlib.Core.Path.{_≡_, sym, _∙_}
 use native.Mathlib.Omega.{arith}
 use Prim.Native.Nat.{_-_, _≤_}
-use Rattle.bank.specs.Internal.Rates.{lowestBelow}
-use Rattle.bank.proofs.OnePassLaws.{lowest-none, lowest-next, lowest-is}
+use Rattle.bank.proofs.OnePassLaws.{lowestBelow, lowest-none, lowest-next, lowest-is}
 use Rattle.bank.proofs.rates.lowest_bad.Statement.{statement}
 use Rattle.bank.proofs.rates.lowest_bad.Tie as tie
 
