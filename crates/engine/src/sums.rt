@@ -10,6 +10,8 @@ ghost use Rattle.state.specs.Slots.{slotsOf};
 ghost use Rattle.engine.specs.Rendering.{slotAfter, played};
 ghost use Rattle.engine.specs.Internal.Sums.{slotHeard, addAll, mixedTo};
 use crate::mixer::mix;
+use curves::GainTable;
+use curves::OctaveTable;
 use records::window_of;
 use state::Engine;
 use state::channel_of;
@@ -22,8 +24,8 @@ use voice::run;
 // n frames of a slot into the sums; a free one is skipped.
 fn run_slot<'a>(
     e: Engine,
-    g: &[u32; 1441],
-    o: &[u32; 1200],
+    g: &GainTable,
+    o: &OctaveTable,
     ram: &'a [i16],
     rom: &'a [i16],
     s: Slot,
@@ -48,8 +50,8 @@ fn run_slot<'a>(
 // n frames of all slots into the sums.
 pub fn run_all<'a>(
     e: Engine,
-    g: &[u32; 1441],
-    o: &[u32; 1200],
+    g: &GainTable,
+    o: &OctaveTable,
     ram: &'a [i16],
     rom: &'a [i16],
     acc: &mut [i32],

@@ -6,6 +6,7 @@ ghost use Rattle.voice.specs.Release.{release};
 ghost use Rattle.events.specs.Keys.{held, heldKey, pedalDown, mark, letOff, offKey, noteOff, pedalHeld};
 ghost use Rattle.events.specs.Internal.Keys.{picked, offAll};
 use crate::Whom;
+use curves::GainTable;
 use curves::gains;
 use state::Answered;
 use state::Engine;
@@ -70,7 +71,7 @@ fn is_picked(s: Slot, channel: u8, whom: Whom) -> bool
 }
 
 // Marked while the pedal is down, else released.
-fn off_voice(v: Voice, down: bool, g: &[u32; 1441]) -> Voice
+fn off_voice(v: Voice, down: bool, g: &GainTable) -> Voice
     requires { ⌜ now g ≡ gains ⌝ }
     ensures { λ r. ⌜ r ≡ cond down (mark v) (release v) ⌝ }
 {
@@ -82,7 +83,7 @@ fn off_voice(v: Voice, down: bool, g: &[u32; 1441]) -> Voice
 }
 
 // The slot let off where it is picked.
-fn off_one(s: Slot, channel: u8, whom: Whom, down: bool, g: &[u32; 1441]) -> Slot
+fn off_one(s: Slot, channel: u8, whom: Whom, down: bool, g: &GainTable) -> Slot
     requires { ⌜ now g ≡ gains ⌝ }
     ensures { λ r. ⌜ r ≡ letOff down (picked channel whom) s ⌝ }
 {
@@ -103,7 +104,7 @@ fn one_if(b: bool) -> u32
 }
 
 // All that are picked let off, and how many they were.
-pub fn off_all(e: Engine, channel: u8, whom: Whom, down: bool, g: &[u32; 1441]) -> Answered
+pub fn off_all(e: Engine, channel: u8, whom: Whom, down: bool, g: &GainTable) -> Answered
     requires { ⌜ now g ≡ gains ⌝ }
     ensures { λ r. ⌜ r ≡ offAll channel whom down e ⌝ }
 {

@@ -10,9 +10,11 @@ use crate::lists::cents_at;
 use crate::lists::level_at;
 use crate::lists::rate_at;
 use crate::lists::time_at;
+use curves::GainTable;
+use curves::OctaveTable;
 
 // The step of a pitch at a rate.
-fn step_line(t: &[u32; 1200], cents: i32, rate: u16)
+fn step_line(t: &OctaveTable, cents: i32, rate: u16)
     requires { ⌜ now t ≡ octaves ⌝ }
 {
     io::write_all(1, b"step ");
@@ -21,7 +23,7 @@ fn step_line(t: &[u32; 1200], cents: i32, rate: u16)
 }
 
 // The steps of a pitch at each rate.
-fn steps_at(t: &[u32; 1200], cents: i32)
+fn steps_at(t: &OctaveTable, cents: i32)
     requires { ⌜ now t ≡ octaves ⌝ }
 {
     let mut i: usize = 0;
@@ -32,7 +34,7 @@ fn steps_at(t: &[u32; 1200], cents: i32)
 }
 
 // The steps of each pitch.
-pub fn steps(t: &[u32; 1200])
+pub fn steps(t: &OctaveTable)
     requires { ⌜ now t ≡ octaves ⌝ }
 {
     let mut i: usize = 0;
@@ -43,7 +45,7 @@ pub fn steps(t: &[u32; 1200])
 }
 
 // The frames of a time, with either upper hold.
-fn time_lines(t: &[u32; 1200], time: i32)
+fn time_lines(t: &OctaveTable, time: i32)
     requires { ⌜ now t ≡ octaves ⌝ }
 {
     line(b"frames ", time, curves::long_frames(t, time));
@@ -51,7 +53,7 @@ fn time_lines(t: &[u32; 1200], time: i32)
 }
 
 // The frames of each time.
-pub fn times(t: &[u32; 1200])
+pub fn times(t: &OctaveTable)
     requires { ⌜ now t ≡ octaves ⌝ }
 {
     let mut i: usize = 0;
@@ -62,7 +64,7 @@ pub fn times(t: &[u32; 1200])
 }
 
 // The gains, and five past the last.
-pub fn gains(g: &[u32; 1441])
+pub fn gains(g: &GainTable)
     requires { ⌜ now g ≡ gains ⌝ }
 {
     let mut a: u32 = 0;
@@ -82,7 +84,7 @@ pub fn attenuations(name: &[u8], first: u8) {
 }
 
 // The least attenuation for a level.
-fn level_line(g: &[u32; 1441], level: u32)
+fn level_line(g: &GainTable, level: u32)
     requires { ⌜ now g ≡ gains ⌝ }
 {
     io::write_all(1, b"least ");
@@ -93,7 +95,7 @@ fn level_line(g: &[u32; 1441], level: u32)
 }
 
 // The least attenuation for each level.
-pub fn levels(g: &[u32; 1441])
+pub fn levels(g: &GainTable)
     requires { ⌜ now g ≡ gains ⌝ }
 {
     let mut i: usize = 0;

@@ -35,6 +35,8 @@ use crate::stretch::glide;
 use crate::stretch::limit_of;
 use crate::with_moved;
 use arith::least;
+use curves::GainTable;
+use curves::OctaveTable;
 use curves::gain;
 
 // A slot that adds nothing.
@@ -49,7 +51,7 @@ fn silent_at(s: Slot) -> Framed
 }
 
 // One frame of a slot whose step is st and whose loss is l.
-pub fn frame_at(st: u32, l: i64, g: &[u32; 1441], w: &[i16], s: Slot) -> Framed
+pub fn frame_at(st: u32, l: i64, g: &GainTable, w: &[i16], s: Slot) -> Framed
     requires { ⌜ (now g ≡ gains) × Within l 1099511627776 ⌝ }
     ensures { λ r. ⌜ (r ≡ frameAt st l (now (w .entry)) s) × Within (r .left) 25600003 × Within (r .right) 25600003 ⌝ }
 {
@@ -105,7 +107,7 @@ fn ahead(v: Voice, s: Stage, limit: u64, most: usize) -> usize
 }
 
 // One frame of a slot, into frame k of the sums.
-fn one(st: u32, l: i64, g: &[u32; 1441], w: &[i16], s: Slot, acc: &mut [i32], k: usize) -> Went
+fn one(st: u32, l: i64, g: &GainTable, w: &[i16], s: Slot, acc: &mut [i32], k: usize) -> Went
     requires tables { ⌜ now g ≡ gains ⌝ }
     requires loss { ⌜ Within l 1099511627776 ⌝ }
     requires sums { ⌜ (2 * k + 1 < length (now acc)) × From (2 * k) (now acc) ⌝ }
@@ -124,7 +126,7 @@ fn one(st: u32, l: i64, g: &[u32; 1441], w: &[i16], s: Slot, acc: &mut [i32], k:
 fn go(
     st: u32,
     l: i64,
-    g: &[u32; 1441],
+    g: &GainTable,
     w: &[i16],
     s: Slot,
     acc: &mut [i32],
@@ -164,7 +166,7 @@ fn go(
 pub fn run_at(
     st: u32,
     l: i64,
-    g: &[u32; 1441],
+    g: &GainTable,
     w: &[i16],
     s0: Slot,
     acc: &mut [i32],
@@ -192,8 +194,8 @@ pub fn run_at(
 // n frames of a slot, with its channel's bend, 7 and 11 as they stand.
 pub fn run(
     c: Channel,
-    g: &[u32; 1441],
-    o: &[u32; 1200],
+    g: &GainTable,
+    o: &OctaveTable,
     w: &[i16],
     s: Slot,
     acc: &mut [i32],

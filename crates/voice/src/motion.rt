@@ -16,6 +16,7 @@ use crate::stages::is_released;
 use crate::with_moved;
 use arith::hold;
 use arith::less;
+use curves::OctaveTable;
 use curves::bend_cents;
 
 // The pitch total, held to -9,600..4,800.
@@ -34,7 +35,7 @@ fn tuned(pitch: i32, bend: u16) -> i32
 }
 
 // The voice's step at a bend.
-pub fn step_of(v: Voice, bend: u16, o: &[u32; 1200]) -> u32
+pub fn step_of(v: Voice, bend: u16, o: &OctaveTable) -> u32
     requires { ⌜ now o ≡ octaves ⌝ }
     ensures { λ r. ⌜ r ≡ stepAt (v .pitch +ℤ bendCents bend) (v .rate) ⌝ }
 {

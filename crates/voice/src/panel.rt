@@ -13,6 +13,7 @@ use crate::stages::decay_at;
 use crate::stages::level_at;
 use crate::stages::release_at;
 use crate::stages::wide;
+use curves::GainTable;
 use curves::gain;
 
 // n / 2^24, exactly.
@@ -24,7 +25,7 @@ fn level_unit(n: u32) -> f32
 }
 
 // A stage, with its level or its envelope's gain as a fraction of full.
-fn show_stage(v: Voice, s: Stage, g: &[u32; 1441]) -> Shown
+fn show_stage(v: Voice, s: Stage, g: &GainTable) -> Shown
     requires { ⌜ now g ≡ gains ⌝ }
     ensures { λ r. ⌜ r ≡ stageShown v s ⌝ }
 {
@@ -47,7 +48,7 @@ fn show_stage(v: Voice, s: Stage, g: &[u32; 1441]) -> Shown
 }
 
 // The gain of a cB, as a fraction of full.
-fn gain_unit(g: &[u32; 1441], a: u64) -> f32
+fn gain_unit(g: &GainTable, a: u64) -> f32
     requires { ⌜ now g ≡ gains ⌝ }
     ensures { λ r. ⌜ r ≡ levelOf (gainOf a) ⌝ }
 {
@@ -55,7 +56,7 @@ fn gain_unit(g: &[u32; 1441], a: u64) -> f32
 }
 
 // What the panel is told of a slot.
-pub fn show(s: Slot, g: &[u32; 1441]) -> Shown
+pub fn show(s: Slot, g: &GainTable) -> Shown
     requires { ⌜ now g ≡ gains ⌝ }
     ensures { λ r. ⌜ r ≡ shown s ⌝ }
 {

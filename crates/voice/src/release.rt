@@ -7,10 +7,11 @@ use crate::Voice;
 use crate::stages::decay_at;
 use crate::stages::level_at;
 use crate::with_moved;
+use curves::GainTable;
 use curves::least_cb;
 
 // The stage at release.
-fn let_go(v: Voice, s: Stage, g: &[u32; 1441]) -> Stage
+fn let_go(v: Voice, s: Stage, g: &GainTable) -> Stage
     requires { ⌜ now g ≡ gains ⌝ }
     ensures { λ r. ⌜ r ≡ letGo v s ⌝ }
 {
@@ -34,7 +35,7 @@ fn let_go(v: Voice, s: Stage, g: &[u32; 1441]) -> Stage
 }
 
 // The voice released, its mark taken away.
-pub fn let_off(v: Voice, g: &[u32; 1441]) -> Voice
+pub fn let_off(v: Voice, g: &GainTable) -> Voice
     requires { ⌜ now g ≡ gains ⌝ }
     ensures { λ r. ⌜ r ≡ release v ⌝ }
 {

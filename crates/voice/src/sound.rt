@@ -14,6 +14,7 @@ use crate::reading::read;
 use crate::stages::envelope_of;
 use crate::stages::level_at;
 use arith::hold;
+use curves::GainTable;
 use curves::cb_of;
 use curves::gain;
 
@@ -107,7 +108,7 @@ pub fn to_right(u: i64, p: i16) -> i32
 }
 
 // The reading at its gain, and in attack at its level.
-pub fn loud_of(l: i64, g: &[u32; 1441], w: &[i16], v: Voice, s: Stage) -> i64
+pub fn loud_of(l: i64, g: &GainTable, w: &[i16], v: Voice, s: Stage) -> i64
     requires { ⌜ (now g ≡ gains) × Within l 1099511627776 ⌝ }
     ensures { λ r. ⌜ (r ≡ loud l (now (w .entry)) v s) × Within r 25600002 ⌝ }
 {

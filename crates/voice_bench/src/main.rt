@@ -5,6 +5,8 @@ ghost use lib.ListN.{length};
 ghost use Rattle.curves.specs.Levels.{gains};
 ghost use Rattle.curves.specs.Octave.{octaves};
 ghost use Rattle.voice.specs.Internal.Sums.{Small};
+use curves::GainTable;
+use curves::OctaveTable;
 use voice::Channel;
 use voice::Slot;
 use voice::Stage;
@@ -144,7 +146,7 @@ fn weigh(acc: &[i32]) -> u64
 }
 
 // One round into the sums.
-fn round(g: &[u32; 1441], o: &[u32; 1200], w: &[i16], acc: &mut [i32], r: u64) -> u64
+fn round(g: &GainTable, o: &OctaveTable, w: &[i16], acc: &mut [i32], r: u64) -> u64
     requires { ⌜ (now g ≡ gains) × (now o ≡ octaves) × (8192 ≤ length (now acc)) × Small 0 (now acc) ⌝ }
 {
     let c = Channel {
@@ -168,7 +170,7 @@ fn round(g: &[u32; 1441], o: &[u32; 1200], w: &[i16], acc: &mut [i32], r: u64) -
 }
 
 // One round, from sums of zeros.
-fn one(g: &[u32; 1441], o: &[u32; 1200], w: &[i16], r: u64) -> u64
+fn one(g: &GainTable, o: &OctaveTable, w: &[i16], r: u64) -> u64
     requires { ⌜ (now g ≡ gains) × (now o ≡ octaves) ⌝ }
 {
     let mut acc = [0i32; 8192];
