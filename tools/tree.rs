@@ -81,6 +81,12 @@ fn read_specs(krate: &str, path: &Path) -> Specs {
     Specs { krate: krate.to_string(), path: path.to_string_lossy().to_string(), module, table, definitions, uses }
 }
 
+/// The files of a crate's definitions in the order in which its root names them, which is the order to read them in.
+fn order_of(krate: &str) -> Vec<String> {
+    let root = std::fs::read_to_string(format!("crates/{krate}/specs/Lib.antt")).unwrap_or_default();
+    root.lines().filter_map(|line| line.strip_prefix("pub mod ")).map(str::to_string).collect()
+}
+
 impl Tree {
     /// Reads the repository that it is run in.
     pub fn load() -> Tree {
@@ -90,7 +96,8 @@ impl Tree {
             let found = files(&format!("crates/{krate}/specs"), "antt");
             let mut these: Vec<Specs> = found.iter().map(|path| read_specs(krate, path)).collect();
             these.retain(|file| file.module != "Lib" && file.module != "Internal");
-            these.sort_by_key(|file| (file.internal(), file.module.clone()));
+            let order = order_of(krate);
+            these.sort_by_key(|file| (file.internal(), order.iter().position(|name| *name == file.module)));
             specs.extend(these);
             sources.extend(
                 files(&format!("crates/{krate}/src"), "rt").iter().map(|path| source::read_source(krate, path)),

@@ -1,8 +1,8 @@
 pub mod Bytes
-pub mod Floats
 pub mod Floors
 pub mod Holds
+pub mod Words
 pub mod Lists
 pub mod Within
-pub mod Words
+pub mod Floats
 pub mod Internal

@@ -18,7 +18,7 @@ use Rattle.records.specs.Chunks.{chunkAt}
 use Rattle.records.specs.Sides.{bagOf, genOf, modOf, partsOf}
 use Rattle.records.specs.declared.Side.{Side}
 use Rattle.arith.specs.Holds.{word32}
-use Rattle.records.specs.Windows.{startOf, endOf, loopStartOf, loopEndOf, modeOf, loops}
+use Rattle.records.specs.Windows.{startOf, endOf, loopStartOf, loopEndOf, modeOf, loops, movers}
 use Rattle.records.specs.declared.Parts.{Parts}
 use Rattle.records.specs.declared.Zone.{Zone}
 use Rattle.records.specs.Headers.{rateOf}
@@ -60,9 +60,6 @@ module _ {index : ℕ → ℕ} {n m : ℕ} (r : Rising index n m) where
       let last : i + (n - 1 - i) ≡ n - 1 = omega arith in
       let below : index i ≤ index (n - 1) = rw last at (up i (n - 1 - i) (omega arith)) in
       omega (arith, r .ends (n - 1) (omega arith))
-
-  pub index-up : (i j : ℕ) → i ≤ j → j < n → index i ≤ index j
-  index-up i j h l = let e : i + (j - i) ≡ j = omega arith in rw e at (up i (j - i) (omega arith))
 
 module _ {b : List ℕ} {s : Side} (g : GoodSide b s) where
   -- the bag index of a head; the generator and the modulator index of a bag
@@ -125,29 +122,25 @@ le-le (negsuc a) (negsuc c) (pos d) h k = record { le = tt }
 le-le (negsuc a) (negsuc c) (negsuc d) h k = record { le = le→leb d a (omega (arith, leb→le c a (h .le), leb→le d c (k .le))) }
 
 -- a good window as numbers of 32 bits
-pub record WindowWords (b : List ℕ) (m : Parts) (local global : Zone) : Type 0 where
-  pub start-is : pos (word32 (startOf b m local global)) ≡ startOf b m local global
-  pub end-is : pos (word32 (endOf b m local global)) ≡ endOf b m local global
-  pub some : word32 (startOf b m local global) < word32 (endOf b m local global)
-  pub high : word32 (endOf b m local global) < 4294967296
-  pub loop-start-is : loops (modeOf b m local global) ≡ true → pos (word32 (loopStartOf b m local global)) ≡ loopStartOf b m local global
-  pub loop-end-is : loops (modeOf b m local global) ≡ true → pos (word32 (loopEndOf b m local global)) ≡ loopEndOf b m local global
-  pub loop-low : loops (modeOf b m local global) ≡ true → word32 (startOf b m local global) ≤ word32 (loopStartOf b m local global)
-  pub loop-some : loops (modeOf b m local global) ≡ true → word32 (loopStartOf b m local global) < word32 (loopEndOf b m local global)
-  pub loop-high : loops (modeOf b m local global) ≡ true → word32 (loopEndOf b m local global) ≤ word32 (endOf b m local global)
+pub record WindowWords (b : List ℕ) (m : Parts) (k : ℕ) (v : ℕ → ℤ) : Type 0 where
+  pub some : word32 (startOf b m k v) < word32 (endOf b m k v)
+  pub high : word32 (endOf b m k v) < 4294967296
+  pub loop-low : loops (modeOf v) ≡ true → word32 (startOf b m k v) ≤ word32 (loopStartOf b m k v)
+  pub loop-some : loops (modeOf v) ≡ true → word32 (loopStartOf b m k v) < word32 (loopEndOf b m k v)
+  pub loop-high : loops (modeOf v) ≡ true → word32 (loopEndOf b m k v) ≤ word32 (endOf b m k v)
 
-module _ {b : List ℕ} {m : Parts} {local global : Zone} (w : GoodWindow b m local global) where
+module _ {b : List ℕ} {m : Parts} {k : ℕ} {v : ℕ → ℤ} (w : GoodWindow b m k v) where
   abbrev start : ℤ
-  start = startOf b m local global
+  start = startOf b m k v
 
   abbrev end : ℤ
-  end = endOf b m local global
+  end = endOf b m k v
 
   abbrev loop-start : ℤ
-  loop-start = loopStartOf b m local global
+  loop-start = loopStartOf b m k v
 
   abbrev loop-end : ℤ
-  loop-end = loopEndOf b m local global
+  loop-end = loopEndOf b m k v
 
   start-word : Word start
   start-word = record { low = w .low; high = le-lt start end (pos 4294967296) (lt-le start end (w .some)) (w .high) }
@@ -155,29 +148,25 @@ module _ {b : List ℕ} {m : Parts} {local global : Zone} (w : GoodWindow b m lo
   end-word : Word end
   end-word = record { low = le-le (pos 0) start end (w .low) (lt-le start end (w .some)); high = w .high }
 
-  loop-start-word : loops (modeOf b m local global) ≡ true → Word loop-start
+  loop-start-word : loops (modeOf v) ≡ true → Word loop-start
   loop-start-word l =
       record {
         low = le-le (pos 0) start loop-start (w .low) (w .loop-low l);
         high = le-lt loop-start end (pos 4294967296) (le-le loop-start loop-end end (lt-le loop-start loop-end (w .loop-some l)) (w .loop-high l)) (w .high);
       }
 
-  loop-end-word : loops (modeOf b m local global) ≡ true → Word loop-end
+  loop-end-word : loops (modeOf v) ≡ true → Word loop-end
   loop-end-word l =
       record {
         low = le-le (pos 0) loop-start loop-end (loop-start-word l .low) (lt-le loop-start loop-end (w .loop-some l));
         high = le-lt loop-end end (pos 4294967296) (w .loop-high l) (w .high);
       }
 
-  pub window-words : WindowWords b m local global
+  pub window-words : WindowWords b m k v
   window-words =
       record {
-        start-is = word-same start start-word;
-        end-is = word-same end end-word;
         some = word-lt start end start-word end-word (w .some);
         high = below (word32 end) (rw (word-same end end-word) (w .high));
-        loop-start-is = λ l. word-same loop-start (loop-start-word l);
-        loop-end-is = λ l. word-same loop-end (loop-end-word l);
         loop-low = λ l. word-le start loop-start start-word (loop-start-word l) (w .loop-low l);
         loop-some = λ l. word-lt loop-start loop-end (loop-start-word l) (loop-end-word l) (w .loop-some l);
         loop-high = λ l. word-le loop-end end (loop-end-word l) end-word (w .loop-high l);
@@ -201,7 +190,7 @@ module _ {b : List ℕ} (a : Admitted b) {h z : ℕ} (w : Sounding b (partsOf b 
   pub rate-in : (400 ≤ rateOf b (partsOf b) (local .link)) × (rateOf b (partsOf b) (local .link) ≤ 50000)
   rate-in = (a .sounds .rate-low h z w, a .sounds .rate-high h z w)
 
-  pub window-in : WindowWords b (partsOf b) local global
+  pub window-in : WindowWords b (partsOf b) (local .link) (movers b (partsOf b) local global)
   window-in = window-words (a .sounds .windows h z w)
 
 -- a sounding preset zone of an admitted bank names an instrument

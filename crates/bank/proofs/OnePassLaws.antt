@@ -1,33 +1,38 @@
 -- One pass over the zones finds what the tests 6 and 7 of Admission look for.
+use Prim.Native.Nat.{ℕ, zero, suc, _<_, _+_, _-_}
+use mathlib.Core.List.{List}
 use mathlib.Core.Bool.{Bool, true, false, cond, _||_, not, _&&_, and-false, or-false, or-true}
 use mathlib.Core.Path.{_≡_, refl, sym, _∙_, ap}
-use Prim.Native.Nat.{ℕ, zero, suc, _<_, _+_, _-_}
 use native.Mathlib.Nat.{zero-add, not-suc-le-zero, le-of-suc-le-suc, eq-or-lt-of-le}
 use native.Mathlib.Omega.{arith}
 use lib.Dec.{ltb, eqb, lit<}
 use borrow.Author.Tests.{le-ltb, lt-ltb, ne-eqb, eqb-true, ltb-true, ltb-false, eq-eqb}
 use mathlib.Core.Logic.{⊎-elim}
-use mathlib.Core.List.{List}
 use native.Mathlib.Numerals.{add-one}
 use lib.IntN.{ℤ, pos}
-use lib.ListN.{replicate, getD, length-replicate, getD-replicate}
-use Rattle.records.specs.Looking.{first, orElse, given, isAt}
+use lib.ListN.{replicate, length-replicate, getD-replicate}
 use Rattle.records.specs.declared.Found.{Found}
 use Rattle.records.specs.declared.Found.the-variants.{Nothing, At}
-use Rattle.bank.specs.Internal.Rates.{lower, badRated, withZone, withZones, lowestBelow}
-use Rattle.records.proofs.LookingLaws.{first-is, first-absent}
+use Rattle.records.specs.Zones.{zoneCount, zoneAt, zoneBelow, firstZone, value, globalOf}
+use Rattle.records.specs.declared.Parts.{Parts}
 use Rattle.records.specs.Sides.{bagOf}
+use Rattle.bank.specs.Internal.Rates.{withZones, lower, badRated, withZone}
+use Rattle.records.specs.Looking.{first, orElse, given, isAt}
+use Rattle.records.proofs.LookingLaws.{first-is, first-absent}
+use Rattle.records.specs.Internal.Amounts.{at, poured}
 use Rattle.arith.specs.Holds.{between}
 use Rattle.records.specs.Headers.{rateOf}
-use Rattle.records.specs.Zones.{zoneAt, zoneCount, zoneBelow, firstZone, value, globalOf}
-use Rattle.records.specs.declared.Parts.{Parts}
 use Rattle.records.specs.declared.Zone.{Zone}
 use Rattle.bank.specs.Rates.{namesSample, badRate}
-use Rattle.records.specs.Internal.Amounts.{poured}
 use Rattle.records.proofs.AmountsLaws.{poured-value}
-use Rattle.records.specs.Windows.{placeMoved, startOf, endOf, loopStartOf, loopEndOf, modeOf, goodWindow}
-use Rattle.bank.specs.Internal.Bounds.{movedBy, goodAmounts, badOver}
+use Rattle.records.specs.Windows.{placeMoved, startOf, endOf, loopStartOf, loopEndOf, modeOf, goodWindow, movers}
+use Rattle.bank.specs.Internal.Bounds.{badOver}
 use Rattle.bank.specs.Bounds.{badWindow}
+
+-- the lowest sample at fault that an instrument below n names
+unfoldable pub lowestBelow : List ℕ → Parts → ℕ → Found
+lowestBelow b m zero = Nothing
+lowestBelow b m (suc h) = withZones b m (bagOf b (m .instruments) h) (zoneCount b (m .instruments) h) (lowestBelow b m h)
 
 -- two tests that agree on n numbers find the same first
 first-same : (p q : ℕ → Bool) (n : ℕ) → ((k : ℕ) → k < n → q k ≡ p k) → first q 0 n ≡ first p 0 n
@@ -174,21 +179,21 @@ module _ (b : List ℕ) (m : Parts) (local global : Zone) where
   amounts : List ℤ
   amounts = poured b (m .instruments) local (poured b (m .instruments) global blank)
 
-  at : (o : ℕ) → o < 61 → getD amounts o (pos 0) ≡ value b (m .instruments) local global (pos 0) o
+  poured-is : (o : ℕ) → o < 61 → at amounts o ≡ value b (m .instruments) local global (pos 0) o
   unfolding amounts
-  at o h =
+  poured-is o h =
       poured-value b (m .instruments) local global blank o (pos 0) (rw (length-replicate 61 (pos 0)) h)
       ∙ ap (λ (d : ℤ). value b (m .instruments) local global d o) (getD-replicate 61 o (pos 0) (pos 0) h)
 
-  by : (offset fine coarse : ℕ) → fine < 61 → coarse < 61 → movedBy b m (local .link) amounts offset fine coarse ≡ placeMoved b m local global offset fine coarse
-  unfolding movedBy placeMoved
-  by offset fine coarse f c = rw (at fine f, at coarse c) refl
+  by : (offset fine coarse : ℕ) → fine < 61 → coarse < 61 → placeMoved b m (local .link) (at amounts) offset fine coarse ≡ placeMoved b m (local .link) (movers b m local global) offset fine coarse
+  unfolding placeMoved
+  by offset fine coarse f c = rw (poured-is fine f, poured-is coarse c) refl
 
   -- a window by the amounts that were poured is the window by values
-  good-poured : goodAmounts b m (local .link) (poured b (m .instruments) local (poured b (m .instruments) global blank)) ≡ goodWindow b m local global
-  unfolding goodAmounts goodWindow startOf endOf loopStartOf loopEndOf modeOf amounts
+  good-poured : goodWindow b m (local .link) (at (poured b (m .instruments) local (poured b (m .instruments) global blank))) ≡ goodWindow b m (local .link) (movers b m local global)
+  unfolding goodWindow startOf endOf loopStartOf loopEndOf modeOf amounts
   good-poured =
-      rw (by 20 0 4 (lit< tt) (lit< tt), by 24 1 12 (lit< tt) (lit< tt), by 28 2 45 (lit< tt) (lit< tt), by 32 3 50 (lit< tt) (lit< tt), at 54 (lit< tt)) refl
+      rw (by 20 0 4 (lit< tt) (lit< tt), by 24 1 12 (lit< tt) (lit< tt), by 28 2 45 (lit< tt) (lit< tt), by 32 3 50 (lit< tt) (lit< tt), poured-is 54 (lit< tt)) refl
 
 pub bad-over : (b : List ℕ) (m : Parts) (h z : ℕ) → badOver b m (poured b (m .instruments) (globalOf b (m .instruments) h) blank) z ≡ badWindow b m h z
 unfolding badOver badWindow

@@ -26,8 +26,7 @@ use Rattle.records.specs.Chunks.{records, names, chunkAt, nameAt, sizes, leasts
 use Rattle.records.specs.declared.Parts.{Parts}
 use Rattle.records.specs.Headers.{sampleAt, rateOf}
 use Rattle.arith.specs.Holds.{between}
-use Rattle.records.specs.Windows.{startOf, endOf, loopStartOf, loopEndOf, modeOf, loops, goodPlaces, goodWindow}
-use Rattle.records.specs.declared.Zone.{Zone}
+use Rattle.records.specs.Windows.{startOf, endOf, loopStartOf, loopEndOf, modeOf, loops, goodPlaces, goodWindow, movers}
 use Rattle.records.proofs.ChunksLaws.{chunk-up}
 use Rattle.bank.specs.Indexes as BankIndexes
 use Rattle.bank.specs.Framing as BankFraming
@@ -218,14 +217,14 @@ le-yes x y e = record { le = subst (λ (t : Bool). T t) (sym e) tt }
 lt-yes : (x y : ℤ) → ltZ x y ≡ true → x <ℤ y
 lt-yes x y e = record { lt = subst (λ (t : Bool). T t) (sym e) tt }
 
-good-window : (b : List ℕ) (m : Parts) (local global : Zone) → goodWindow b m local global ≡ true → GoodWindow b m local global
+good-window : (b : List ℕ) (m : Parts) (k : ℕ) (v : ℕ → ℤ) → goodWindow b m k v ≡ true → GoodWindow b m k v
 unfolding goodWindow goodPlaces
-good-window b m local global e =
-    let start = startOf b m local global in
-    let end = endOf b m local global in
-    let from = loopStartOf b m local global in
-    let to = loopEndOf b m local global in
-    let l = loops (modeOf b m local global) in
+good-window b m k v e =
+    let start = startOf b m k v in
+    let end = endOf b m k v in
+    let from = loopStartOf b m k v in
+    let to = loopEndOf b m k v in
+    let l = loops (modeOf v) in
     let inner = leZ start from && ltZ from to && leZ to end in
     let r3 = and-true (leZ (pos 0) start && ltZ start end && ltZ end (pos 4294967296)) (not l || inner) e in
     let r2 = and-true (leZ (pos 0) start && ltZ start end) (ltZ end (pos 4294967296)) (r3 .0) in
@@ -248,12 +247,12 @@ good-sounds b m rate window side =
       windows = windows;
     }
   where
-    windows : (h z : ℕ) → Sounding b (m .instruments) h z → GoodWindow b m (zoneAt b (m .instruments) z) (globalOf b (m .instruments) h)
+    windows : (h z : ℕ) → Sounding b (m .instruments) h z → GoodWindow b m (zoneAt b (m .instruments) z .link) (movers b m (zoneAt b (m .instruments) z) (globalOf b (m .instruments) h))
     windows h z w =
         let s = m .instruments in
-        let t = goodWindow b m (zoneAt b s z) (globalOf b s h) in
+        let t = goodWindow b m (zoneAt b s z .link) (movers b m (zoneAt b s z) (globalOf b s h)) in
         let f = no-zone b s (BankBounds.badWindow b m) (placed-none (BankLinks.zoneLinkAt b s) (firstZone b s (BankBounds.badWindow b m)) window) h z w in
-        good-window b m (zoneAt b s z) (globalOf b s h) (not-false t (and-left (zoneAt b s z .sounding) (not t) f (w .sounds)))
+        good-window b m (zoneAt b s z .link) (movers b m (zoneAt b s z) (globalOf b s h)) (not-false t (and-left (zoneAt b s z .sounding) (not t) f (w .sounds)))
 
 -- a bank in which no fault is found obeys every rule
 pub fine-rules : (b : List ℕ) → Admission.faultOf b ≡ Fine → Admitted b
@@ -402,29 +401,29 @@ test : (t : Bool) → T t → t ≡ true
 test true x = refl
 test false x = absurd x
 
-window-good : (b : List ℕ) (m : Parts) (local global : Zone) → GoodWindow b m local global → goodWindow b m local global ≡ true
+window-good : (b : List ℕ) (m : Parts) (k : ℕ) (v : ℕ → ℤ) → GoodWindow b m k v → goodWindow b m k v ≡ true
 unfolding goodWindow goodPlaces
-window-good b m local global g =
-    let start = startOf b m local global in
-    let end = endOf b m local global in
-    let from = loopStartOf b m local global in
-    let to = loopEndOf b m local global in
-    rw (test (leZ (pos 0) start) (g .low .le), test (ltZ start end) (g .some .lt), test (ltZ end (pos 4294967296)) (g .high .lt)) (go (loops (modeOf b m local global)) refl)
+window-good b m k v g =
+    let start = startOf b m k v in
+    let end = endOf b m k v in
+    let from = loopStartOf b m k v in
+    let to = loopEndOf b m k v in
+    rw (test (leZ (pos 0) start) (g .low .le), test (ltZ start end) (g .some .lt), test (ltZ end (pos 4294967296)) (g .high .lt)) (go (loops (modeOf v)) refl)
   where
-    go : (l : Bool) → loops (modeOf b m local global) ≡ l → (not l || leZ (startOf b m local global) (loopStartOf b m local global) && ltZ (loopStartOf b m local global) (loopEndOf b m local global) && leZ (loopEndOf b m local global) (endOf b m local global)) ≡ true
+    go : (l : Bool) → loops (modeOf v) ≡ l → (not l || leZ (startOf b m k v) (loopStartOf b m k v) && ltZ (loopStartOf b m k v) (loopEndOf b m k v) && leZ (loopEndOf b m k v) (endOf b m k v)) ≡ true
     go false e = refl
     go true e =
-        let start = startOf b m local global in
-        let from = loopStartOf b m local global in
-        let to = loopEndOf b m local global in
-        rw (test (leZ start from) (g .loop-low e .le), test (ltZ from to) (g .loop-some e .lt), test (leZ to (endOf b m local global)) (g .loop-high e .le)) refl
+        let start = startOf b m k v in
+        let from = loopStartOf b m k v in
+        let to = loopEndOf b m k v in
+        rw (test (leZ start from) (g .loop-low e .le), test (ltZ from to) (g .loop-some e .lt), test (leZ to (endOf b m k v)) (g .loop-high e .le)) refl
 
 window-none : (b : List ℕ) (m : Parts) → GoodSounds b m → BankBounds.windowFault b m ≡ Nothing
 unfolding BankBounds.windowFault BankBounds.badWindow
 window-none b m g =
     let s = m .instruments in
     ap (placed (BankLinks.zoneLinkAt b s))
-    (sounding-absent b s (BankBounds.badWindow b m) (λ h z. goodWindow b m (zoneAt b s z) (globalOf b s h)) (λ h z. refl) (λ h z w. window-good b m (zoneAt b s z) (globalOf b s h) (g .windows h z w)))
+    (sounding-absent b s (BankBounds.badWindow b m) (λ h z. goodWindow b m (zoneAt b s z .link) (movers b m (zoneAt b s z) (globalOf b s h))) (λ h z. refl) (λ h z w. window-good b m (zoneAt b s z .link) (movers b m (zoneAt b s z) (globalOf b s h)) (g .windows h z w)))
 
 index-none : (b : List ℕ) (m : Parts) → GoodSide b (m .presets) → GoodSide b (m .instruments) → BankIndexes.indexFault b m ≡ Nothing
 unfolding BankIndexes.indexFault

@@ -2,7 +2,7 @@
 use mathlib.Core.Bool.{Bool, not, _&&_}
 use mathlib.Core.List.{List}
 use Prim.Native.Nat.{ℕ}
-use Rattle.records.specs.Windows.{goodWindow}
+use Rattle.records.specs.Windows.{goodWindow, movers}
 use Rattle.records.specs.Zones.{zoneAt, globalOf, firstZone}
 use Rattle.records.specs.declared.Parts.{Parts}
 use Rattle.records.specs.Looking.{placed}
@@ -12,8 +12,8 @@ use Rattle.bank.specs.Links.{zoneLinkAt}
 -- 7. a window: zone z of instrument h is sounding, and its window is not good
 unfoldable pub badWindow : List ℕ → Parts → ℕ → ℕ → Bool
 badWindow b m h z =
-    zoneAt b (m .instruments) z .sounding
-    && not (goodWindow b m (zoneAt b (m .instruments) z) (globalOf b (m .instruments) h))
+    let zone = zoneAt b (m .instruments) z in
+    zone .sounding && not (goodWindow b m (zone .link) (movers b m zone (globalOf b (m .instruments) h)))
 
 -- the zone's 53 record
 unfoldable pub windowFault : List ℕ → Parts → Found

@@ -1,9 +1,9 @@
-pub mod Admission
-pub mod Bounds
+pub mod Rules
 pub mod Framing
 pub mod Indexes
 pub mod Links
-pub mod Listing
 pub mod Rates
-pub mod Rules
+pub mod Bounds
+pub mod Admission
+pub mod Listing
 pub mod Internal

@@ -3,15 +3,14 @@ use mathlib.Core.Path.{_≡_}
 use Prim.Native.Nat.{ℕ, _+_, _≤_, _<_, _-_, _%_}
 use mathlib.Core.Bool.{true}
 use mathlib.Core.List.{List}
-use lib.IntN.{pos}
+use lib.IntN.{ℤ, pos}
 use lib.Signed.{_≤ℤ_, _<ℤ_}
 use lib.ListN.{length, getD}
 use Rattle.records.specs.Sides.{bagOf, genOf, modOf, instruments, presets, partsOf}
 use Rattle.records.specs.Zones.{zoneAt, globalOf}
 use Rattle.records.specs.declared.Side.{Side}
-use Rattle.records.specs.Windows.{startOf, endOf, loopStartOf, loopEndOf, modeOf, loops}
+use Rattle.records.specs.Windows.{startOf, endOf, loopStartOf, loopEndOf, modeOf, loops, movers}
 use Rattle.records.specs.declared.Parts.{Parts}
-use Rattle.records.specs.declared.Zone.{Zone}
 use Rattle.records.specs.Headers.{rateOf}
 use Rattle.records.specs.Chunks.{names, sizes, leasts, chunkAt, nameAt, bytesIn, records}
 
@@ -34,20 +33,20 @@ pub record GoodSide (b : List ℕ) (s : Side) : Type 0 where
   pub mods : Rising (modOf b s) (s .nbags) (s .nmods)
   pub links : (h z : ℕ) → Sounding b s h z → zoneAt b s z .link < s .nlinks - 1
 
--- 0 <= start < end < 2^32, and for modes 1 and 3 also start <= loop start < loop end <= end
-pub record GoodWindow (b : List ℕ) (m : Parts) (local global : Zone) : Type 0 where
-  pub low : pos 0 ≤ℤ startOf b m local global
-  pub some : startOf b m local global <ℤ endOf b m local global
-  pub high : endOf b m local global <ℤ pos 4294967296
-  pub loop-low : loops (modeOf b m local global) ≡ true → startOf b m local global ≤ℤ loopStartOf b m local global
-  pub loop-some : loops (modeOf b m local global) ≡ true → loopStartOf b m local global <ℤ loopEndOf b m local global
-  pub loop-high : loops (modeOf b m local global) ≡ true → loopEndOf b m local global ≤ℤ endOf b m local global
+-- the window of sample k with the values v: 0 <= start < end < 2^32, and for modes 1 and 3 also start <= loop start < loop end <= end
+pub record GoodWindow (b : List ℕ) (m : Parts) (k : ℕ) (v : ℕ → ℤ) : Type 0 where
+  pub low : pos 0 ≤ℤ startOf b m k v
+  pub some : startOf b m k v <ℤ endOf b m k v
+  pub high : endOf b m k v <ℤ pos 4294967296
+  pub loop-low : loops (modeOf v) ≡ true → startOf b m k v ≤ℤ loopStartOf b m k v
+  pub loop-some : loops (modeOf v) ≡ true → loopStartOf b m k v <ℤ loopEndOf b m k v
+  pub loop-high : loops (modeOf v) ≡ true → loopEndOf b m k v ≤ℤ endOf b m k v
 
 -- every sounding instrument zone: its sample's rate and its window
 pub record GoodSounds (b : List ℕ) (m : Parts) : Type 0 where
   pub rate-low : (h z : ℕ) → Sounding b (m .instruments) h z → 400 ≤ rateOf b m (zoneAt b (m .instruments) z .link)
   pub rate-high : (h z : ℕ) → Sounding b (m .instruments) h z → rateOf b m (zoneAt b (m .instruments) z .link) ≤ 50000
-  pub windows : (h z : ℕ) → Sounding b (m .instruments) h z → GoodWindow b m (zoneAt b (m .instruments) z) (globalOf b (m .instruments) h)
+  pub windows : (h z : ℕ) → Sounding b (m .instruments) h z → GoodWindow b m (zoneAt b (m .instruments) z .link) (movers b m (zoneAt b (m .instruments) z) (globalOf b (m .instruments) h))
 
 -- a bank that is admitted
 pub record Admitted (b : List ℕ) : Type 0 where

@@ -20,6 +20,7 @@ const NAMES: [u32; 9] = [
 
 const LEASTS: [u32; 9] = [2, 1, 1, 1, 2, 1, 1, 1, 2];
 
+// The name of chunk k, as a number.
 fn name(k: usize) -> u32
     requires { ⌜ k < 9 ⌝ }
     ensures { λ r. ⌜ r ≡ getD names k 0 ⌝ }
@@ -27,6 +28,7 @@ fn name(k: usize) -> u32
     NAMES[k]
 }
 
+// The fewest records of chunk k.
 fn least(k: usize) -> u32
     requires { ⌜ k < 9 ⌝ }
     ensures { λ r. ⌜ r ≡ getD leasts k 0 ⌝ }
@@ -34,6 +36,7 @@ fn least(k: usize) -> u32
     LEASTS[k]
 }
 
+// Chunk k has another name, or ends behind the bank's end.
 fn bad_chunk(b: &[u8], k: usize) -> bool
     requires { ⌜ k < 9 ⌝ }
     ensures { λ r. ⌜ r ≡ badChunk (now (b .entry)) k ⌝ }
@@ -62,6 +65,7 @@ pub fn chunk_fault(b: &[u8]) -> Found
     Found::Nothing
 }
 
+// Chunk k is no whole number of records, or has too few.
 fn bad_records(b: &[u8], k: usize) -> bool
     requires { ⌜ k < 9 ⌝ }
     ensures { λ r. ⌜ r ≡ badRecords (now (b .entry)) k ⌝ }

@@ -1,8 +1,8 @@
 // Test 4: an index that falls or ends wrong.
 ghost use mathlib.Core.Path.{_≡_};
 ghost use Rattle.bank.specs.Indexes.{fallsAt, endsWrong, badAt, badHead, badBag, headFault, bagFault, indexFault};
-use crate::less_one;
 use crate::or_else;
+use arith::less;
 use records::Found;
 use records::Parts;
 use records::Side;
@@ -27,6 +27,7 @@ fn ends_wrong(here: u16, i: u32, n: u32, m: u32) -> bool
     false
 }
 
+// Index i falls or ends wrong.
 fn bad_index(before: u16, here: u16, i: u32, n: u32, m: u32) -> bool
     ensures { λ r. ⌜ r ≡ badAt before here i n m ⌝ }
 {
@@ -36,11 +37,12 @@ fn bad_index(before: u16, here: u16, i: u32, n: u32, m: u32) -> bool
     ends_wrong(here, i, n, m)
 }
 
+// The bag index of head h falls or ends wrong.
 fn bad_head(b: &[u8], s: Side, h: u32) -> bool
     ensures { λ r. ⌜ r ≡ badHead (now (b .entry)) s h ⌝ }
 {
     bad_index(
-        records::bag_of(b, s, less_one(h)),
+        records::bag_of(b, s, less(h, 1) as usize),
         records::bag_of(b, s, h as usize),
         h,
         s.nheads,
@@ -48,11 +50,12 @@ fn bad_head(b: &[u8], s: Side, h: u32) -> bool
     )
 }
 
+// The generator or the modulator index of bag z does.
 fn bad_bag(b: &[u8], s: Side, z: u32) -> bool
     ensures { λ r. ⌜ r ≡ badBag (now (b .entry)) s z ⌝ }
 {
     if bad_index(
-        records::gen_of(b, s, less_one(z)),
+        records::gen_of(b, s, less(z, 1) as usize),
         records::gen_of(b, s, z as usize),
         z,
         s.nbags,
@@ -61,7 +64,7 @@ fn bad_bag(b: &[u8], s: Side, z: u32) -> bool
         return true;
     }
     bad_index(
-        records::mod_of(b, s, less_one(z)),
+        records::mod_of(b, s, less(z, 1) as usize),
         records::mod_of(b, s, z as usize),
         z,
         s.nbags,

@@ -1,6 +1,5 @@
 // Admission of a bank as seven tests, and its listing (01, "Bank admission").
 ghost use mathlib.Core.Path.{_≡_};
-ghost use Prim.Native.Nat.{_-_, _<_};
 ghost use Rattle.records.specs.Looking.{orElse};
 ghost use Rattle.bank.specs.Admission.{faultOf, faultNumber, admitted};
 
@@ -37,16 +36,7 @@ pub enum Listed {
     },
 }
 
-// The number before i, or 0.
-fn less_one(i: u32) -> usize
-    ensures { λ r. ⌜ (r ≡ i - 1) × (r < 4294967296) ⌝ }
-{
-    if 0 < i {
-        return (i as usize) - 1;
-    }
-    0
-}
-
+// What the first test found, else what the second found.
 fn or_else(a: Found, b: Found) -> Found
     ensures { λ r. ⌜ r ≡ orElse a b ⌝ }
 {
@@ -108,6 +98,7 @@ pub fn admission_number(b: &[u8]) -> u8
     number_of(admission(b))
 }
 
+// Whether a bank is admitted.
 pub fn admitted(b: &[u8]) -> bool
     ensures { λ r. ⌜ r ≡ admitted (now (b .entry)) ⌝ }
 {

@@ -4,8 +4,8 @@ ghost use Rattle.bank.specs.Links.{badNumber, zoneLinkAt, linkFault, num
 ghost use Rattle.records.specs.Looking.{first, placed};
 ghost use Rattle.records.specs.Sides.{bagOf};
 ghost use Rattle.records.specs.Zones.{zoneCount};
-use crate::less_one;
 use crate::or_else;
+use arith::less;
 use records::Found;
 use records::Parts;
 use records::Side;
@@ -16,7 +16,7 @@ fn bad_number(b: &[u8], s: Side, h: u32, z: u32) -> bool
 {
     let zone = records::zone_at(b, s, z);
     if zone.sounding {
-        return !((zone.link as usize) < less_one(s.nlinks));
+        return !((zone.link as u32) < less(s.nlinks, 1));
     }
     false
 }
@@ -42,7 +42,7 @@ fn number_in(b: &[u8], s: Side, h: u32) -> Found
 fn link_fault(b: &[u8], s: Side) -> Found
     ensures { λ r. ⌜ r ≡ linkFault (now (b .entry)) s ⌝ }
 {
-    let heads = less_one(s.nheads) as u32;
+    let heads = less(s.nheads, 1);
     let mut h: u32 = 0;
     while h < heads {
         let found = number_in(b, s, h);

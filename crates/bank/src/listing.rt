@@ -3,7 +3,7 @@ ghost use mathlib.Core.Path.{_≡_};
 ghost use Rattle.bank.specs.Listing.{listed};
 use crate::Listed;
 use crate::admitted;
-use crate::less_one;
+use arith::less;
 
 // Program and bank of the phdr record at a place, and the next place; any place at or past the terminal's gives the end.
 pub fn listed_at(b: &[u8], place: u32) -> Listed
@@ -12,7 +12,7 @@ pub fn listed_at(b: &[u8], place: u32) -> Listed
     if admitted(b) {
         let m = records::parts_of(b);
         let p = m.presets;
-        if (place as usize) < less_one(p.nheads) {
+        if place < less(p.nheads, 1) {
             return Listed::Row {
                 program: records::program_of(b, m, place),
                 bank: records::bank_of(b, m, place),

@@ -7,10 +7,11 @@ ghost use Rattle.records.specs.Looking.{first};
 ghost use Rattle.records.specs.Sides.{bagOf};
 ghost use Rattle.arith.specs.Holds.{between};
 ghost use Rattle.records.specs.Zones.{zoneCount};
-use crate::less_one;
+use arith::less;
 use records::Found;
 use records::Parts;
 
+// A rate of 400 to 50,000.
 fn good_rate(rate: u32) -> bool
     ensures { λ r. ⌜ r ≡ between 400 50000 rate ⌝ }
 {
@@ -36,9 +37,9 @@ fn bad_rated(b: &[u8], m: Parts, z: u32) -> bool
 {
     let i = m.instruments;
     let zone = records::zone_at(b, i, z);
-    let known = (zone.link as usize) < less_one(i.nlinks);
+    let known = (zone.link as u32) < less(i.nlinks, 1);
     let bad = !good_rate(records::rate_of(b, m, zone.link as u32));
-    records::both(records::both(zone.sounding, known), bad)
+    zone.sounding && known && bad
 }
 
 // The lowest sample at fault, zone z looked at too.
@@ -74,7 +75,7 @@ fn lowest_bad(b: &[u8], m: Parts) -> Found
     ensures { λ r. ⌜ r ≡ first (badRate (now (b .entry)) m) 0 (m .instruments .nlinks - 1) ⌝ }
 {
     let i = m.instruments;
-    let heads = less_one(i.nheads) as u32;
+    let heads = less(i.nheads, 1);
     let mut low = Found::Nothing;
     let mut h: u32 = 0;
     while h < heads {

@@ -8,7 +8,7 @@ use lib.ListN.{length, take, getD}
 use lib.Seq.{take-suc}
 use mathlib.Core.Bool.{Bool, true, false, Bool·beq, not}
 use borrow.Author.Tests.{eq-eqb}
-use Rattle.cases.specs.Hash.{bitsOf, hashBits, hashAll}
+use Rattle.cases.specs.Internal.Hash.{bitsOf, hashBits, hashAll}
 
 -- the hash over numbers and one more
 after-more : (h : ℕ) (xs : List Float) (x : Float) → hashAll h (xs ++ (x ∷ [])) ≡ hashBits (hashAll h xs) (bitsOf x)

@@ -1,2 +1,1 @@
-pub mod Hash
-pub mod Lending
+pub mod Internal

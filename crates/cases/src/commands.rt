@@ -1,8 +1,8 @@
 // The commands of a case: a letter, and the bytes behind it as the numbers that they are.
 ghost use Prim.Native.Nat.{_≤_};
-use crate::reading::Place;
-use crate::reading::next_byte;
-use crate::reading::next_bytes;
+use crate::input::Place;
+use crate::input::next_byte;
+use crate::input::next_bytes;
 
 // A command. What its letter does not have is 0, and the bytes of a bank, a memory or a name are still to be read.
 pub struct Command {

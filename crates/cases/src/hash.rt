@@ -1,6 +1,6 @@
 // The FNV-1a hash of 64 bits over the bits of binary32 numbers.
 ghost use mathlib.Core.Path.{_≡_};
-ghost use Rattle.cases.specs.Hash.{bitsOf, hashByte, hashBits, hashAll, times as Hash·times};
+ghost use Rattle.cases.specs.Internal.Hash.{bitsOf, hashByte, hashBits, hashAll, times as Hash·times};
 
 // A number's 32 bits, the quiet pattern for a NaN.
 pub fn bits_of(x: f32) -> u32

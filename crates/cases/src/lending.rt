@@ -3,11 +3,11 @@ ghost use mathlib.Core.Path.{_≡_};
 ghost use mathlib.Core.Bool.{true};
 ghost use Prim.Native.Nat.{_≤_};
 ghost use lib.ListN.{length, take};
-ghost use Rattle.cases.specs.Lending.{unlent};
+ghost use Rattle.cases.specs.Internal.Lending.{unlent};
 use crate::commands::Command;
-use crate::reading::Place;
-use crate::reading::next_bytes;
-use crate::reading::next_samples;
+use crate::input::Place;
+use crate::input::next_bytes;
+use crate::input::next_samples;
 
 // How many bytes or samples an array holds now, and the place behind them.
 pub struct Held {

@@ -1,14 +1,18 @@
 // Case files and traces: what the programs that play cases share. They lend a room to read into and one to write from.
 mod commands;
 mod hash;
+mod input;
 mod lending;
 mod lines;
-mod reading;
 mod writing;
 
 pub use commands::Command;
 pub use commands::next_command;
 pub use hash::fnv;
+pub use input::Long;
+pub use input::Place;
+pub use input::next_u32;
+pub use input::start;
 pub use lending::Held;
 pub use lending::Lent;
 pub use lending::Loan;
@@ -30,10 +34,6 @@ pub use lines::name;
 pub use lines::rendered;
 pub use lines::spaced;
 pub use lines::state;
-pub use reading::Long;
-pub use reading::Place;
-pub use reading::next_u32;
-pub use reading::start;
 pub use writing::flush;
 pub use writing::hex;
 pub use writing::magnitude;

@@ -1,7 +1,7 @@
 // The parts of a trace's lines, and a case's name.
 use crate::hash::bits_of;
-use crate::reading::Place;
-use crate::reading::next_bytes;
+use crate::input::Place;
+use crate::input::next_bytes;
 use crate::writing::decimal;
 use crate::writing::hex;
 use crate::writing::put;

@@ -5,7 +5,8 @@ use mathlib.Core.List.{List, [], _∷_, map}
 use mathlib.Core.Path.{_≡_, refl}
 use Rattle.curves.specs.Levels.{gainOf, cbOf}
 use Rattle.curves.specs.Times.{frames, framesUp}
-use Rattle.curves.specs.Pitch.{stepAt, stepOf}
+use Rattle.curves.specs.Internal.Pitch.{stepAt}
+use Rattle.curves.specs.Pitch.{stepOf}
 
 -- a row: what is asked, and what it gives
 pub data Row : Type 0 where

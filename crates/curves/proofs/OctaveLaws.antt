@@ -1,17 +1,15 @@
 -- Laws of a number lifted to the octave table, and of the table's places.
-use Prim.Native.Nat.{ℕ, zero, suc, _+_, _≤_, _/_}
-use lib.IntN.{ℤ, pos, negℤ, natAbs, _+ℤ_, negsuc, _-ℤ_}
+use Prim.Native.Nat.{ℕ, zero, suc, _+_, _≤_}
+use lib.IntN.{ℤ, pos, negℤ, natAbs, _+ℤ_, negsuc}
 use mathlib.Core.Path.{_≡_, refl, ap, _∙_, sym, subst}
 use native.Mathlib.Omega.{arith}
 use mathlib.Core.Bool.{Bool, false, true}
 use borrow.Author.Tests.{ltb-false}
-use lib.Dec.{T, lit<}
+use lib.Dec.{T}
 use lib.Signed.{ltZ, nonNeg}
 use Rattle.arith.specs.Holds.{heldTo}
-use Rattle.arith.proofs.FloorsLaws.{sub-pos, floor-bias}
+use Rattle.arith.proofs.FloorsLaws.{sub-pos}
 use Rattle.arith.proofs.HoldsLaws.{clamp-low, clamp-high, clamp-in}
-use Rattle.arith.specs.Floors.{floorZ}
-use Rattle.arith.specs.Within.{Within}
 
 module _ (low high : ℕ) (x : ℤ) where
   -- held, and lifted
@@ -54,11 +52,3 @@ module _ (low high : ℕ) (x : ℤ) where
       below : (b : Bool) → ltZ x (negℤ (pos low)) ≡ b → up low high x ≤ low + high
       below true t = rw (up-low t) (omega arith)
       below false t = inside t (ltZ (pos high) x) refl
-
--- o of cents in -9,600..4,800
-pub pitch-octave : (c : ℤ) → Within c 9600 → pos (natAbs (c +ℤ pos 9600) / 1200) -ℤ pos 8 ≡ floorZ c 1200
-pitch-octave c h = floor-bias c 8 1200 (lit< tt) h
-
--- o of timecents in -12,000..8,000
-pub time-octave : (t : ℤ) → Within t 12000 → pos (natAbs (t +ℤ pos 12000) / 1200) -ℤ pos 10 ≡ floorZ t 1200
-time-octave t h = floor-bias t 10 1200 (lit< tt) h

@@ -12,7 +12,8 @@ use Rattle.curves.proofs.Tables.{allLe, each-le}
 use Rattle.curves.specs.Levels.{gains, gainOf, velocities, cbOf}
 use Rattle.curves.proofs.OctaveTableLaws.{octave-low, octave-high}
 use Rattle.curves.proofs.Powers.{low, high, cancel-le, cancel-lt, mul-pow}
-use Rattle.curves.specs.Pitch.{stepOf, lifted, pitchHeld, stepAt}
+use Rattle.curves.specs.Pitch.{stepOf, lifted, pitchHeld}
+use Rattle.curves.specs.Internal.Pitch.{stepAt}
 use Rattle.curves.proofs.OctaveLaws.{up-le}
 
 octaves-tested : T (allLe 2147483647 octaves)

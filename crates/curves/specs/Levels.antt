@@ -1,4 +1,4 @@
--- 01, "Tables and steps": gains, velocities and controls, in cB.
+-- 01, "Tables and steps": gains, and what a velocity or a control takes away, in cB.
 use Prim.Native.Nat.{ℕ, suc}
 use mathlib.Core.List.{List, _++_, _∷_, []}
 use lib.ListN.{getD}

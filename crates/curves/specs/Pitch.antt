@@ -1,4 +1,4 @@
--- 01, "From a key to layers" (bend, the pitch total's hold) and "Tables and steps" (step).
+-- 01, "From a key to layers" and "Tables and steps": the cents of a bend, and the step of a pitch total.
 use Prim.Native.Nat.{ℕ, _-_, _*_, _/_, _%_, _^_}
 use lib.IntN.{ℤ, pos, _-ℤ_, _*ℤ_, negsuc, natAbs, _+ℤ_}
 use lib.ListN.{getD}
@@ -21,7 +21,3 @@ lifted cents = natAbs (cents +ℤ pos 9600)
 -- floor(T * rate / (44,100 * 2^(6 - o))) for the pitch c - 9,600 = 1,200 * o + i: c / 1,200 is o + 8, and c % 1,200 is i
 unfoldable pub stepOf : ℕ → ℕ → ℕ
 stepOf c rate = getD octaves (c % 1200) 0 * rate / (44100 * 2 ^ (14 - c / 1200))
-
--- the step of a pitch total before it is held, in 2^-24 samples
-unfoldable pub stepAt : ℤ → ℕ → ℕ
-stepAt cents rate = stepOf (lifted (pitchHeld cents)) rate

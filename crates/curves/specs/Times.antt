@@ -1,4 +1,4 @@
--- Frames for a time in timecents (01, "Tables and steps").
+-- 01, "Tables and steps": the frames of a time in timecents.
 use Prim.Native.Nat.{ℕ, _*_, _/_, _%_, _^_}
 use lib.ListN.{getD}
 use mathlib.Core.Bool.{cond}

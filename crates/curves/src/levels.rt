@@ -2,18 +2,19 @@
 ghost use Prim.Native.Nat.{_≤_};
 ghost use mathlib.Core.Path.{_≡_};
 ghost use Rattle.curves.specs.Levels.{gainOf, cbOf, leastCb, gains};
+use crate::GainTable;
 use crate::gain_table::GAINS;
 use crate::velocity_table::VELOCITIES;
 
 // The gain table, made once by whoever reads it often.
-pub fn gains() -> [u32; 1441]
+pub fn gains() -> GainTable
     ensures { λ r. ⌜ r ≡ gains ⌝ }
 {
     GAINS
 }
 
 // The gain of an attenuation in cB, in 2^-24.
-pub fn gain(t: &[u32; 1441], a: u64) -> u32
+pub fn gain(t: &GainTable, a: u64) -> u32
     requires { ⌜ now t ≡ gains ⌝ }
     ensures { λ r. ⌜ (r ≡ gainOf a) × (r ≤ 16777216) ⌝ }
 {
@@ -25,7 +26,7 @@ pub fn gain(t: &[u32; 1441], a: u64) -> u32
 }
 
 // The least attenuation whose gain is at most the level, and 1,000 above that.
-pub fn least_cb(g: &[u32; 1441], l: u32) -> u16
+pub fn least_cb(g: &GainTable, l: u32) -> u16
     requires { ⌜ now g ≡ gains ⌝ }
     ensures { λ r. ⌜ r ≡ leastCb l ⌝ }
 {

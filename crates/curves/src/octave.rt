@@ -5,17 +5,18 @@ ghost use lib.ListN.{getD};
 ghost use mathlib.Core.Path.{_≡_};
 ghost use Rattle.arith.specs.Holds.{heldTo};
 ghost use Rattle.curves.specs.Octave.{octaves};
+use crate::OctaveTable;
 use crate::octave_table::OCTAVES;
 
 // The table, made once by whoever reads it often.
-pub fn octaves() -> [u32; 1200]
+pub fn octaves() -> OctaveTable
     ensures { λ r. ⌜ r ≡ octaves ⌝ }
 {
     OCTAVES
 }
 
 // The entry for c cents above a whole octave's start.
-pub fn entry(t: &[u32; 1200], c: u32) -> u64
+pub fn entry(t: &OctaveTable, c: u32) -> u64
     requires { ⌜ now t ≡ octaves ⌝ }
     ensures { λ r. ⌜ (r ≡ getD octaves (c % 1200) 0) × (r ≤ 2147483647) ⌝ }
 {

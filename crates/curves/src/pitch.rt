@@ -1,7 +1,9 @@
 // Pitch: the cents of a bend, and the step of a pitch total.
 ghost use mathlib.Core.Path.{_≡_};
 ghost use Rattle.curves.specs.Octave.{octaves};
-ghost use Rattle.curves.specs.Pitch.{bendCents, stepAt};
+ghost use Rattle.curves.specs.Pitch.{bendCents};
+ghost use Rattle.curves.specs.Internal.Pitch.{stepAt};
+use crate::OctaveTable;
 use crate::octave::entry;
 use crate::octave::lift;
 
@@ -13,7 +15,7 @@ pub fn bend_cents(bend: u16) -> i32
 }
 
 // The step of a pitch total, which is held here, in 2^-24 samples.
-pub fn step(t: &[u32; 1200], cents: i32, rate: u16) -> u32
+pub fn step(t: &OctaveTable, cents: i32, rate: u16) -> u32
     requires { ⌜ now t ≡ octaves ⌝ }
     ensures { λ r. ⌜ r ≡ stepAt cents rate ⌝ }
 {

@@ -4,6 +4,7 @@ ghost use lib.IntN.{pos};
 ghost use mathlib.Core.Path.{_≡_};
 ghost use Rattle.curves.specs.Times.{framesUp, frames};
 ghost use Rattle.curves.specs.Octave.{octaves};
+use crate::OctaveTable;
 use crate::octave::entry;
 use crate::octave::lift;
 
@@ -16,7 +17,7 @@ fn two_to(o: u32) -> u64
 }
 
 // The frames of timecents above -12,000.
-fn frames_up(t: &[u32; 1200], c: u32) -> u32
+fn frames_up(t: &OctaveTable, c: u32) -> u32
     requires { ⌜ (now t ≡ octaves) × (c ≤ 20000) ⌝ }
     ensures { λ r. ⌜ r ≡ framesUp c ⌝ }
 {
@@ -25,7 +26,7 @@ fn frames_up(t: &[u32; 1200], c: u32) -> u32
 }
 
 // The frames of a time that is held to -12,000..top.
-fn frames_to(t: &[u32; 1200], top: u16, time: i32) -> u32
+fn frames_to(t: &OctaveTable, top: u16, time: i32) -> u32
     requires { ⌜ (now t ≡ octaves) × (top ≤ 8000) ⌝ }
     ensures { λ r. ⌜ r ≡ frames (pos top) time ⌝ }
 {
@@ -36,7 +37,7 @@ fn frames_to(t: &[u32; 1200], top: u16, time: i32) -> u32
 }
 
 // The frames of an attack, a decay or a release.
-pub fn long_frames(t: &[u32; 1200], time: i32) -> u32
+pub fn long_frames(t: &OctaveTable, time: i32) -> u32
     requires { ⌜ now t ≡ octaves ⌝ }
     ensures { λ r. ⌜ r ≡ frames (pos 8000) time ⌝ }
 {
@@ -44,7 +45,7 @@ pub fn long_frames(t: &[u32; 1200], time: i32) -> u32
 }
 
 // The frames of a delay or a hold.
-pub fn short_frames(t: &[u32; 1200], time: i32) -> u32
+pub fn short_frames(t: &OctaveTable, time: i32) -> u32
     requires { ⌜ now t ≡ octaves ⌝ }
     ensures { λ r. ⌜ r ≡ frames (pos 5000) time ⌝ }
 {

@@ -2,7 +2,7 @@
 mod asking;
 mod calls;
 mod hammer;
-mod rendering;
+mod output;
 mod tapes;
 mod trace;
 mod voices;
@@ -22,7 +22,7 @@ fn moves(c: Command) -> bool {
     let letter = c.letter;
     match letter {
         b'n' | b'o' | b'c' | b'p' | b'b' | b'F' => true,
-        b'r' => rendering::has_room(c.second),
+        b'r' => output::has_room(c.second),
         _ => false,
     }
 }
@@ -40,7 +40,7 @@ fn play<'a>(
     let letter = c.letter;
     match letter {
         b'n' => calls::strike(bank, ram, rom, text, c, e, tape),
-        b'r' => rendering::render(ram, rom, text, c, e, tape),
+        b'r' => output::render(ram, rom, text, c, e, tape),
         _ => calls::call(text, c, e, tape.at),
     }
 }

@@ -11,6 +11,7 @@ use Rattle.arith.proofs.WithinLaws.{w-le}
 use Rattle.arith.specs.Holds.{heldTo}
 use Rattle.arith.proofs.HoldsLaws.{held-within}
 
+-- the fraction is a binary32 itself
 pub unit-exact : (k : ℤ) → Within k 16777216 → Over (unitOf k) k 8388608
 unfolding unitOf
 unit-exact k h = record { value = round-down (isNeg k) (natAbs k) 23 126 refl (h .within) }

@@ -15,7 +15,7 @@ use mathlib.Core.Logic.{_⊎_, ⊎-elim, inl, inr}
 use lib.Ieee.{Float}
 use Rattle.records.specs.Memory.{partOf}
 use Rattle.voice.specs.declared.Voice.{Voice}
-use Rattle.engine.specs.Rendering.{window, distance, lacking, renderNumber, slotAfter, mixed, slotLeft, slotRight, leftSum, rightSum, output}
+use Rattle.engine.specs.Rendering.{window, distance, lacking, renderNumber, slotAfter, slotLeft, slotRight, leftSum, rightSum, output}
 use Rattle.state.specs.declared.Engine.{Engine}
 use Rattle.state.specs.Slots.{slotsOf}
 use Rattle.voice.specs.declared.Slot.{Slot}
@@ -33,6 +33,7 @@ use Rattle.voice.specs.Changes.{blank, free}
 use Rattle.state.specs.Channels.{channelAt}
 use Rattle.engine.specs.Internal.Sums.{addAll, mixedTo, slotHeard}
 use Rattle.arith.specs.Lists.{sumOf}
+use Rattle.engine.specs.Mixer.{mixed}
 
 -- the window is the part that the voice names of its memory
 pub window-part : (ram rom : List ℤ) (v : Voice) → window ram rom v ≡ partOf (cond (v .rom) rom ram) (v .start) (v .end)

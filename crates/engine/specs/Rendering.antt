@@ -1,22 +1,21 @@
 -- 01, "A voice, frame by frame" (output), "Slots, keys and the clock" (clock), and the table: render.
 use Prim.Native.Nat.{ℕ, _+_, _-_, _%_, _*_, zero, suc}
-use mathlib.Core.Bool.{cond, _&&_, Bool}
 use mathlib.Core.List.{List, [], _∷_, _++_, map}
+use lib.IntN.{ℤ}
+use mathlib.Core.Bool.{_&&_, Bool, cond}
 use lib.Dec.{leb, ltb, eqb}
-use lib.IntN.{ℤ, pos, negsuc}
-use lib.ListN.{length, take, drop}
 use lib.Ieee.{Float}
+use lib.ListN.{length, drop}
 use Rattle.state.specs.declared.Engine.{Engine}
 use Rattle.voice.specs.declared.Voice.{Voice}
-use Rattle.voice.specs.Motion.{span}
+use Rattle.records.specs.Memory.{partOf}
 use Rattle.state.specs.Reach.{memory, endsPast}
 use Rattle.voice.specs.declared.Slot.{Slot}
 use Rattle.arith.specs.Lists.{anyOf, sumOf}
 use Rattle.state.specs.Slots.{slotsOf, withSlots, withClock}
 use Rattle.voice.specs.Frames.{after, leftIn, rightIn}
 use Rattle.state.specs.Channels.{channelAt}
-use Rattle.arith.specs.Holds.{heldTo}
-use Rattle.engine.specs.Mixer.{unitOf}
+use Rattle.engine.specs.Mixer.{mixed}
 use Rattle.state.specs.declared.Answered.{Answered}
 use Rattle.state.specs.Answers.{done, answer}
 
@@ -24,11 +23,9 @@ use Rattle.state.specs.Answers.{done, answer}
 unfoldable pub distance : Engine → ℕ → ℕ
 distance e to = (to + 4294967296 - e .clock) % 4294967296
 
--- a voice's window: its part of its memory, nothing where it does not lie within
+-- a voice's window: its part of its memory
 unfoldable pub window : List ℤ → List ℤ → Voice → List ℤ
-window ram rom v =
-    cond (leb (v .start) (v .end) && leb (v .end) (length (memory ram rom v)))
-    (take (span v) (drop (v .start) (memory ram rom v))) []
+window ram rom v = partOf (memory ram rom v) (v .start) (v .end)
 
 -- a slot sounds, and its window ends past its memory
 abbrev pub lacks : List ℤ → List ℤ → Slot → Bool
@@ -66,10 +63,6 @@ module _ (ram rom : List ℤ) (e : Engine) where
   -- the sum of voices in frame k, right
   abbrev pub rightSum : ℕ → ℤ
   rightSum k = sumOf (slotRight k) (slotsOf e)
-
--- a sum held to -2^23..2^23, times 2^-23 (`unitOf k` is k / 2^23, exact)
-abbrev pub mixed : ℤ → Float
-mixed z = unitOf (heldTo (negsuc 8388607) (pos 8388608) z)
 
 -- the output of the first n frames, left and right alternating
 unfoldable pub output : List ℤ → List ℤ → Engine → ℕ → List Float

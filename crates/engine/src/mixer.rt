@@ -4,7 +4,7 @@ ghost use lib.IntN.{negsuc, pos};
 ghost use Rattle.arith.specs.Floats.{Over};
 ghost use Rattle.arith.specs.Holds.{heldTo};
 ghost use Rattle.arith.specs.Within.{Within};
-ghost use Rattle.engine.specs.Mixer.{unitOf};
+ghost use Rattle.engine.specs.Mixer.{unitOf, mixed};
 use crate::Frame;
 use arith::hold;
 
@@ -25,8 +25,8 @@ fn clamp(k: i32) -> i32
 
 // The stereo frame of two sums of voices.
 pub fn mix(l: i32, r: i32) -> Frame
-    ensures left { λ f. ⌜ f .left ≡ unitOf (heldTo (negsuc 8388607) (pos 8388608) l) ⌝ }
-    ensures right { λ f. ⌜ f .right ≡ unitOf (heldTo (negsuc 8388607) (pos 8388608) r) ⌝ }
+    ensures left { λ f. ⌜ f .left ≡ mixed l ⌝ }
+    ensures right { λ f. ⌜ f .right ≡ mixed r ⌝ }
     ensures left_exact { λ f. ⌜ Over (f .left) (heldTo (negsuc 8388607) (pos 8388608) l) 8388608 ⌝ }
     ensures right_exact { λ f. ⌜ Over (f .right) (heldTo (negsuc 8388607) (pos 8388608) r) 8388608 ⌝ }
 {

@@ -76,7 +76,8 @@ fn render_number<'a>(e: Engine, to: u32, ram: &'a [i16], rom: &'a [i16], room: u
 // n frames into the front of the output.
 fn play<'a>(e: Engine, ram: &'a [i16], rom: &'a [i16], out: &mut [f32], n: usize) -> Engine
     requires { ⌜ (n ≤ 4096) × (2 * n ≤ length (now out)) ⌝ }
-    ensures { λ r. ⌜ (r ≡ played (now (ram .entry)) (now (rom .entry)) n e) × (now (out .exit) ≡ output (now (ram .entry)) (now (rom .entry)) e n ++ drop (2 * n) (now (out .entry))) ⌝ }
+    ensures state { λ r. ⌜ r ≡ played (now (ram .entry)) (now (rom .entry)) n e ⌝ }
+    ensures output { λ _. ⌜ now (out .exit) ≡ output (now (ram .entry)) (now (rom .entry)) e n ++ drop (2 * n) (now (out .entry)) ⌝ }
 {
     let g = gains();
     let o = octaves();
@@ -88,7 +89,8 @@ fn play<'a>(e: Engine, ram: &'a [i16], rom: &'a [i16], out: &mut [f32], n: usize
 
 // Render to a clock value: the voices' frames into the first 2n numbers of the output.
 pub fn render<'a>(e: Engine, ram: &'a [i16], rom: &'a [i16], out: &mut [f32], to: u32) -> Answered
-    ensures { λ r. ⌜ (r ≡ render to (now (ram .entry)) (now (rom .entry)) (length (now (out .entry))) e) × (now (out .exit) ≡ rendered to (now (ram .entry)) (now (rom .entry)) (now (out .entry)) e) ⌝ }
+    ensures answer { λ r. ⌜ r ≡ render to (now (ram .entry)) (now (rom .entry)) (length (now (out .entry))) e ⌝ }
+    ensures output { λ _. ⌜ now (out .exit) ≡ rendered to (now (ram .entry)) (now (rom .entry)) (now (out .entry)) e ⌝ }
 {
     let number = render_number(e, to, ram, rom, out.len());
     if number != 0 {

@@ -30,8 +30,11 @@ fn run_slot<'a>(
     acc: &mut [i32],
     n: usize,
 ) -> Slot
-    requires { ⌜ (now g ≡ gains) × (now o ≡ octaves) × (2 * n ≤ length (now acc)) × Small 31 (now acc) ⌝ }
-    ensures { λ r. ⌜ (r ≡ slotAfter (now (ram .entry)) (now (rom .entry)) e n s) × (now (acc .exit) ≡ addTo (slotHeard (now (ram .entry)) (now (rom .entry)) e n s) (now (acc .entry))) × Small 1 (slotHeard (now (ram .entry)) (now (rom .entry)) e n s) ⌝ }
+    requires tables { ⌜ (now g ≡ gains) × (now o ≡ octaves) ⌝ }
+    requires sums { ⌜ (2 * n ≤ length (now acc)) × Small 31 (now acc) ⌝ }
+    ensures slot { λ r. ⌜ r ≡ slotAfter (now (ram .entry)) (now (rom .entry)) e n s ⌝ }
+    ensures sums { λ _. ⌜ now (acc .exit) ≡ addTo (slotHeard (now (ram .entry)) (now (rom .entry)) e n s) (now (acc .entry)) ⌝ }
+    ensures small { λ _. ⌜ Small 1 (slotHeard (now (ram .entry)) (now (rom .entry)) e n s) ⌝ }
 {
     if !s.sounding {
         return s;
@@ -52,8 +55,10 @@ pub fn run_all<'a>(
     acc: &mut [i32],
     n: usize,
 ) -> Engine
-    requires { ⌜ (now g ≡ gains) × (now o ≡ octaves) × (2 * n ≤ length (now acc)) × Small 0 (now acc) ⌝ }
-    ensures { λ r. ⌜ (r ≡ played (now (ram .entry)) (now (rom .entry)) n e) × (now (acc .exit) ≡ addAll (slotHeard (now (ram .entry)) (now (rom .entry)) e n) (slotsOf e) (now (acc .entry))) ⌝ }
+    requires tables { ⌜ (now g ≡ gains) × (now o ≡ octaves) ⌝ }
+    requires sums { ⌜ (2 * n ≤ length (now acc)) × Small 0 (now acc) ⌝ }
+    ensures state { λ r. ⌜ r ≡ played (now (ram .entry)) (now (rom .entry)) n e ⌝ }
+    ensures sums { λ _. ⌜ now (acc .exit) ≡ addAll (slotHeard (now (ram .entry)) (now (rom .entry)) e n) (slotsOf e) (now (acc .entry)) ⌝ }
 {
     let mut x = e;
     let mut word: u32 = 0;

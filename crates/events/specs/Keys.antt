@@ -15,10 +15,6 @@ use Rattle.arith.specs.Lists.{countIf}
 use Rattle.state.specs.declared.Answered.{Answered}
 use Rattle.state.specs.Answers.{done, answer, pastOne}
 
--- a voice of the channel that the pedal holds
-unfoldable pub pedalHeld : ℕ → Slot → Bool
-pedalHeld channel s = ofChannel channel s && s .voice .marked
-
 -- a held voice of the channel: neither released nor marked
 unfoldable pub held : ℕ → Slot → Bool
 held channel s = ofChannel channel s && not (released (s .voice .stage)) && not (s .voice .marked)
@@ -26,6 +22,10 @@ held channel s = ofChannel channel s && not (released (s .voice .stage)) && not 
 -- .. and of the struck key
 unfoldable pub heldKey : ℕ → ℕ → Slot → Bool
 heldKey channel key s = held channel s && eqb (s .voice .key) key
+
+-- a voice of the channel that the pedal holds
+unfoldable pub pedalHeld : ℕ → Slot → Bool
+pedalHeld channel s = ofChannel channel s && s .voice .marked
 
 -- the pedal is down: control 64 is 64 or more
 abbrev pub pedalDown : Engine → ℕ → Bool

@@ -1,54 +1,31 @@
-// A layer's window, mode and rate (01, "Bank admission" and "From a key to layers").
+// Where a voice reads its sample, and how fast (01, "Bank admission" and "From a key to layers").
 ghost use mathlib.Core.Path.{_≡_};
-ghost use Prim.Native.Nat.{_+_, _-_, _<_, min};
-ghost use Rattle.arith.specs.Bytes.{u32At};
-ghost use Rattle.records.specs.Headers.{sampleAt};
-ghost use Rattle.arith.specs.Floors.{modZ};
+ghost use Prim.Native.Nat.{_<_, min};
 ghost use Rattle.arith.specs.Holds.{word32};
-ghost use Rattle.records.specs.Windows.{shifted};
-ghost use Rattle.totals.specs.Internal.Values.{at};
+ghost use Rattle.records.specs.Internal.Amounts.{at};
 ghost use Rattle.totals.specs.Settings.{playMode};
+ghost use Rattle.layers.specs.Extent.{extentOf};
+use arith::hold;
+use arith::least;
+use arith::less;
 use records::Parts;
-use totals::wide;
+
+// A window of the ROM or of the RAM, its mode as it is played, its loop counted from its start, and the sample's rate.
+pub struct Extent {
+    pub rom: bool,
+    pub start: u32,
+    pub end: u32,
+    pub mode: u8,
+    pub loopfrom: u32,
+    pub loopto: u32,
+    pub rate: u16,
+}
 
 // A place held to 32 bits, which changes none of an admitted bank's that counts.
-fn held32(x: i64) -> u32
+fn word(x: i64) -> u32
     ensures { λ r. ⌜ r ≡ word32 x ⌝ }
 {
-    if x < 0 {
-        return 0;
-    }
-    if 4294967295 < x {
-        return 4294967295;
-    }
-    x as u32
-}
-
-// The place at an offset of sample k's header, moved by the generators fine and coarse.
-pub fn place_of(
-    b: &[u8],
-    m: Parts,
-    own: &[i16; 61],
-    k: u32,
-    offset: u8,
-    fine: usize,
-    coarse: usize,
-) -> u32
-    requires { ⌜ (fine < 61) × (coarse < 61) ⌝ }
-    ensures { λ r. ⌜ r ≡ word32 (shifted (u32At (now (b .entry)) (sampleAt m k + offset)) (at (now (own .entry)) fine) (at (now (own .entry)) coarse)) ⌝ }
-{
-    let place = records::place_of(b, m, k, offset);
-    held32(records::shifted(place, own[fine], own[coarse]))
-}
-
-// high - low; 0 where low is above it.
-pub fn gap(low: u32, high: u32) -> u32
-    ensures { λ r. ⌜ r ≡ high - low ⌝ }
-{
-    if low < high {
-        return high - low;
-    }
-    0
+    hold(0, 4294967295, x) as u32
 }
 
 // The mode as it is played: 2 counts as 0.
@@ -62,19 +39,28 @@ fn play(mode: u64) -> u8
     mode as u8
 }
 
-// Mode: generator 54 modulo 4; 2 counts as 0.
-pub fn mode_of(own: &[i16; 61]) -> u8
-    ensures { λ r. ⌜ r ≡ playMode (modZ (at (now (own .entry)) 54) 4) ⌝ }
-{
-    play(records::mod4(wide(own[54])))
-}
-
 // A rate held to 16 bits, which changes none of an admitted bank's.
-pub fn rate16(rate: u32) -> u16
+fn rate16(rate: u32) -> u16
     ensures { λ r. ⌜ r ≡ min 65535 rate ⌝ }
 {
-    if rate < 65535 {
-        return rate as u16;
+    least(65535, rate as u64) as u16
+}
+
+// The extent of sample k with the values v.
+pub fn extent_of(b: &[u8], m: Parts, k: u32, v: &[i16; 61]) -> Extent
+    ensures { λ r. ⌜ r ≡ extentOf (now (b .entry)) m k (at (now (v .entry))) ⌝ }
+{
+    let start = word(records::start_of(b, m, k, v));
+    let end = word(records::end_of(b, m, k, v));
+    let from = word(records::loop_start_of(b, m, k, v));
+    let to = word(records::loop_end_of(b, m, k, v));
+    Extent {
+        rom: records::rom_of(b, m, k),
+        start,
+        end,
+        mode: play(records::mode_of(v)),
+        loopfrom: less(from, start),
+        loopto: less(to, start),
+        rate: rate16(records::rate_of(b, m, k)),
     }
-    65535
 }

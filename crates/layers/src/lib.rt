@@ -1,8 +1,10 @@
 // From a key to layers, and the voices that they start (01, "From a key to layers").
 mod barren;
+mod envelope;
 mod extent;
 mod layer_search;
 mod ranges;
+mod tuning;
 mod voicing;
 
 pub use layer_search::preset_for;

@@ -6,22 +6,15 @@ ghost use Rattle.layers.specs.Voicing.{voiceBy, voicesOf};
 ghost use Rattle.layers.specs.Internal.Voicing.{struckOf};
 use crate::Pair;
 use crate::Struck;
-use crate::extent::gap;
-use crate::extent::mode_of;
-use crate::extent::place_of;
-use crate::extent::rate16;
+use crate::envelope::envelope_of;
+use crate::extent::extent_of;
 use crate::layer_search::search;
+use crate::tuning::tuning_of;
+use curves::OctaveTable;
 use records::Parts;
 use totals::Layer;
 use totals::added_values;
-use totals::attenuation_of;
-use totals::class_of;
-use totals::keyed_time;
 use totals::own_values;
-use totals::pan_of;
-use totals::pitch_of;
-use totals::sustain_of;
-use totals::time_of;
 use voice::Stage;
 use voice::Voice;
 
@@ -45,7 +38,7 @@ fn sample_of(l: Layer) -> u32
     l.instrument.link as u32
 }
 
-// The voice that a layer starts.
+// The voice that a layer starts: its extent, its tuning and its envelope.
 fn voice_by(
     b: &[u8],
     m: Parts,
@@ -53,7 +46,7 @@ fn voice_by(
     channel: u8,
     key: u8,
     velocity: u8,
-    t: &[u32; 1200],
+    t: &OctaveTable,
 ) -> Voice
     requires { ⌜ now t ≡ octaves ⌝ }
     ensures { λ r. ⌜ r ≡ voiceBy (now (b .entry)) m l channel key velocity ⌝ }
@@ -61,34 +54,34 @@ fn voice_by(
     let own = own_values(b, m, l);
     let added = added_values(b, m, l);
     let k = sample_of(l);
-    let start = place_of(b, m, &own, k, 20, 0, 4);
-    let header = records::root_byte(b, m, k);
-    let correction = records::correction_of(b, m, k);
+    let extent = extent_of(b, m, k, &own);
+    let tuning = tuning_of(b, m, k, &own, &added, key, velocity);
+    let envelope = envelope_of(&own, &added, key, t);
     Voice {
         stage: Stage::Delay {
-            left: curves::short_frames(t, time_of(&own, &added, 33)),
+            left: envelope.delay,
         },
         place: 0,
         channel,
         key,
         velocity,
         marked: false,
-        class: class_of(&own),
-        rom: records::rom_of(b, m, k),
-        start,
-        end: place_of(b, m, &own, k, 24, 1, 12),
-        mode: mode_of(&own),
-        loopfrom: gap(start, place_of(b, m, &own, k, 28, 2, 45)),
-        loopto: gap(start, place_of(b, m, &own, k, 32, 3, 50)),
-        rate: rate16(records::rate_of(b, m, k)),
-        pitch: pitch_of(&own, &added, key, header, correction),
-        pan: pan_of(&own, &added),
-        attenuation: attenuation_of(&own, &added, velocity),
-        attack: curves::long_frames(t, time_of(&own, &added, 34)),
-        hold: curves::short_frames(t, keyed_time(&own, &added, key, 35, 39)),
-        decay: curves::long_frames(t, keyed_time(&own, &added, key, 36, 40)),
-        sustain: sustain_of(&own, &added),
-        release: curves::long_frames(t, time_of(&own, &added, 38)),
+        class: tuning.class,
+        rom: extent.rom,
+        start: extent.start,
+        end: extent.end,
+        mode: extent.mode,
+        loopfrom: extent.loopfrom,
+        loopto: extent.loopto,
+        rate: extent.rate,
+        pitch: tuning.pitch,
+        pan: tuning.pan,
+        attenuation: tuning.attenuation,
+        attack: envelope.attack,
+        hold: envelope.hold,
+        decay: envelope.decay,
+        sustain: envelope.sustain,
+        release: envelope.release,
     }
 }
 

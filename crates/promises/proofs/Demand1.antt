@@ -25,7 +25,6 @@ use Rattle.events.specs.Programs.{withProgram, programChange}
 use Rattle.events.specs.Bends.{withBend, pitchBend}
 use Rattle.events.specs.Striking.{layerVoices, noteOnNumber, noteOn, bankFrom, Bank, channelBank}
 use Rattle.events.specs.Starting.{struck, anyPast}
-use Rattle.state.specs.Board.{ask}
 use Rattle.state.proofs.AnswersLaws.{or-no}
 use Rattle.state.specs.Reach.{memory, endsPast}
 use Rattle.voice.specs.declared.Slot.{Slot}
@@ -38,6 +37,7 @@ use Rattle.bank.proofs.AdmittedLaws.{admitted-rules, rules-admitted}
 use Rattle.voice.specs.declared.Stage.{Stage}
 use Rattle.voice.specs.declared.Stage.the-variants.{Delay, Attack, Hold, Decay, Sustain, Release}
 use Rattle.voice.specs.Panel.{stageShown, shownNumber as panelNumber, shown}
+use Rattle.state.specs.Board.{ask}
 use Rattle.bank.specs.declared.Listed.the-variants.{Refused, End, Row}
 use Rattle.bank.specs.declared.Fault.{Fault}
 use Rattle.bank.specs.declared.Fault.the-variants.{Fine, Long, Chunk, Records, Index, Number, Rate, Window}

@@ -18,7 +18,7 @@ use Rattle.promises.proofs.Seats.{sized-run}
 use Rattle.promises.specs.Demand2.{OnesAreVoices, OtherVoicesStand, OtherChannelsStand, Fraction, OutputIsExact, CutsDoNotMatter}
 use Rattle.voice.specs.Frames.{after}
 use Rattle.state.specs.Slots.{slotAt, withClock}
-use Rattle.engine.specs.Rendering.{slotAfter, distance, played, renderNumber, render, mixed, leftSum, rightSum, output, rendered}
+use Rattle.engine.specs.Rendering.{slotAfter, distance, played, renderNumber, render, leftSum, rightSum, output, rendered}
 use Rattle.promises.proofs.EachSlot.{What, stands, pedalled, loosed, freed, started, goes, never, what, held-channel, either}
 use Rattle.voice.specs.declared.Voice.{Voice}
 use Rattle.voice.specs.declared.Channel.{Channel}
@@ -33,6 +33,7 @@ use Rattle.events.specs.Starting.{Started, start, startAll, cleared, struck}
 use Rattle.events.specs.Striking.{layerVoices, noteOnNumber, noteOn, bankFrom}
 use Rattle.events.specs.Programs.{withProgram, programChange}
 use Rattle.events.specs.Bends.{withBend, pitchBend}
+use Rattle.engine.specs.Mixer.{mixed}
 use Rattle.arith.proofs.HoldsLaws.{held-within}
 use Rattle.arith.specs.Holds.{heldTo}
 use Rattle.engine.proofs.MixerLaws.{unit-exact}

@@ -1,6 +1,6 @@
-pub mod Age
 pub mod Calls
 pub mod Demand1
+pub mod Age
 pub mod Demand2
 pub mod Demand3
 pub mod Determined

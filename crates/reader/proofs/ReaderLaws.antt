@@ -1,22 +1,27 @@
 -- What the listing gives at a place, case by case, and where k nexts from opening leave the reader.
-use mathlib.Core.Bool.{true, false, Bool, cond}
+use Prim.Native.Nat.{ℕ, _+_, _≤_, _<_, _^_, zero, suc, _-_}
 use mathlib.Core.List.{List}
+use mathlib.Core.Bool.{true, false, Bool, cond}
 use mathlib.Core.Path.{_≡_, refl, sym, ap, _∙_}
-use Prim.Native.Nat.{ℕ, _≤_, _<_, _+_, _^_, zero, suc, _-_}
 use native.Mathlib.Omega.{arith}
 use borrow.Author.Tests.{lt-ltb, le-ltb, ltb-true, ltb-false}
 use lib.Dec.{ltb}
 use native.Mathlib.Nat.{add-zero, add-suc}
 use native.Mathlib.Numerals.{add-one}
+use Rattle.bank.specs.declared.Listed.{Listed}
+use Rattle.bank.specs.declared.Listed.the-variants.{Row, Refused, End}
+use Rattle.records.specs.Sides.{partsOf, presets}
+use Rattle.records.specs.Headers.{programOf, bankOf}
 use Rattle.bank.specs.Admission.{admitted}
 use Rattle.bank.proofs.AdmittedLaws.{admitted-room}
 use Rattle.bank.specs.Listing.{listed}
-use Rattle.bank.specs.declared.Listed.the-variants.{Refused, End, Row}
 use Rattle.records.proofs.ChunksLaws.{chunk-next, chunk-up}
 use Rattle.records.specs.Chunks.{bytesIn, records}
-use Rattle.records.specs.Sides.{partsOf, presets}
-use Rattle.reader.specs.Reader.{heads, rowAt, further, placeAfter, nthListed}
-use Rattle.bank.specs.declared.Listed.{Listed}
+use Rattle.reader.specs.Reader.{heads, further, placeAfter, nthListed}
+
+-- record k's row
+abbrev pub rowAt : List ℕ → ℕ → Listed
+rowAt b k = Row (programOf b (partsOf b) k) (bankOf b (partsOf b) k) (k + 1)
 
 -- ---- one place
 module _ (b : List ℕ) where

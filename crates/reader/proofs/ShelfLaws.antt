@@ -6,12 +6,12 @@ use mathlib.Core.Bool.{true, false}
 use mathlib.Core.Path.{_≡_, refl, ap, ap₂, _∙_}
 use native.Mathlib.Nat.{add-zero, add-suc}
 use native.Mathlib.Omega.{arith}
-use Rattle.reader.specs.Reader.{openedOf, nextOf, rowAt, placeAfter, nthListed, heads}
+use Rattle.reader.specs.Reader.{openedOf, nextOf, placeAfter, nthListed, heads}
 use Rattle.reader.specs.declared.Reader.{Reader}
 use Rattle.bank.specs.declared.Listed.{Listed}
+use Rattle.reader.proofs.ReaderLaws.{rowAt, given-row, given-end, given-refused}
 use Rattle.bank.specs.Admission.{admitted}
 use Rattle.bank.specs.declared.Listed.the-variants.{Refused, End}
-use Rattle.reader.proofs.ReaderLaws.{given-row, given-end, given-refused}
 
 -- the reader after k nexts from opening
 unfoldable pub readerAfter : RefT (List ℕ) → ℕ → Reader

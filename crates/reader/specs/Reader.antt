@@ -1,5 +1,5 @@
 -- 01, "Bank admission": the listing reader, as steps of the listing from place to place.
-use Prim.Native.Nat.{ℕ, zero, suc, _-_, _+_}
+use Prim.Native.Nat.{ℕ, zero, suc, _-_}
 use mathlib.Core.List.{List}
 use denote.Ref.{RefT, now}
 use Rattle.bank.specs.declared.Listed.{Listed}
@@ -10,7 +10,6 @@ use Rattle.reader.specs.declared.Opened.{Opened}
 use Rattle.reader.specs.declared.Reader.{Reader}
 use Rattle.reader.specs.declared.Taken.{Taken}
 use Rattle.records.specs.Sides.{partsOf}
-use Rattle.records.specs.Headers.{programOf, bankOf}
 
 -- the place behind what stands at a place: the row's next, else the place itself
 abbrev pub placeBehind : Listed → ℕ → ℕ
@@ -42,7 +41,3 @@ nthListed b k = listed b (placeAfter b k)
 -- how many phdr records there are but the terminal
 abbrev pub heads : List ℕ → ℕ
 heads b = partsOf b .presets .nheads - 1
-
--- record k's row
-abbrev pub rowAt : List ℕ → ℕ → Listed
-rowAt b k = Row (programOf b (partsOf b) k) (bankOf b (partsOf b) k) (k + 1)

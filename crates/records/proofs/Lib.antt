@@ -1,4 +1,5 @@
 pub mod AmountsLaws
 pub mod ChunksLaws
+pub mod JoinLaws
 pub mod LookingLaws
 pub mod ZonesLaws

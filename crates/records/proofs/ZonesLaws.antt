@@ -54,10 +54,7 @@ module _ (b : List ℕ) (s : Side) (p : ℕ → ℕ → Bool) where
       by Nothing x k = let z : _≡_ {A = ℕ} 0 1 = cc in absurd (omega arith)
       by (At z) x k = rw (zone-in h z e x m) k
 
-  -- the same, where the loop holds the first zone of head h and their number
-  pub zone-found : (h j from count : ℕ) → from ≡ bagOf b s h → count ≡ zoneCount b s h → zoneBelow b s p h ≡ Nothing → first (p h) from j ≡ Nothing → p h (from + j) ≡ true → j < count → h < s .nheads - 1 → firstZone b s p ≡ At (from + j)
-  zone-found h j from count begins all e f t l m = rw begins (zone-hit h j e (rw begins at f) (rw begins at t) (rw all at l) m)
-
+  -- the zones of one head more, where the loop holds its first zone and their number
   pub below-more : (h from count : ℕ) → from ≡ bagOf b s h → count ≡ zoneCount b s h → zoneBelow b s p h ≡ Nothing → first (p h) from count ≡ Nothing → zoneBelow b s p (h + 1) ≡ Nothing
   below-more h from count begins all e f = below-next h e (rw (begins, all) at f)
 

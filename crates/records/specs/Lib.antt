@@ -1,8 +1,8 @@
 pub mod Chunks
-pub mod Headers
-pub mod Looking
-pub mod Memory
 pub mod Sides
-pub mod Windows
+pub mod Looking
 pub mod Zones
+pub mod Headers
+pub mod Windows
+pub mod Memory
 pub mod Internal

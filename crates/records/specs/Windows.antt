@@ -7,41 +7,38 @@ use lib.Dec.{eqb}
 use lib.Signed.{ltZ, leZ}
 use Rattle.arith.specs.Bytes.{u32At}
 use Rattle.records.specs.Headers.{sampleAt}
-use Rattle.records.specs.Zones.{value}
 use Rattle.records.specs.declared.Parts.{Parts}
-use Rattle.records.specs.declared.Zone.{Zone}
 use Rattle.arith.specs.Floors.{modZ}
+use Rattle.records.specs.Zones.{value}
+use Rattle.records.specs.declared.Zone.{Zone}
 
 -- a place, plus a fine amount, plus 32,768 times a coarse amount
 unfoldable pub shifted : ℕ → ℤ → ℤ → ℤ
 shifted place fine coarse = pos place +ℤ fine +ℤ coarse *ℤ pos 32768
 
--- the header's place at the offset, moved by the generators fine and coarse
-unfoldable pub placeMoved : List ℕ → Parts → Zone → Zone → ℕ → ℕ → ℕ → ℤ
-placeMoved b m local global offset fine coarse =
-    shifted (u32At b (sampleAt m (local .link) + offset))
-    (value b (m .instruments) local global (pos 0) fine)
-    (value b (m .instruments) local global (pos 0) coarse)
+-- the place of sample k at the offset of its header, moved by the values v of the generators fine and coarse
+unfoldable pub placeMoved : List ℕ → Parts → ℕ → (ℕ → ℤ) → ℕ → ℕ → ℕ → ℤ
+placeMoved b m k v offset fine coarse = shifted (u32At b (sampleAt m k + offset)) (v fine) (v coarse)
 
--- the window's start
-unfoldable pub startOf : List ℕ → Parts → Zone → Zone → ℤ
-startOf b m local global = placeMoved b m local global 20 0 4
+-- the start of the window of sample k with the values v
+unfoldable pub startOf : List ℕ → Parts → ℕ → (ℕ → ℤ) → ℤ
+startOf b m k v = placeMoved b m k v 20 0 4
 
 -- its end
-unfoldable pub endOf : List ℕ → Parts → Zone → Zone → ℤ
-endOf b m local global = placeMoved b m local global 24 1 12
+unfoldable pub endOf : List ℕ → Parts → ℕ → (ℕ → ℤ) → ℤ
+endOf b m k v = placeMoved b m k v 24 1 12
 
 -- its loop start
-unfoldable pub loopStartOf : List ℕ → Parts → Zone → Zone → ℤ
-loopStartOf b m local global = placeMoved b m local global 28 2 45
+unfoldable pub loopStartOf : List ℕ → Parts → ℕ → (ℕ → ℤ) → ℤ
+loopStartOf b m k v = placeMoved b m k v 28 2 45
 
 -- its loop end
-unfoldable pub loopEndOf : List ℕ → Parts → Zone → Zone → ℤ
-loopEndOf b m local global = placeMoved b m local global 32 3 50
+unfoldable pub loopEndOf : List ℕ → Parts → ℕ → (ℕ → ℤ) → ℤ
+loopEndOf b m k v = placeMoved b m k v 32 3 50
 
--- generator 54 modulo 4
-unfoldable pub modeOf : List ℕ → Parts → Zone → Zone → ℕ
-modeOf b m local global = modZ (value b (m .instruments) local global (pos 0) 54) 4
+-- its mode: generator 54 modulo 4
+unfoldable pub modeOf : (ℕ → ℤ) → ℕ
+modeOf v = modZ (v 54) 4
 
 -- modes 1 and 3 loop; mode 2 counts as 0
 unfoldable pub loops : ℕ → Bool
@@ -53,8 +50,11 @@ goodPlaces start end from to looping =
     leZ (pos 0) start && ltZ start end && ltZ end (pos 4294967296)
     && (not looping || leZ start from && ltZ from to && leZ to end)
 
--- whether a zone's window is good
-unfoldable pub goodWindow : List ℕ → Parts → Zone → Zone → Bool
-goodWindow b m local global =
-    goodPlaces (startOf b m local global) (endOf b m local global) (loopStartOf b m local global) (loopEndOf b m local global)
-    (loops (modeOf b m local global))
+-- whether the window of sample k with the values v is good
+unfoldable pub goodWindow : List ℕ → Parts → ℕ → (ℕ → ℤ) → Bool
+goodWindow b m k v =
+    goodPlaces (startOf b m k v) (endOf b m k v) (loopStartOf b m k v) (loopEndOf b m k v) (loops (modeOf v))
+
+-- the values that move an instrument zone's window: local, else global, else 0
+abbrev pub movers : List ℕ → Parts → Zone → Zone → ℕ → ℤ
+movers b m local global = value b (m .instruments) local global (pos 0)

@@ -1,6 +1,7 @@
 // All amounts of a zone in one pass.
 ghost use mathlib.Core.Path.{_≡_};
 ghost use Prim.Native.Nat.{_≤_};
+ghost use Rattle.arith.specs.Within.{Within};
 ghost use Rattle.records.specs.Internal.Amounts.{poured};
 ghost use Rattle.records.specs.Sides.{operator};
 use crate::Side;
@@ -9,6 +10,7 @@ use crate::amount;
 use arith::signed16;
 use arith::u16_at;
 
+// The operator of generator g.
 pub fn operator(b: &[u8], s: Side, g: usize) -> u16
     requires { ⌜ g ≤ 8589934592 ⌝ }
     ensures { λ r. ⌜ r ≡ operator (now (b .entry)) s g ⌝ }
@@ -32,4 +34,11 @@ pub fn poured(b: &[u8], s: Side, z: Zone, d: [i16; 61]) -> [i16; 61]
         n = n + 1;
     }
     a
+}
+
+// A value, widened so that sums of values fit.
+pub fn wide(x: i16) -> i64
+    ensures { λ r. ⌜ (r ≡ x) × Within r 32768 ⌝ }
+{
+    x as i64
 }

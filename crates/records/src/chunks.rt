@@ -5,8 +5,10 @@ ghost use lib.ListN.{getD};
 ghost use Rattle.records.specs.Chunks.{sizes, chunkAt, records, body};
 use arith::u32_at;
 
+// The sizes of the records of the nine chunks.
 const SIZES: [u32; 9] = [38, 4, 10, 4, 22, 4, 10, 4, 46];
 
+// The size of a record of chunk k.
 pub fn size(k: usize) -> u32
     requires { ⌜ k < 9 ⌝ }
     ensures { λ r. ⌜ (r ≡ getD sizes k 0) × (0 < r) ⌝ }

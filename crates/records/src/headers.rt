@@ -25,6 +25,7 @@ pub fn place_of(b: &[u8], m: Parts, k: u32, offset: u8) -> u32
     u32_at(b, field_at(m, k, offset))
 }
 
+// The sample rate of sample k.
 pub fn rate_of(b: &[u8], m: Parts, k: u32) -> u32
     ensures { λ r. ⌜ r ≡ rateOf (now (b .entry)) m k ⌝ }
 {
@@ -63,6 +64,7 @@ pub fn correction_of(b: &[u8], m: Parts, k: u32) -> i8
     signed8(byte(b, field_at(m, k, 41)))
 }
 
+// The program of preset h.
 pub fn program_of(b: &[u8], m: Parts, h: u32) -> u16
     ensures { λ r. ⌜ r ≡ programOf (now (b .entry)) m h ⌝ }
 {
@@ -70,6 +72,7 @@ pub fn program_of(b: &[u8], m: Parts, h: u32) -> u16
     u16_at(b, (p.heads as usize) + times(p.width, h as usize) + 20)
 }
 
+// The bank of preset h.
 pub fn bank_of(b: &[u8], m: Parts, h: u32) -> u16
     ensures { λ r. ⌜ r ≡ bankOf (now (b .entry)) m h ⌝ }
 {

@@ -9,6 +9,7 @@ use crate::body;
 use crate::records_in;
 use arith::u16_at;
 
+// The bag index of head h.
 pub fn bag_of(b: &[u8], s: Side, h: usize) -> u16
     requires { ⌜ h ≤ 4294967296 ⌝ }
     ensures { λ r. ⌜ r ≡ bagOf (now (b .entry)) s h ⌝ }
@@ -19,6 +20,7 @@ pub fn bag_of(b: &[u8], s: Side, h: usize) -> u16
     )
 }
 
+// The generator index of bag z.
 pub fn gen_of(b: &[u8], s: Side, z: usize) -> u16
     requires { ⌜ z ≤ 4294967296 ⌝ }
     ensures { λ r. ⌜ r ≡ genOf (now (b .entry)) s z ⌝ }
@@ -26,6 +28,7 @@ pub fn gen_of(b: &[u8], s: Side, z: usize) -> u16
     u16_at(b, (s.bags as usize) + 4 * z)
 }
 
+// The modulator index of bag z.
 pub fn mod_of(b: &[u8], s: Side, z: usize) -> u16
     requires { ⌜ z ≤ 4294967296 ⌝ }
     ensures { λ r. ⌜ r ≡ modOf (now (b .entry)) s z ⌝ }
@@ -33,6 +36,7 @@ pub fn mod_of(b: &[u8], s: Side, z: usize) -> u16
     u16_at(b, (s.bags as usize) + 4 * z + 2)
 }
 
+// The lists of presets: heads of 38 bytes with the bag index at 24, and 41 to name an instrument.
 pub fn presets(b: &[u8]) -> Side
     requires { ⌜ chunkAt (now b) 9 ≤ 65536 ⌝ }
     ensures { λ r. ⌜ r ≡ presets (now (b .entry)) ⌝ }
@@ -52,6 +56,7 @@ pub fn presets(b: &[u8]) -> Side
     }
 }
 
+// The lists of instruments: heads of 22 bytes with the bag index at 20, and 53 to name a sample.
 pub fn instruments(b: &[u8]) -> Side
     requires { ⌜ chunkAt (now b) 9 ≤ 65536 ⌝ }
     ensures { λ r. ⌜ r ≡ instruments (now (b .entry)) ⌝ }
@@ -71,6 +76,7 @@ pub fn instruments(b: &[u8]) -> Side
     }
 }
 
+// Where all lists of a bank are.
 pub fn parts_of(b: &[u8]) -> Parts
     requires { ⌜ chunkAt (now b) 9 ≤ 65536 ⌝ }
     ensures { λ r. ⌜ r ≡ partsOf (now (b .entry)) ⌝ }

@@ -1,6 +1,6 @@
 // Zones: sounding, global, and the generators that count.
 ghost use mathlib.Core.Path.{_≡_};
-ghost use Prim.Native.Nat.{_-_, _≤_};
+ghost use Prim.Native.Nat.{_≤_};
 ghost use Rattle.records.specs.Sides.{amount};
 ghost use Rattle.records.specs.Zones.{has, zoneCount, genCount, closingOf, zoneAt, globalOf, linkAt};
 use crate::Found;
@@ -9,6 +9,7 @@ use crate::Zone;
 use crate::bag_of;
 use crate::gen_of;
 use crate::operator;
+use arith::less;
 use arith::u16_at;
 
 // Whether generator g has the operator o.
@@ -27,27 +28,22 @@ pub fn amount(b: &[u8], s: Side, g: usize) -> u16
     u16_at(b, (s.gens as usize) + 4 * g + 2)
 }
 
-// high - low; 0 where low is above it.
-fn gap(low: u16, high: u16) -> u16
-    ensures { λ r. ⌜ r ≡ high - low ⌝ }
-{
-    if low < high {
-        return high - low;
-    }
-    0
-}
-
 // How many zones head h has.
 pub fn zone_count(b: &[u8], s: Side, h: u32) -> u16
     ensures { λ r. ⌜ r ≡ zoneCount (now (b .entry)) s h ⌝ }
 {
-    gap(bag_of(b, s, h as usize), bag_of(b, s, (h as usize) + 1))
+    let from = bag_of(b, s, h as usize);
+    let to = bag_of(b, s, (h as usize) + 1);
+    less(to as u32, from as u32) as u16
 }
 
+// How many generators bag z has as stored.
 pub fn gen_count(b: &[u8], s: Side, z: u32) -> u16
     ensures { λ r. ⌜ r ≡ genCount (now (b .entry)) s z ⌝ }
 {
-    gap(gen_of(b, s, z as usize), gen_of(b, s, (z as usize) + 1))
+    let from = gen_of(b, s, z as usize);
+    let to = gen_of(b, s, (z as usize) + 1);
+    less(to as u32, from as u32) as u16
 }
 
 // The first 41 (53) of bag z.

@@ -10,7 +10,7 @@ use Rattle.arith.specs.Lists.{countIf}
 use Rattle.voice.specs.declared.Slot.{Slot}
 use Rattle.voice.specs.declared.Shown.the-variants as is
 
--- what it is told; a slot past 31 is refused, 2 (`Panel.numberOf`)
+-- what it is told; a slot past 31 is refused, 2 (`shownNumber`)
 unfoldable pub ask : ℕ → Engine → Shown
 ask slot e = cond (ltb 31 slot) is.Refused (shown (slotAt e slot))
 

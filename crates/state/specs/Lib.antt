@@ -1,8 +1,8 @@
-pub mod Answers
-pub mod Board
-pub mod Channels
 pub mod Quiet
+pub mod Channels
+pub mod Slots
 pub mod Reach
 pub mod Seats
-pub mod Slots
+pub mod Answers
+pub mod Board
 pub mod Internal

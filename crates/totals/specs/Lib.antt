@@ -1,3 +1,3 @@
-pub mod Settings
 pub mod Values
+pub mod Settings
 pub mod Internal

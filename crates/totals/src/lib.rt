@@ -12,7 +12,6 @@ pub use settings::sustain_of;
 pub use settings::time_of;
 pub use values::added_values;
 pub use values::own_values;
-pub use values::wide;
 
 // A layer's four zones: the preset's and the instrument's, each with the global one of its head.
 pub struct Layer {

@@ -5,11 +5,12 @@ ghost use lib.IntN.{pos, negsuc, natAbs, _+ℤ_, _-ℤ_, _*ℤ_};
 ghost use Rattle.arith.specs.Within.{Within};
 ghost use Rattle.arith.specs.Holds.{heldTo};
 ghost use Rattle.arith.specs.Floors.{modZ};
-ghost use Rattle.totals.specs.Internal.Values.{at, totalIn};
+ghost use Rattle.totals.specs.Internal.Values.{totalIn};
+ghost use Rattle.records.specs.Internal.Amounts.{at};
 ghost use Rattle.totals.specs.Settings.{ifMidi, keyOf, rootOf, pitchOf, softness, attenuationOf};
 use crate::values::held_at;
 use crate::values::sum_at;
-use crate::values::wide;
+use records::wide;
 
 // x if low..127, else the other.
 fn if_midi(low: u8, x: i16, other: u8) -> u8
@@ -41,7 +42,9 @@ fn root_of(own: &[i16; 61], added: &[i16; 61], header: u8) -> u8
 
 // (k - r) * scale + 100 * coarse + fine + correction
 fn tune(k: i64, r: i64, scale: i64, coarse: i64, fine: i64, correction: i64) -> i32
-    requires { ⌜ Within k 255 × Within r 255 × Within scale 1200 × Within coarse 1200 × Within fine 1200 × Within correction 128 ⌝ }
+    requires keys { ⌜ Within k 255 × Within r 255 ⌝ }
+    requires tuning { ⌜ Within scale 1200 × Within coarse 1200 × Within fine 1200 ⌝ }
+    requires corrected { ⌜ Within correction 128 ⌝ }
     ensures { λ z. ⌜ z ≡ (k -ℤ r) *ℤ scale +ℤ pos 100 *ℤ coarse +ℤ fine +ℤ correction ⌝ }
 {
     ((k - r) * scale + 100 * coarse + fine + correction) as i32

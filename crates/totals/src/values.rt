@@ -4,9 +4,12 @@ ghost use Prim.Native.Nat.{_<_};
 ghost use lib.IntN.{_+ℤ_};
 ghost use Rattle.arith.specs.Holds.{heldTo};
 ghost use Rattle.arith.specs.Within.{Within};
-ghost use Rattle.totals.specs.Internal.Values.{at, defaults, ownValues, addedValues};
+ghost use Rattle.totals.specs.Internal.Values.{defaults, ownValues, addedValues};
+ghost use Rattle.records.specs.Internal.Amounts.{at};
 use crate::Layer;
+use arith::hold;
 use records::Parts;
+use records::wide;
 
 // What a generator has where no zone says anything.
 fn defaults() -> [i16; 61]
@@ -42,13 +45,6 @@ pub fn added_values(b: &[u8], m: Parts, l: Layer) -> [i16; 61]
     records::poured(b, p, l.preset, global)
 }
 
-// A value, widened so that sums of two fit.
-pub fn wide(x: i16) -> i64
-    ensures { λ r. ⌜ (r ≡ x) × Within r 32768 ⌝ }
-{
-    x as i64
-}
-
 // A generator's two values added.
 pub fn sum_at(own: &[i16; 61], added: &[i16; 61], g: usize) -> i64
     requires { ⌜ g < 61 ⌝ }
@@ -62,12 +58,5 @@ pub fn held_at(own: &[i16; 61], added: &[i16; 61], g: usize, low: i64, high: i64
     requires { ⌜ (g < 61) × Within low 1200 × Within high 1200 ⌝ }
     ensures { λ r. ⌜ (r ≡ heldTo low high (at (now (own .entry)) g +ℤ at (now (added .entry)) g)) × Within r 1200 ⌝ }
 {
-    let x = sum_at(own, added, g);
-    if x < low {
-        return low;
-    }
-    if high < x {
-        return high;
-    }
-    x
+    hold(low, high, sum_at(own, added, g))
 }

@@ -11,7 +11,8 @@ use lib.IntN.{ℤ, pos, negsuc, _+ℤ_}
 use lib.Signed.{ltZ}
 use Rattle.voice.specs.Motion.{fold, pitchTotal, step}
 use Rattle.arith.proofs.HoldsLaws.{clamp-in}
-use Rattle.curves.specs.Pitch.{pitchHeld, stepAt, bendCents}
+use Rattle.curves.specs.Pitch.{pitchHeld, bendCents}
+use Rattle.curves.specs.Internal.Pitch.{stepAt}
 use Rattle.voice.specs.declared.Voice.{Voice}
 use Rattle.voice.specs.declared.Channel.{Channel}
 

@@ -1,4 +1,4 @@
--- A stage that a frame enters alive has room for one frame more: its count is below a 32-bit number of frames.
+-- Room in a stage's count: a stage that a frame enters alive has room for one frame more, since its count is below a 32-bit number of frames.
 use Prim.Native.Nat.{_<_, ℕ, _*_, _/_, suc, min, zero, _≤_, _+_}
 use native.Mathlib.Nat.{div-lt-iff-lt-mul, min-eq-left, min-eq-right, zero-lt-suc}
 use native.Mathlib.Omega.{arith}

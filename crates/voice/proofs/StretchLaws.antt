@@ -17,8 +17,8 @@ use Rattle.voice.specs.declared.Voice.{Voice}
 use Rattle.voice.specs.Changes.{withMoved, sounds}
 use Rattle.voice.specs.Stages.{envelope, entered, dead, released, fromDelay, fromAttack, fromHold, fromDecay, spent, spentBy}
 use Rattle.voice.specs.Motion.{folds, span}
-use Rattle.voice.specs.Internal.Calm.{Calm, Calms}
 use Rattle.voice.specs.Reading.{sample, interpolated, behind, reading}
+use Rattle.voice.specs.Internal.Calm.{Calm, Calms}
 use Rattle.arith.specs.Floors.{floorZ}
 use Rattle.curves.specs.Levels.{gainOf}
 use Rattle.voice.specs.declared.Slot.{Slot}

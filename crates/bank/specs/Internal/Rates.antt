@@ -7,9 +7,8 @@ use Rattle.records.specs.declared.Found.{Found}
 use Rattle.records.specs.declared.Found.the-variants.{Nothing, At}
 use Rattle.arith.specs.Holds.{between}
 use Rattle.records.specs.Headers.{rateOf}
-use Rattle.records.specs.Zones.{zoneAt, zoneCount}
+use Rattle.records.specs.Zones.{zoneAt}
 use Rattle.records.specs.declared.Parts.{Parts}
-use Rattle.records.specs.Sides.{bagOf}
 
 -- the lower of what was found and k
 abbrev pub lower : Found → ℕ → Found
@@ -30,8 +29,3 @@ withZone b m z low = cond (badRated b m z) (lower low (zoneAt b (m .instruments)
 unfoldable pub withZones : List ℕ → Parts → ℕ → ℕ → Found → Found
 withZones b m from zero low = low
 withZones b m from (suc n) low = withZone b m (from + n) (withZones b m from n low)
-
--- the lowest sample at fault that an instrument below n names
-unfoldable pub lowestBelow : List ℕ → Parts → ℕ → Found
-lowestBelow b m zero = Nothing
-lowestBelow b m (suc h) = withZones b m (bagOf b (m .instruments) h) (zoneCount b (m .instruments) h) (lowestBelow b m h)

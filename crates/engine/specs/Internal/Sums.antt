@@ -8,8 +8,9 @@ use Rattle.voice.specs.declared.Slot.{Slot}
 use Rattle.voice.specs.Internal.Frames.{heard}
 use Rattle.state.specs.declared.Engine.{Engine}
 use Rattle.state.specs.Channels.{channelAt}
-use Rattle.engine.specs.Rendering.{window, mixed}
+use Rattle.engine.specs.Rendering.{window}
 use Rattle.voice.specs.Internal.Sums.{addTo}
+use Rattle.engine.specs.Mixer.{mixed}
 
 -- what a slot gives in n frames, left and right alternating
 abbrev pub slotHeard : List ℤ → List ℤ → Engine → ℕ → Slot → List ℤ

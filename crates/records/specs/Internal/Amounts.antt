@@ -1,7 +1,8 @@
 -- All amounts of a zone at once: a list in which operator o has place o.
 use mathlib.Core.List.{List, [], _∷_}
 use Prim.Native.Nat.{ℕ, suc}
-use lib.IntN.{ℤ}
+use lib.IntN.{ℤ, pos}
+use lib.ListN.{getD}
 use Rattle.records.specs.Zones.{amountIn}
 use Rattle.records.specs.declared.Side.{Side}
 use Rattle.records.specs.declared.Zone.{Zone}
@@ -14,3 +15,7 @@ pouredFrom b s z o (x ∷ xs) = amountIn b s z x o ∷ pouredFrom b s z (suc o) 
 -- a zone's amounts over a list of numbers given, from operator 0 on
 unfoldable pub poured : List ℕ → Side → Zone → List ℤ → List ℤ
 poured b s z d = pouredFrom b s z 0 d
+
+-- what generator g has in such a list
+abbrev pub at : List ℤ → ℕ → ℤ
+at v g = getD v g (pos 0)

@@ -2,15 +2,11 @@
 use mathlib.Core.List.{List, [], _∷_}
 use Prim.Native.Nat.{ℕ, zero, suc}
 use lib.IntN.{ℤ, pos}
-use lib.ListN.{getD, replicate}
+use lib.ListN.{replicate}
 use Rattle.totals.specs.Values.{totalOf, defaultOf}
-use Rattle.records.specs.Internal.Amounts.{poured}
+use Rattle.records.specs.Internal.Amounts.{at, poured}
 use Rattle.records.specs.declared.Parts.{Parts}
 use Rattle.totals.specs.declared.Layer.{Layer}
-
--- what generator g has
-abbrev pub at : List ℤ → ℕ → ℤ
-at t g = getD t g (pos 0)
 
 -- the total of generator g, of the instrument's values and the preset's
 abbrev pub totalIn : List ℤ → List ℤ → ℕ → ℤ

@@ -1,8 +1,8 @@
 -- Frames in which the gain stays, and which differ in their place and their count alone.
-use Prim.Native.Nat.{ℕ, _+_, _<_, _*_, _/_}
 use mathlib.Core.Path.{_≡_}
 use mathlib.Core.Bool.{false}
 use lib.IntN.{ℤ}
+use Prim.Native.Nat.{ℕ, _<_, _+_, _*_, _/_}
 use Rattle.voice.specs.declared.Stage.{Stage}
 use Rattle.voice.specs.declared.Voice.{Voice}
 use Rattle.voice.specs.Stages.{envelope, entered, dead, waiting, released, spentBy}

@@ -1,24 +1,27 @@
--- `bank::windows::bad_over` meets its contract.
-use mathlib.Core.Bool.{Bool, true, not, _&&_}
-use mathlib.Core.Path.{_≡_, refl, sym, ap, _∙_}
+-- `bad_over` meets its contract.
 use borrow.Author.Needs.{needs}
+use mathlib.Core.Bool.{Bool, true, not, _&&_}
+use mathlib.Core.List.{List}
+use mathlib.Core.Path.{_≡_, refl, sym, ap, _∙_}
+use lib.IntN.{ℤ}
 use Rattle.records.specs.declared.Zone.{Zone}
-use Rattle.records.specs.Internal.Amounts.{poured}
-use Rattle.bank.specs.Internal.Bounds.{goodAmounts, badOver}
+use Rattle.records.specs.Internal.Amounts.{poured, at}
+use Rattle.records.specs.Windows.{goodWindow}
+use Rattle.bank.specs.Internal.Bounds.{badOver}
 use Rattle.bank.proofs.bounds.bad_over.Statement.{statement}
 use Rattle.bank.proofs.bounds.bad_over.Tie as tie
 
 zone-at-requires : tie.Need-zone-at-requires
 zone-at-requires c κs = search needs
 
-cast-good-amounts : tie.Need-cast-good-amounts
-cast-good-amounts c = search needs
-
 poured-requires : tie.Need-poured-requires
 poured-requires c κs = search needs
 
-good-amounts-requires : tie.Need-good-amounts-requires
-good-amounts-requires c κs = search needs
+cast-good-window : tie.Need-cast-good-window
+cast-good-window c = search needs
+
+good-window-requires : tie.Need-good-window-requires
+good-window-requires c κs = search needs
 
 -- of a zone that sounds the window counts; said apart, since a rewrite would reach into the zone that is poured too
 sounds : {t x y : Bool} → t ≡ true → x ≡ y → x ≡ (t && y)
@@ -27,11 +30,11 @@ sounds e f = rw e f
 returns : tie.Need-returns
 unfolding badOver
 returns c =
-    let k = c .before .before .before in
+    let k = c .before .before .before .before in
     let a = k .before .before .before .before .args in
     let e = k .before .zone-at .ensures in
-    let good = c .good-amounts .ensures ∙ ap (goodAmounts (a .b .now) (a .m) (k .before .zone-at .result .link)) (c .before .poured .ensures) in
-    let same = ap (λ (zone : Zone). goodAmounts (a .b .now) (a .m) (zone .link) (poured (a .b .now) (a .m .instruments) zone (a .global))) e in
+    let good = c .good-window .ensures ∙ ap (λ (v : List ℤ). goodWindow (a .b .now) (a .m) (k .before .zone-at .result .link) (at v)) (c .before .before .before .poured .ensures) in
+    let same = ap (λ (zone : Zone). goodWindow (a .b .now) (a .m) (zone .link) (at (poured (a .b .now) (a .m .instruments) zone (a .global)))) e in
     sounds (sym (ap (λ (zone : Zone). zone .sounding) e) ∙ k .if1 .taken) (ap not (good ∙ same))
 
 returns-2 : tie.Need-returns-2
@@ -43,8 +46,8 @@ bad-over-spec =
     tie.close
     (tie.spec
     zone-at-requires
-    cast-good-amounts
     poured-requires
-    good-amounts-requires
+    cast-good-window
+    good-window-requires
     returns
     returns-2)

@@ -1,4 +1,4 @@
--- `bank::windows::window_in` meets its contract.
+-- `window_in` meets its contract.
 use borrow.Author.Needs.{needs}
 use mathlib.Core.Path.{_≡_, refl, sym, ap, _∙_}
 use native.Mathlib.Omega.{arith}

@@ -1,4 +1,4 @@
--- `bank::chunks::bad_chunk` meets its contract.
+-- `bad_chunk` meets its contract.
 use lib.ListN.{getD, length}
 use lib.Dec.{eqb, ltb}
 use borrow.Author.Tests.{ne-eqb, eq-eqb}

@@ -1,4 +1,4 @@
--- `bank::chunks::bad_records` meets its contract.
+-- `bad_records` meets its contract.
 use lib.ListN.{getD}
 use lib.Dec.{ltb}
 use Prim.Native.Nat.{ℕ, _+_, _%_}

@@ -1,4 +1,4 @@
--- `bank::chunks::chunk_fault` meets its contract.
+-- `chunk_fault` meets its contract.
 use lib.ListN.{length}
 use Prim.Native.Nat.{_-_, _≤_}
 use borrow.Author.Tests.{lt-ltb, le-ltb}

@@ -1,4 +1,4 @@
--- `bank::chunks::records_fault` meets its contract.
+-- `records_fault` meets its contract.
 use Prim.Native.Nat.{_-_, _≤_}
 use native.Mathlib.Omega.{arith}
 use mathlib.Core.Path.{_≡_, sym, ap, _∙_}

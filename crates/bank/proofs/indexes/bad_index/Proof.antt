@@ -1,4 +1,4 @@
--- `bank::indexes::bad_index` meets its contract.
+-- `bad_index` meets its contract.
 use mathlib.Core.Path.{sym, _∙_}
 use borrow.Author.Needs.{needs}
 use Rattle.bank.specs.Indexes.{badAt}

@@ -1,4 +1,4 @@
--- `bank::indexes::bag_fault` meets its contract.
+-- `bag_fault` meets its contract.
 use borrow.Author.Needs.{needs}
 use mathlib.Core.Path.{_≡_, sym, ap, _∙_}
 use native.Mathlib.Omega.{arith}

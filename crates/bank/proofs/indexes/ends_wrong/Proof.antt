@@ -1,4 +1,4 @@
--- `bank::indexes::ends_wrong` meets its contract.
+-- `ends_wrong` meets its contract.
 use borrow.Author.Tests.{eq-eqb, ne-eqb}
 use borrow.Author.Needs.{needs}
 use Rattle.bank.specs.Indexes.{endsWrong}

@@ -1,4 +1,4 @@
--- `bank::indexes::falls` meets its contract.
+-- `falls` meets its contract.
 use borrow.Author.Tests.{lt-ltb, le-ltb}
 use Rattle.bank.specs.Indexes.{fallsAt}
 use Rattle.bank.proofs.indexes.falls.Statement.{statement}

@@ -1,4 +1,4 @@
--- `bank::indexes::index_fault` meets its contract.
+-- `index_fault` meets its contract.
 use mathlib.Core.Path.{ap₂, _∙_}
 use borrow.Author.Needs.{needs}
 use Rattle.bank.specs.Indexes.{indexFault}

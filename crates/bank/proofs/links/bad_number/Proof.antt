@@ -1,4 +1,4 @@
--- `bank::numbers::bad_number` meets its contract.
+-- `bad_number` meets its contract.
 use mathlib.Core.Bool.{not}
 use mathlib.Core.Path.{refl, ap}
 use Prim.Native.Nat.{ℕ}
@@ -14,15 +14,15 @@ zone-at-requires c κs = search needs
 cast-result : tie.Need-cast-result
 cast-result c = search needs
 
-less-one-requires : tie.Need-less-one-requires
-less-one-requires c κs = search needs
+less-requires : tie.Need-less-requires
+less-requires c κs = search needs
 
 returns : tie.Need-returns
 unfolding badNumber
 returns c =
     let k = c .before .before in
     let zone = k .before .zone-at .result in
-    rw (← k .before .zone-at .ensures, k .if1 .taken) (ap (λ (limit : ℕ). not (ltb (zone .link) limit)) (c .less-one .ensures .0))
+    rw (← k .before .zone-at .ensures, k .if1 .taken) (ap (λ (limit : ℕ). not (ltb (zone .link) limit)) (c .less .ensures))
 
 returns-2 : tie.Need-returns-2
 unfolding badNumber
@@ -30,4 +30,4 @@ returns-2 c = rw (← c .before .zone-at .ensures, c .if1 .left) refl
 
 pub bad-number-spec : {M : Type 1} → statement M
 bad-number-spec =
-    tie.close (tie.spec zone-at-requires cast-result less-one-requires returns returns-2)
+    tie.close (tie.spec zone-at-requires cast-result less-requires returns returns-2)

@@ -1,4 +1,4 @@
--- `bank::numbers::link_fault` meets its contract.
+-- `link_fault` meets its contract.
 use borrow.Author.Needs.{needs}
 use mathlib.Core.Path.{_≡_, sym, _∙_}
 use native.Mathlib.Omega.{arith}
@@ -17,11 +17,8 @@ Inv-loop b s heads h₀ h = (zoneBelow b s (badNumber b s) h ≡ Nothing) × (h 
 abbrev μ-loop : tie.MeasureT-loop
 μ-loop b s heads h₀ h = heads - h
 
-less-one-requires : tie.Need-less-one-requires Inv-loop μ-loop
-less-one-requires c κs = search needs
-
-cast-heads : tie.Need-cast-heads Inv-loop μ-loop
-cast-heads c = search needs
+less-requires : tie.Need-less-requires Inv-loop μ-loop
+less-requires c κs = search needs
 
 loop-holds : tie.Need-loop-holds Inv-loop μ-loop
 loop-holds c = (below-none _ _ _, search needs)
@@ -39,7 +36,7 @@ returns c =
     let a = l .before .before .before .args in
     let q = c .before .found .given .0 .0 in
     let found = sym (c .before .before .before .number-in .ensures) ∙ c .before .found .given .1 in
-    sym (zone-placed (a .b .now) (a .s) (badNumber (a .b .now) (a .s)) (zoneLinkAt (a .b .now) (a .s)) (l .loop .h) q (l .loop .inv .0) found (rw (l .before .less-one .ensures .0) at (c .before .before .before .before .loop-test .taken)))
+    sym (zone-placed (a .b .now) (a .s) (badNumber (a .b .now) (a .s)) (zoneLinkAt (a .b .now) (a .s)) (l .loop .h) q (l .loop .inv .0) found (rw (l .before .less .ensures) at (c .before .before .before .before .loop-test .taken)))
 
 enum-told : tie.Need-enum-told Inv-loop μ-loop
 enum-told c = c .match .keys2
@@ -71,8 +68,7 @@ link-fault-spec =
     (tie.spec
     Inv-loop
     μ-loop
-    less-one-requires
-    cast-heads
+    less-requires
     loop-holds
     number-in-requires
     enum-known-found

@@ -1,4 +1,4 @@
--- `bank::numbers::number_fault` meets its contract.
+-- `number_fault` meets its contract.
 use mathlib.Core.Path.{ap₂, _∙_}
 use borrow.Author.Needs.{needs}
 use Rattle.bank.specs.Links.{numberFault}

@@ -1,4 +1,4 @@
--- `bank::numbers::number_in` meets its contract.
+-- `number_in` meets its contract.
 use borrow.Author.Needs.{needs}
 use mathlib.Core.Path.{_≡_, refl, sym, ap, _∙_}
 use native.Mathlib.Omega.{arith}

@@ -1,4 +1,4 @@
--- `bank::listing::listed_at` meets its contract.
+-- `listed_at` meets its contract.
 use mathlib.Core.Bool.{true, false}
 use Prim.Native.Nat.{ℕ, _+_, _-_, _≤_, _<_}
 use borrow.Author.Needs.{needs}
@@ -20,8 +20,8 @@ admitted-requires c κs = search needs
 parts-of-requires : tie.Need-parts-of-requires
 parts-of-requires c κs = admitted-room (c .before .before .before .args .b .now) (sym (c .before .admitted .ensures) ∙ c .if1 .taken)
 
-less-one-requires : tie.Need-less-one-requires
-less-one-requires c κs = search needs
+less-requires : tie.Need-less-requires
+less-requires c κs = search needs
 
 program-of-requires : tie.Need-program-of-requires
 program-of-requires c κs = search needs
@@ -29,8 +29,8 @@ program-of-requires c κs = search needs
 bank-of-requires : tie.Need-bank-of-requires
 bank-of-requires c κs = search needs
 
-add-t12 : tie.Need-add-t12
-add-t12 c = search needs
+add-t11 : tie.Need-add-t11
+add-t11 c = search needs
 
 returns : tie.Need-returns
 unfolding listed
@@ -39,7 +39,7 @@ returns c =
     let m = t .before .before .before in
     let a = m .before .before .before .before .args in
     let yes : admitted (a .b .now) ≡ true = sym (m .before .before .admitted .ensures) ∙ m .before .if1 .taken in
-    let e : t .before .less-one .result ≡ partsOf (a .b .now) .presets .nheads - 1 = rw (m .parts-of .ensures) at (t .before .less-one .ensures .0) in
+    let e : t .before .less .result ≡ partsOf (a .b .now) .presets .nheads - 1 = rw (m .parts-of .ensures) at (t .before .less .ensures) in
     let low : a .place < partsOf (a .b .now) .presets .nheads - 1 = rw e at (t .if2 .taken) in
     let program = c .before .program-of .ensures ∙ ap (λ (x : Parts). programOf (a .b .now) x (a .place)) (m .parts-of .ensures) in
     let bank = c .bank-of .ensures ∙ ap (λ (x : Parts). bankOf (a .b .now) x (a .place)) (m .parts-of .ensures) in
@@ -51,7 +51,7 @@ returns-2 c =
     let m = c .before .before .before in
     let a = m .before .before .before .before .args in
     let yes : admitted (a .b .now) ≡ true = sym (m .before .before .admitted .ensures) ∙ m .before .if1 .taken in
-    let e : c .before .less-one .result ≡ partsOf (a .b .now) .presets .nheads - 1 = rw (m .parts-of .ensures) at (c .before .less-one .ensures .0) in
+    let e : c .before .less .result ≡ partsOf (a .b .now) .presets .nheads - 1 = rw (m .parts-of .ensures) at (c .before .less .ensures) in
     let high : partsOf (a .b .now) .presets .nheads - 1 ≤ a .place = rw e at (c .if2 .left) in
     rw (yes, le-ltb _ _ high) refl
 
@@ -67,10 +67,10 @@ listed-at-spec =
     (tie.spec
     admitted-requires
     parts-of-requires
-    less-one-requires
+    less-requires
     program-of-requires
     bank-of-requires
-    add-t12
+    add-t11
     returns
     returns-2
     returns-3)

@@ -1,4 +1,4 @@
--- `bank::rates::good_rate` meets its contract.
+-- `good_rate` meets its contract.
 use borrow.Author.Tests.{le-leb, lt-leb}
 use Rattle.arith.specs.Holds.{between}
 use Rattle.bank.proofs.rates.good_rate.Statement.{statement}

@@ -1,4 +1,4 @@
--- `bank::rates::lower` meets its contract.
+-- `lower` meets its contract.
 use borrow.Author.Tests.{lt-ltb, le-ltb}
 use borrow.Author.Needs.{needs}
 use Rattle.bank.proofs.rates.lower.Statement.{statement}

@@ -1,10 +1,9 @@
--- `bank::rates::lowest_bad` meets its contract.
+-- `lowest_bad` meets its contract.
 use borrow.Author.Needs.{needs}
 use mathlib.Core.Path.{_≡_, sym, _∙_}
 use native.Mathlib.Omega.{arith}
 use Prim.Native.Nat.{_-_, _≤_}
-use Rattle.bank.specs.Internal.Rates.{lowestBelow}
-use Rattle.bank.proofs.OnePassLaws.{lowest-none, lowest-next, lowest-is}
+use Rattle.bank.proofs.OnePassLaws.{lowestBelow, lowest-none, lowest-next, lowest-is}
 use Rattle.bank.proofs.rates.lowest_bad.Statement.{statement}
 use Rattle.bank.proofs.rates.lowest_bad.Tie as tie
 
@@ -14,11 +13,8 @@ Inv-loop b m heads low₀ h₀ low h = (low ≡ lowestBelow b m h) × (h ≤ hea
 abbrev μ-loop : tie.MeasureT-loop
 μ-loop b m heads low₀ h₀ low h = heads - h
 
-less-one-requires : tie.Need-less-one-requires Inv-loop μ-loop
-less-one-requires c κs = search needs
-
-cast-heads : tie.Need-cast-heads Inv-loop μ-loop
-cast-heads c = search needs
+less-requires : tie.Need-less-requires Inv-loop μ-loop
+less-requires c κs = search needs
 
 loop-holds : tie.Need-loop-holds Inv-loop μ-loop
 loop-holds c = (sym (lowest-none _ _), search needs)
@@ -51,8 +47,7 @@ lowest-bad-spec =
     (tie.spec
     Inv-loop
     μ-loop
-    less-one-requires
-    cast-heads
+    less-requires
     loop-holds
     with-instrument-requires
     add-h

@@ -1,4 +1,4 @@
--- `bank::rates::rate_fault` meets its contract.
+-- `rate_fault` meets its contract.
 use mathlib.Core.Path.{_≡_, refl, sym, _∙_}
 use native.Mathlib.Omega.{arith}
 use Prim.Native.Nat.{ℕ, _+_, _-_, _*_, _<_}

@@ -1,4 +1,4 @@
--- `bank::rates::with_instrument` meets its contract.
+-- `with_instrument` meets its contract.
 use borrow.Author.Needs.{needs}
 use mathlib.Core.Path.{_≡_, refl, sym, _∙_}
 use native.Mathlib.Omega.{arith}

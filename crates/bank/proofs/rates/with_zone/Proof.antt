@@ -1,4 +1,4 @@
--- `bank::rates::with_zone` meets its contract.
+-- `with_zone` meets its contract.
 use mathlib.Core.Path.{refl, sym, ap, _∙_}
 use borrow.Author.Needs.{needs}
 use Rattle.records.specs.declared.Zone.{Zone}

@@ -1,6 +1,6 @@
 -- A number that is not itself is a NaN.
 use mathlib.Core.Path.{sym, _∙_}
-use Rattle.cases.specs.Hash.{bitsOf}
+use Rattle.cases.specs.Internal.Hash.{bitsOf}
 use Rattle.cases.proofs.HashLaws.{self}
 use Rattle.cases.proofs.hash.bits_of.Statement.{statement}
 use Rattle.cases.proofs.hash.bits_of.Tie as tie

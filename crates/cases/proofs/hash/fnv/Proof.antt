@@ -5,7 +5,7 @@ use Prim.Native.Nat.{_≤_, _<_, _-_}
 use native.Mathlib.Omega.{arith}
 use lib.ListN.{length, take}
 use lib.Seq.{take-all}
-use Rattle.cases.specs.Hash.{hashAll}
+use Rattle.cases.specs.Internal.Hash.{hashAll}
 use Rattle.cases.proofs.HashLaws.{hash-step}
 use Rattle.cases.proofs.hash.fnv.Statement.{statement}
 use Rattle.cases.proofs.hash.fnv.Tie as tie

@@ -1,6 +1,6 @@
 -- The definition, opened.
 use borrow.Author.Needs.{needs}
-use Rattle.cases.specs.Hash.{hashBits}
+use Rattle.cases.specs.Internal.Hash.{hashBits}
 use Rattle.cases.proofs.hash.hash_bits.Statement.{statement}
 use Rattle.cases.proofs.hash.hash_bits.Tie as tie
 

@@ -1,6 +1,6 @@
 -- The definition, opened.
 use borrow.Author.Needs.{needs}
-use Rattle.cases.specs.Hash.{hashByte}
+use Rattle.cases.specs.Internal.Hash.{hashByte}
 use Rattle.cases.proofs.hash.hash_byte.Statement.{statement}
 use Rattle.cases.proofs.hash.hash_byte.Tie as tie
 

@@ -4,7 +4,7 @@ use mathlib.Core.Path.{_≡_, ap, _∙_}
 use Prim.Native.Nat.{ℕ, _+_, _*_, _/_, _%_, _^_}
 use native.Mathlib.Nat.{add-assoc, mod-add-mod, add-mod-mod}
 use native.Mathlib.Omega.{arith}
-use Rattle.cases.specs.Hash.{times}
+use Rattle.cases.specs.Internal.Hash.{times}
 use Rattle.cases.proofs.hash.times.Statement.{statement}
 use Rattle.cases.proofs.hash.times.Tie as tie
 

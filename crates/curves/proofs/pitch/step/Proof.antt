@@ -9,7 +9,8 @@ use lib.IntN.{ℤ}
 use lib.ListN.{getD}
 use mir.Facts.{toZ-ofZ}
 use Rattle.curves.specs.Octave.{octaves}
-use Rattle.curves.specs.Pitch.{lifted, pitchHeld, stepAt, stepOf}
+use Rattle.curves.specs.Pitch.{lifted, pitchHeld, stepOf}
+use Rattle.curves.specs.Internal.Pitch.{stepAt}
 use Rattle.curves.proofs.pitch.step.Statement.{statement}
 use Rattle.curves.proofs.pitch.step.Tie as tie
 

@@ -24,7 +24,7 @@ slice-aggregate-run-all : tie.Need-slice-aggregate-run-all
 slice-aggregate-run-all c = search needs
 
 run-all-requires : tie.Need-run-all-requires
-run-all-requires c κs = (search needs, search needs, search needs, zeros-small 8192)
+run-all-requires c κs = ((search needs, search needs), (search needs, zeros-small 8192))
 
 slice-aggregate-mix-all : tie.Need-slice-aggregate-mix-all
 slice-aggregate-mix-all c = search needs

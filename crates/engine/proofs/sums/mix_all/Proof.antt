@@ -11,7 +11,7 @@ use mir.Syntax.{w32}
 use mir.Val.{toZ, ofZ}
 use mir.Facts.{toZ-ofZ}
 use Rattle.arith.proofs.Put.{put2}
-use Rattle.engine.specs.Rendering.{mixed}
+use Rattle.engine.specs.Mixer.{mixed}
 use Rattle.engine.specs.Internal.Sums.{mixedTo}
 use Rattle.engine.proofs.RenderingLaws.{mixed-none, mixed-turn, mixed-length}
 use Rattle.engine.proofs.sums.mix_all.Statement.{statement}

@@ -59,9 +59,9 @@ loop-holds c =
       store-none f e,
       sym (word-none f (slotsOf e)),
       sym (add-none (slotHeard (a .ram .now) (a .rom .now) e (a .n)) (slotsOf e) (a .acc .now)),
-      c .pre .3,
+      c .pre .1 .1,
       refl,
-      c .pre .2,
+      c .pre .1 .0,
       omega arith,
     )
 
@@ -72,7 +72,7 @@ run-slot-requires : tie.Need-run-slot-requires Inv-loop μ-loop
 run-slot-requires c κs =
     let l = c .before .before .before in
     let p = l .before .pre in
-    (p .0, p .1, omega (arith, l .loop .inv .5, l .loop .inv .6), λ j. w-le (l .loop .inv .4 j) (omega arith))
+    (p .0, (omega (arith, l .loop .inv .5, l .loop .inv .6), λ j. w-le (l .loop .inv .4 j) (omega arith)))
 
 mul-v : tie.Need-mul-v Inv-loop μ-loop
 mul-v c = search needs
@@ -106,7 +106,7 @@ loop-again c =
     let h = slotHeard (a .ram .now) (a .rom .now) e (a .n) in
     let r = c .before .before .before in
     let s = r .before .before .slot-of .result in
-    let sum = r .run-slot .ensures .1 in (
+    let sum = r .run-slot .ensures .1 .0 in (
       l .loop .inv .0,
       store-turn (slotAfter (a .ram .now) (a .rom .now) e (a .n)) (slotsOf e) e (l .loop .x) (l .loop .i) (r .run-slot .result) (omega arith) (l .loop .inv .1) (one c),
       turn c,
@@ -114,7 +114,7 @@ loop-again c =
           ∙ ap (λ (z : Slot). addTo (h z) (l .loop .acc)) (r .before .before .slot-of .ensures)
           ∙ ap (addTo (h (getD (slotsOf e) (l .loop .i) (free blank)))) (l .loop .inv .3)
           ∙ sym (add-turn h (slotsOf e) (l .loop .i) (a .acc .now) (omega (arith, l .loop .inv .0))),
-      (λ j. rw sum (addTo-small (h s) (l .loop .acc) (l .loop .i) (r .run-slot .ensures .2) (l .loop .inv .4) j)),
+      (λ j. rw sum (addTo-small (h s) (l .loop .acc) (l .loop .i) (r .run-slot .ensures .1 .1) (l .loop .inv .4) j)),
       ap length sum ∙ addTo-length (h s) (l .loop .acc) ∙ l .loop .inv .5,
       l .loop .inv .6,
       omega arith,

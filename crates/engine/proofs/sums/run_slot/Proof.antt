@@ -21,7 +21,7 @@ returns c =
     let h = not-true (s .sounding) (c .if1 .taken) in
     let ch = channelAt (a .e) (s .voice .channel) in
     let w = window (a .ram .now) (a .rom .now) (s .voice) in
-    (sym (free-after ch w (a .n) s h), sym (free-adds ch w (a .n) s h (a .acc .now)), free-small ch w (a .n) s h)
+    (sym (free-after ch w (a .n) s h), (sym (free-adds ch w (a .n) s h (a .acc .now)), free-small ch w (a .n) s h))
 
 channel-of-requires : tie.Need-channel-of-requires
 channel-of-requires c κs = search needs
@@ -45,8 +45,7 @@ returns-2 c =
     let w = d .window-of .ensures ∙ sym (window-part (a .ram .now) (a .rom .now) (s .voice)) in
     let hd = ap₂ (λ (x : Channel) (y : List ℤ). heard x y (a .n) s) ch w in (
       r .run .ensures .0 ∙ ap₂ (λ (x : Channel) (y : List ℤ). after x y (a .n) s) ch w,
-      r .run .ensures .1 ∙ ap (λ (xs : List ℤ). addTo xs (a .acc .now)) hd,
-      subst (Small 1) hd (r .run .ensures .2),
+      (r .run .ensures .1 ∙ ap (λ (xs : List ℤ). addTo xs (a .acc .now)) hd, subst (Small 1) hd (r .run .ensures .2)),
     )
 
 pub run-slot-spec : {M : Type 1} → statement M

@@ -1,4 +1,4 @@
--- `records::amounts::operator` meets its contract.
+-- `operator` meets its contract.
 use borrow.Author.Needs.{needs}
 use Rattle.records.specs.Sides.{operator}
 use Rattle.records.proofs.amounts.operator.Statement.{statement}

@@ -1,4 +1,4 @@
--- `records::amounts::poured` meets its contract.
+-- `poured` meets its contract.
 use borrow.Author.Needs.{needs, sfits-of}
 use mathlib.Core.Logic.{⊎-elim}
 use mathlib.Core.Path.{_≡_, sym, ap, _∙_}

@@ -1,4 +1,4 @@
--- `records::chunks::body` meets its contract.
+-- `body` meets its contract.
 use Prim.Native.Nat.{ℕ, _+_}
 use native.Mathlib.Omega.{arith}
 use mathlib.Core.Path.{ap}

@@ -1,4 +1,4 @@
--- `records::chunks::chunk_at` meets its contract.
+-- `chunk_at` meets its contract.
 use Prim.Native.Nat.{_+_, _-_, _*_, _≤_}
 use native.Mathlib.Omega.{arith}
 use mathlib.Core.Path.{_≡_, sym}

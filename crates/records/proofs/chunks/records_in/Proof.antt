@@ -1,4 +1,4 @@
--- `records::chunks::records_in` meets its contract.
+-- `records_in` meets its contract.
 use borrow.Author.Needs.{needs}
 use Rattle.records.specs.Chunks.{records, bytesIn}
 use Rattle.records.proofs.chunks.records_in.Statement.{statement}

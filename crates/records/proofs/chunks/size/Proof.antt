@@ -1,4 +1,4 @@
--- `records::chunks::size` meets its contract.
+-- `size` meets its contract.
 use mathlib.Core.Path.{refl}
 use borrow.Author.Needs.{needs}
 use Rattle.records.proofs.ChunksLaws.{sizes-pos}

@@ -1,4 +1,4 @@
--- `records::headers::bank_of` meets its contract.
+-- `bank_of` meets its contract.
 use borrow.Author.Needs.{needs}
 use Rattle.records.specs.Headers.{bankOf}
 use Rattle.records.proofs.headers.bank_of.Statement.{statement}

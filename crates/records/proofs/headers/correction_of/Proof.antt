@@ -1,4 +1,4 @@
--- `records::headers::correction_of` meets its contract.
+-- `correction_of` meets its contract.
 use borrow.Author.Needs.{needs, sfits-of}
 use mir.Facts.{toZ-ofZ}
 use Rattle.arith.specs.Bytes.{i8At}

@@ -1,4 +1,4 @@
--- `records::headers::place_of` meets its contract.
+-- `place_of` meets its contract.
 use borrow.Author.Needs.{needs}
 use Rattle.records.proofs.headers.place_of.Statement.{statement}
 use Rattle.records.proofs.headers.place_of.Tie as tie

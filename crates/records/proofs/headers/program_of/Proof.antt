@@ -1,4 +1,4 @@
--- `records::headers::program_of` meets its contract.
+-- `program_of` meets its contract.
 use borrow.Author.Needs.{needs}
 use Rattle.records.specs.Headers.{programOf}
 use Rattle.records.proofs.headers.program_of.Statement.{statement}

@@ -1,4 +1,4 @@
--- `records::headers::rate_of` meets its contract.
+-- `rate_of` meets its contract.
 use borrow.Author.Needs.{needs}
 use Rattle.records.specs.Headers.{rateOf}
 use Rattle.records.proofs.headers.rate_of.Statement.{statement}

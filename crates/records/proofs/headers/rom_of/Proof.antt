@@ -1,4 +1,4 @@
--- `records::headers::rom_of` meets its contract.
+-- `rom_of` meets its contract.
 use borrow.Author.Needs.{needs}
 use Rattle.records.specs.Headers.{romOf}
 use Rattle.records.proofs.headers.rom_of.Statement.{statement}

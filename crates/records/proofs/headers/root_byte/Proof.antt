@@ -1,4 +1,4 @@
--- `records::headers::root_byte` meets its contract.
+-- `root_byte` meets its contract.
 use borrow.Author.Needs.{needs}
 use Rattle.records.proofs.headers.root_byte.Statement.{statement}
 use Rattle.records.proofs.headers.root_byte.Tie as tie

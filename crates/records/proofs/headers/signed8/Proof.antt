@@ -1,4 +1,4 @@
--- `records::headers::signed8` meets its contract.
+-- `signed8` meets its contract.
 use borrow.Author.Needs.{needs}
 use borrow.Author.Tests.{le-ltb}
 use mathlib.Core.Bool.{Bool}

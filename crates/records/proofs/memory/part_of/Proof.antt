@@ -1,4 +1,4 @@
--- `records::memory::part_of` meets its contract.
+-- `part_of` meets its contract.
 use borrow.Author.Needs.{needs}
 use borrow.Author.Tests.{le-leb, lt-leb}
 use Rattle.records.proofs.memory.part_of.Statement.{statement}

@@ -1,4 +1,4 @@
--- `records::memory::window_of` meets its contract.
+-- `window_of` meets its contract.
 use borrow.Author.Needs.{needs}
 use Rattle.records.proofs.memory.window_of.Statement.{statement}
 use Rattle.records.proofs.memory.window_of.Tie as tie

@@ -1,4 +1,4 @@
--- `records::sides::bag_of` meets its contract.
+-- `bag_of` meets its contract.
 use borrow.Author.Needs.{needs}
 use Rattle.records.specs.Sides.{bagOf}
 use Rattle.records.proofs.sides.bag_of.Statement.{statement}

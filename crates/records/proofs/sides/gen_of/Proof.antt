@@ -1,4 +1,4 @@
--- `records::sides::gen_of` meets its contract.
+-- `gen_of` meets its contract.
 use borrow.Author.Needs.{needs}
 use Rattle.records.specs.Sides.{genOf}
 use Rattle.records.proofs.sides.gen_of.Statement.{statement}

@@ -1,4 +1,4 @@
--- `records::sides::instruments` meets its contract.
+-- `instruments` meets its contract.
 use borrow.Author.Needs.{needs}
 use Rattle.records.specs.Sides.{instruments}
 use Rattle.records.proofs.sides.instruments.Statement.{statement}

@@ -1,4 +1,4 @@
--- `records::sides::mod_of` meets its contract.
+-- `mod_of` meets its contract.
 use borrow.Author.Needs.{needs}
 use Rattle.records.specs.Sides.{modOf}
 use Rattle.records.proofs.sides.mod_of.Statement.{statement}

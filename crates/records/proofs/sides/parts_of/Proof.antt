@@ -1,4 +1,4 @@
--- `records::sides::parts_of` meets its contract.
+-- `parts_of` meets its contract.
 use borrow.Author.Needs.{needs}
 use Rattle.records.specs.Sides.{partsOf}
 use Rattle.records.proofs.sides.parts_of.Statement.{statement}

@@ -1,4 +1,4 @@
--- `records::sides::presets` meets its contract.
+-- `presets` meets its contract.
 use borrow.Author.Needs.{needs}
 use Rattle.records.specs.Sides.{presets}
 use Rattle.records.proofs.sides.presets.Statement.{statement}

@@ -1,4 +1,4 @@
--- `records::sides::times` meets its contract.
+-- `times` meets its contract.
 use native.Mathlib.Nat.{mul-le-mul}
 use native.Mathlib.Omega.{arith}
 use mathlib.Core.Path.{refl}

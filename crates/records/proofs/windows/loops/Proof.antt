@@ -1,4 +1,4 @@
--- `records::windows::loops` meets its contract.
+-- `loops` meets its contract.
 use borrow.Author.Tests.{eq-eqb, ne-eqb}
 use Rattle.records.specs.Windows.{loops}
 use Rattle.records.proofs.windows.loops.Statement.{statement}

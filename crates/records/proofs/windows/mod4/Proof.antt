@@ -1,4 +1,4 @@
--- `records::windows::mod4` meets its contract.
+-- `mod4` meets its contract.
 use mir.Syntax.{w64}
 use mir.Facts.{toZ-ofZ}
 use lib.IntN.{pos, _+ℤ_}

@@ -1,4 +1,4 @@
--- `records::windows::shifted` meets its contract.
+-- `shifted` meets its contract.
 use mir.Val.{SFits, toZ, ofZ}
 use mir.Syntax.{w16, w64}
 use mir.Facts.{toZ-ofZ}

@@ -1,4 +1,4 @@
--- `records::windows::sum` meets its contract.
+-- `sum` meets its contract.
 use mir.Syntax.{w64}
 use lib.IntN.{pos}
 use lib.Dec.{lit≤}

@@ -1,4 +1,4 @@
--- `records::zones::amount` meets its contract.
+-- `amount` meets its contract.
 use borrow.Author.Needs.{needs}
 use Rattle.records.specs.Sides.{amount}
 use Rattle.records.proofs.zones.amount.Statement.{statement}

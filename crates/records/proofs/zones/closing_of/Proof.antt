@@ -1,4 +1,4 @@
--- `records::zones::closing_of` meets its contract.
+-- `closing_of` meets its contract.
 use borrow.Author.Needs.{needs}
 use mathlib.Core.Path.{_≡_, sym, ap₂, _∙_}
 use native.Mathlib.Omega.{arith}

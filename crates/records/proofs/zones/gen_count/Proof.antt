@@ -1,4 +1,4 @@
--- `records::zones::gen_count` meets its contract.
+-- `gen_count` meets its contract.
 use borrow.Author.Needs.{needs}
 use Rattle.records.specs.Zones.{genCount}
 use Rattle.records.proofs.zones.gen_count.Statement.{statement}
@@ -13,8 +13,17 @@ add-gen-of c = search needs
 gen-of-requires-2 : tie.Need-gen-of-requires-2
 gen-of-requires-2 c κs = search needs
 
-gap-requires : tie.Need-gap-requires
-gap-requires c κs = search needs
+cast-less : tie.Need-cast-less
+cast-less c = search needs
+
+cast-less-2 : tie.Need-cast-less-2
+cast-less-2 c = search needs
+
+less-requires : tie.Need-less-requires
+less-requires c κs = search needs
+
+cast-result : tie.Need-cast-result
+cast-result c = search needs
 
 returns : tie.Need-returns
 unfolding genCount
@@ -22,4 +31,13 @@ returns c = cc
 
 pub gen-count-spec : {M : Type 1} → statement M
 gen-count-spec =
-    tie.close (tie.spec gen-of-requires add-gen-of gen-of-requires-2 gap-requires returns)
+    tie.close
+    (tie.spec
+    gen-of-requires
+    add-gen-of
+    gen-of-requires-2
+    cast-less
+    cast-less-2
+    less-requires
+    cast-result
+    returns)

@@ -1,4 +1,4 @@
--- `records::zones::global_of` meets its contract.
+-- `global_of` meets its contract.
 use mathlib.Core.Path.{_≡_, ap, _∙_}
 use native.Mathlib.Omega.{arith}
 use lib.Dec.{leb}

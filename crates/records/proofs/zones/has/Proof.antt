@@ -1,4 +1,4 @@
--- `records::zones::has` meets its contract.
+-- `has` meets its contract.
 use borrow.Author.Needs.{needs}
 use Rattle.records.specs.Zones.{has}
 use Rattle.records.proofs.zones.has.Statement.{statement}

@@ -1,4 +1,4 @@
--- `records::zones::zone_at` meets its contract.
+-- `zone_at` meets its contract.
 use native.Mathlib.Omega.{arith}
 use mathlib.Core.Path.{_≡_}
 use borrow.Author.Needs.{needs}

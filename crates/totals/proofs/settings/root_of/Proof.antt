@@ -10,7 +10,7 @@ use lib.Dec.{leb}
 use native.Mathlib.Omega.{arith}
 use Rattle.arith.specs.Holds.{between}
 use Rattle.totals.specs.Values.{totalOf, heldTotal, instrumentOnly}
-use Rattle.totals.specs.Internal.Values.{at}
+use Rattle.records.specs.Internal.Amounts.{at}
 use Rattle.totals.specs.Settings.{rootOf, ifMidi}
 use Rattle.totals.proofs.settings.root_of.Statement.{statement}
 use Rattle.totals.proofs.settings.root_of.Tie as tie

@@ -10,7 +10,7 @@ use Rattle.arith.specs.Holds.{between}
 use Rattle.arith.proofs.WithinLaws.{w-back}
 use Rattle.totals.proofs.SettingsLaws.{held-nonneg}
 use Rattle.totals.specs.Values.{totalOf, heldTotal, instrumentOnly}
-use Rattle.totals.specs.Internal.Values.{at}
+use Rattle.records.specs.Internal.Amounts.{at}
 use Rattle.totals.proofs.settings.sustain_of.Statement.{statement}
 use Rattle.totals.proofs.settings.sustain_of.Tie as tie
 

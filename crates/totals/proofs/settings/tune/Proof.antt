@@ -9,7 +9,7 @@ use Rattle.totals.proofs.settings.tune.Statement.{statement}
 use Rattle.totals.proofs.settings.tune.Tie as tie
 
 abbrev env : tie.Start → List Var
-env c = given (c .pre .0) ∷ given (c .pre .1) ∷ given (c .pre .2) ∷ given (c .pre .3) ∷ given (c .pre .4) ∷ given (c .pre .5) ∷ []
+env c = given (c .pre .0 .0) ∷ given (c .pre .0 .1) ∷ given (c .pre .1 .0 .0) ∷ given (c .pre .1 .0 .1) ∷ given (c .pre .1 .0 .2) ∷ given (c .pre .1 .1) ∷ []
 
 abbrev steps : E
 steps = sub (var 0) (var 1)

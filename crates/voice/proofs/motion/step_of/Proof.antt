@@ -4,7 +4,8 @@ use lib.IntN.{ℤ, _+ℤ_}
 use mir.Facts.{toZ-ofZ}
 use mir.Syntax.{w32}
 use borrow.Author.Needs.{sfits-of, needs}
-use Rattle.curves.specs.Pitch.{bendCents, stepAt}
+use Rattle.curves.specs.Pitch.{bendCents}
+use Rattle.curves.specs.Internal.Pitch.{stepAt}
 use Rattle.voice.proofs.MotionLaws.{step-held}
 use Rattle.voice.proofs.motion.step_of.Statement.{statement}
 use Rattle.voice.proofs.motion.step_of.Tie as tie

@@ -3,8 +3,8 @@ use mathlib.Core.Path.{sym}
 use lib.Ieee.{nanBits}
 use lib.Seq.{length-take-le}
 use borrow.Author.Needs.{needs}
-use Rattle.drive.proofs.rendering.into_output.Statement.{statement}
-use Rattle.drive.proofs.rendering.into_output.Tie as tie
+use Rattle.drive.proofs.output.into_output.Statement.{statement}
+use Rattle.drive.proofs.output.into_output.Tie as tie
 
 float-from-bits-before : tie.Need-float-from-bits-before
 unfolding nanBits

@@ -4,8 +4,8 @@ use mathlib.Core.Path.{_≡_}
 use Prim.Native.Nat.{_≤_, _-_}
 use native.Mathlib.Omega.{arith}
 use lib.ListN.{length, length-set}
-use Rattle.cases.proofs.reading.next_bytes.Statement.{statement}
-use Rattle.cases.proofs.reading.next_bytes.Tie as tie
+use Rattle.cases.proofs.input.next_bytes.Statement.{statement}
+use Rattle.cases.proofs.input.next_bytes.Tie as tie
 
 abbrev Inv-loop : tie.InvT-loop
 Inv-loop room₀ into₀ p₀ i₀ room into p i = (length into ≡ length into₀) × (i ≤ length into)

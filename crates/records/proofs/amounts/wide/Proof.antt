@@ -4,8 +4,8 @@ use mathlib.Core.Path.{refl}
 use mir.Facts.{toZ-ofZ}
 use mir.Syntax.{w16, w64}
 use Rattle.arith.proofs.WithinLaws.{w-of, w-fits, w-back}
-use Rattle.totals.proofs.values.wide.Statement.{statement}
-use Rattle.totals.proofs.values.wide.Tie as tie
+use Rattle.records.proofs.amounts.wide.Statement.{statement}
+use Rattle.records.proofs.amounts.wide.Tie as tie
 
 cast-result : tie.Need-cast-result
 cast-result c = rw (toZ-ofZ (c .fits .x)) (w-fits w64 (w-of w16 (c .fits .x)) (lit< tt))
