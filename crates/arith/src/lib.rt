@@ -1,7 +1,7 @@
 // What the crates share: numbers in bytes, a word as a set of slots, numbers held to a range.
-pub mod bytes;
-pub mod holds;
-pub mod words;
+mod bytes;
+mod holds;
+mod words;
 
 pub use bytes::byte;
 pub use bytes::signed16;

@@ -76,7 +76,7 @@ pub fn admission(b: &[u8]) -> Fault
 }
 
 // 01's number for what was found.
-pub fn number_of(f: Fault) -> u8
+fn number_of(f: Fault) -> u8
     ensures { λ r. ⌜ r ≡ faultNumber f ⌝ }
 {
     match f {

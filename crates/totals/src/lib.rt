@@ -1,6 +1,6 @@
 // A layer's values, their totals, and the numbers that a starting voice gets of them (01, "From a key to layers").
-pub mod settings;
-pub mod values;
+mod settings;
+mod values;
 
 use records::Zone;
 pub use settings::attenuation_of;
