@@ -5,7 +5,7 @@ ghost use Rattle.records.specs.Chunks.{chunkAt};
 ghost use Rattle.records.specs.Sides.{bagOf, genOf, modOf, presets, instruments, partsOf};
 use crate::Parts;
 use crate::Side;
-use crate::body;
+use crate::chunks::body;
 use crate::records_in;
 use arith::u16_at;
 

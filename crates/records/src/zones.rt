@@ -6,9 +6,9 @@ ghost use Rattle.records.specs.Zones.{has, zoneCount, genCount, closingO
 use crate::Found;
 use crate::Side;
 use crate::Zone;
+use crate::amounts::operator;
 use crate::bag_of;
 use crate::gen_of;
-use crate::operator;
 use arith::less;
 use arith::u16_at;
 
