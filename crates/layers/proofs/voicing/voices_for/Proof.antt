@@ -25,15 +25,15 @@ abbrev μ-loop : tie.MeasureT-loop
 search-requires : tie.Need-search-requires Inv-loop μ-loop
 search-requires c κs = search needs
 
-silent-requires : tie.Need-silent-requires Inv-loop μ-loop
-silent-requires c κs = search needs
+no-voice-requires : tie.Need-no-voice-requires Inv-loop μ-loop
+no-voice-requires c κs = search needs
 
 returns : tie.Need-returns Inv-loop μ-loop
 unfolding voicesOf searched upTo33
 returns c =
     let k = c .before .before in
     let a = k .before .before .args in
-    ap (λ (v : Voice). struckBy (k .search .result .count) (replicate 32 v)) (c .before .silent .ensures)
+    ap (λ (v : Voice). struckBy (k .search .result .count) (replicate 32 v)) (c .before .no-voice .ensures)
     ∙ struck-many
     (voiceOf (a .b .now) (a .m) (a .h) (a .channel) (a .key) (a .velocity))
     (layersOf (a .b .now) (a .m) (a .key) (a .velocity) (a .h))
@@ -52,7 +52,7 @@ loop-holds c =
     let k = c .before .before .before in
     let a = k .before .before .args in (
       c .octaves .ensures,
-      ap (replicate 32) (c .before .before .silent .ensures)
+      ap (replicate 32) (c .before .before .no-voice .ensures)
           ∙ filled-none (voiceOf (a .b .now) (a .m) (a .h) (a .channel) (a .key) (a .velocity)) (layersOf (a .b .now) (a .m) (a .key) (a .velocity) (a .h)),
       search needs,
       omega (arith, c .before .if1 .left),
@@ -125,7 +125,7 @@ voices-for-spec =
     Inv-loop
     μ-loop
     search-requires
-    silent-requires
+    no-voice-requires
     returns
     octaves-requires
     cast-n
