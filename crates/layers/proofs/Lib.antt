@@ -1,5 +1,6 @@
 pub mod AdmittedVoices
 pub mod BarrenLaws
+pub mod ExtentLaws
 pub mod LayerSearchLaws
 pub mod StruckLaws
 pub mod VoicingLaws

@@ -1,16 +1,16 @@
 -- Laws of the voice's numbers: which case the code's tests lead to.
 use mathlib.Core.Bool.{Bool, true, false, _&&_, cond}
-use mathlib.Core.Path.{_≡_, refl, subst, sym}
+use mathlib.Core.Path.{_≡_, refl, subst}
 use Prim.Native.Nat.{ℕ, suc, _%_, _<_}
 use lib.IntN.{ℤ, pos, negsuc, natAbs, _+ℤ_, _-ℤ_, _*ℤ_}
 use lib.Signed.{ltZ, nonNeg}
 use borrow.Author.Tests.{ltb-true, lt-leb, ltb-false, le-leb}
 use lib.Dec.{T, lit<}
 use native.Mathlib.Nat.{lt-of-le-of-lt}
-use mir.Syntax.{w8, w32}
+use mir.Syntax.{w8}
 use mir.Val.{Fits}
 use native.Mathlib.Omega.{arith}
-use Rattle.arith.specs.Holds.{betweenZ, heldTo, word32}
+use Rattle.arith.specs.Holds.{betweenZ, heldTo}
 use Rattle.totals.specs.Settings.{ifMidi}
 use Rattle.arith.specs.Floors.{modZ}
 use Rattle.arith.proofs.FloorsLaws.{sub-pos}
@@ -62,26 +62,6 @@ held-nonneg n (pos a) = either (ltZ (pos a) (pos 0)) (ltZ (pos n) (pos a))
     either false true = tt
     either false false = tt
 held-nonneg n (negsuc a) = tt
-
--- a place below 0, past 32 bits, or within them
-pub word-low : (x : ℤ) → ltZ x (pos 0) ≡ true → word32 x ≡ 0
-unfolding word32
-word-low (pos a) t = omega (arith, ltb-true a 0 t)
-word-low (negsuc a) t = refl
-
-pub word-high : (x : ℤ) → ltZ (pos 4294967295) x ≡ true → word32 x ≡ 4294967295
-unfolding word32
-word-high (pos a) t = rw (lt-leb a 4294967295 (ltb-true 4294967295 a t)) refl
-word-high (negsuc a) t = absurd (subst (λ (b : Bool). T b) (sym t) tt)
-
-pub word-in : (x : ℤ) → ltZ x (pos 0) ≡ false → ltZ (pos 4294967295) x ≡ false → word32 x ≡ natAbs x
-unfolding word32
-word-in (pos a) t u = rw (le-leb a 4294967295 (ltb-false 4294967295 a u)) refl
-word-in (negsuc a) t u = absurd (subst (λ (b : Bool). T b) t tt)
-
-pub word-fits : (x : ℤ) → ltZ x (pos 0) ≡ false → ltZ (pos 4294967295) x ≡ false → T (nonNeg x) × Fits w32 (natAbs x)
-word-fits (pos a) t u = (tt, record { fits = lt-of-le-of-lt (ltb-false 4294967295 a u) (lit< tt) })
-word-fits (negsuc a) t u = absurd (subst (λ (b : Bool). T b) t tt)
 
 -- the pitch total of equal parts
 pub tune-same : {k l r s scale wide coarse rough fine thin e f : ℤ} → k ≡ l → r ≡ s → scale ≡ wide → coarse ≡ rough → fine ≡ thin → e ≡ f → (k -ℤ r) *ℤ scale +ℤ pos 100 *ℤ coarse +ℤ fine +ℤ e ≡ (l -ℤ s) *ℤ wide +ℤ pos 100 *ℤ rough +ℤ thin +ℤ f

@@ -1,25 +1,33 @@
--- `held32` meets its contract.
-use mathlib.Core.Path.{sym}
+-- `word` meets its contract.
+use borrow.Author.Needs.{needs, sfits-of}
+use lib.Dec.{lit<}
+use lib.IntN.{pos}
+use mathlib.Core.Path.{_∙_}
 use mir.Facts.{toZ-ofZ}
-use Rattle.totals.proofs.SettingsLaws.{word-low, word-high, word-in, word-fits}
-use Rattle.layers.proofs.extent.held32.Statement.{statement}
-use Rattle.layers.proofs.extent.held32.Tie as tie
+use mir.Syntax.{w64}
+use native.Mathlib.Nat.{lt-of-le-of-lt}
+use native.Mathlib.Omega.{arith}
+use Rattle.arith.proofs.HoldsLaws.{held-bound}
+use Rattle.arith.proofs.WithinLaws.{w-nat}
+use Rattle.totals.proofs.SettingsLaws.{held-nonneg}
+use Rattle.layers.proofs.ExtentLaws.{word-held}
+use Rattle.layers.proofs.extent.word.Statement.{statement}
+use Rattle.layers.proofs.extent.word.Tie as tie
 
-returns : tie.Need-returns
-returns c = let s = c .before in sym (word-low (s .args .x) (rw (toZ-ofZ (s .fits .x)) at (c .if1 .taken)))
-
-returns-2 : tie.Need-returns-2
-returns-2 c = let s = c .before .before in sym (word-high (s .args .x) (rw (toZ-ofZ (s .fits .x)) at (c .if2 .taken)))
+hold-requires : tie.Need-hold-requires
+hold-requires c κs = search needs
 
 cast-result : tie.Need-cast-result
 cast-result c =
-    let s = c .before .before in
-    rw (toZ-ofZ (s .fits .x)) (word-fits (s .args .x) (rw (toZ-ofZ (s .fits .x)) at (c .before .if1 .left)) (rw (toZ-ofZ (s .fits .x)) at (c .if2 .left)))
+    let x = c .before .args .x in
+    let e = toZ-ofZ {w = w64} {z = c .hold .result} (sfits-of (c .hold .ok)) ∙ rw (toZ-ofZ (c .before .fits .x)) at (c .hold .ensures) in
+    rw e (held-nonneg 4294967295 x, record { fits = lt-of-le-of-lt (held-bound (pos 0) (pos 4294967295) x 4294967295 (w-nat (omega arith)) (w-nat (omega arith)) .within) (lit< tt) })
 
-returns-3 : tie.Need-returns-3
-returns-3 c =
-    let s = c .before .before in
-    rw (toZ-ofZ (s .fits .x)) (sym (word-in (s .args .x) (rw (toZ-ofZ (s .fits .x)) at (c .before .if1 .left)) (rw (toZ-ofZ (s .fits .x)) at (c .if2 .left))))
+returns : tie.Need-returns
+returns c =
+    let x = c .before .args .x in
+    let e = toZ-ofZ {w = w64} {z = c .hold .result} (sfits-of (c .hold .ok)) ∙ rw (toZ-ofZ (c .before .fits .x)) at (c .hold .ensures) in
+    rw e (word-held x)
 
-pub held32-spec : {M : Type 1} → statement M
-held32-spec = tie.close (tie.spec returns returns-2 cast-result returns-3)
+pub word-spec : {M : Type 1} → statement M
+word-spec = tie.close (tie.spec hold-requires cast-result returns)
