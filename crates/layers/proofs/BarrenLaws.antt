@@ -1,22 +1,30 @@
 -- Laws of the instruments in which nothing matches, as the search's loops want them.
-use mathlib.Core.Bool.{true, false, Bool, cond, not, _&&_}
+use mathlib.Core.Bool.{false, Bool, true, cond, not, _&&_}
+use mathlib.Core.List.{List, [], _∷_, _++_, append-nil}
+use Prim.Native.Nat.{ℕ, _+_, _<_, zero, suc, _≤_}
 use mathlib.Core.Path.{_≡_, refl, ap, _∙_, sym}
-use Prim.Native.Nat.{ℕ, zero, suc, _+_, _≤_, _<_}
 use native.Mathlib.Omega.{arith}
 use lib.ListN.{replicate, getD, set, length, length-set, length-append}
-use mathlib.Core.List.{List, [], _∷_, _++_, append-nil}
 use mathlib.Core.Logic.{_⊎_, inl, inr, ⊎-elim}
 use native.Mathlib.Nat.{eq-or-lt-of-le, le-of-suc-le-suc}
 use lib.Dec.{eqb}
 use borrow.Author.Tests.{eqb-true, not-false}
-use Rattle.layers.specs.Internal.Barren.{noted, remembered, Barren, Known, entered}
-use Rattle.layers.specs.declared.Pair.{Pair}
-use Rattle.records.specs.Sides.{bagOf}
-use Rattle.records.specs.Zones.{zoneCount, zoneAt, globalOf}
 use Rattle.records.specs.declared.Side.{Side}
 use Rattle.layers.specs.LayerSearch.{chosen, under, layersBelow}
+use Rattle.records.specs.Sides.{bagOf}
+use Rattle.records.specs.Zones.{zoneCount, zoneAt, globalOf}
+use Rattle.layers.specs.Internal.Barren.{remembered, noted, entered}
+use Rattle.layers.specs.declared.Pair.{Pair}
 use Rattle.records.specs.declared.Zone.{Zone}
 use Rattle.layers.proofs.LayerSearchLaws.{below-yes, below-no}
+
+-- no zone of instrument k matches key and velocity
+pub record Barren (b : List ℕ) (i : Side) (key velocity k : ℕ) : Type 0 where
+  pub none : (n : ℕ) → n < zoneCount b i k → chosen b i key velocity k (bagOf b i k + n) ≡ false
+
+-- every instrument that is remembered is one of those
+pub record Known (b : List ℕ) (i : Side) (key velocity : ℕ) (barren : List Bool) : Type 0 where
+  pub known : (k : ℕ) → remembered barren k ≡ true → Barren b i key velocity k
 
 -- an array of false holds no true
 blank : {A : Type 0} (n k : ℕ) → getD (replicate n false) k false ≡ true → A

@@ -1,11 +1,11 @@
 -- Laws of a place held to 32 bits.
 use mathlib.Core.Bool.{Bool, true, false, cond}
 use mathlib.Core.Path.{_≡_, refl, ap, _∙_}
-use Prim.Native.Nat.{ℕ}
 use native.Mathlib.Omega.{arith}
 use lib.Dec.{ltb, leb}
 use lib.IntN.{ℤ, pos, negsuc, natAbs}
 use borrow.Author.Tests.{ltb-true, ltb-false, le-ltb, le-leb, lt-leb}
+use Prim.Native.Nat.{ℕ}
 use Rattle.arith.specs.Holds.{heldTo, word32}
 
 -- it is held to 0..4,294,967,295

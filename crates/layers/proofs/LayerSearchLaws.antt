@@ -1,6 +1,6 @@
 -- Laws of the layers, as the search's loops want them.
 use mathlib.Core.List.{List, _++_, [], _∷_, append-assoc, append-nil}
-use Prim.Native.Nat.{_-_, ℕ, suc, _+_, _<_, min, zero}
+use Prim.Native.Nat.{ℕ, _-_, suc, _+_, _<_, min, zero}
 use lib.ListN.{length, replicate, set, length-append, take}
 use mathlib.Core.Path.{_≡_, refl, _∙_, ap, sym, ap₂}
 use native.Mathlib.Omega.{arith}
@@ -10,16 +10,20 @@ use native.Mathlib.Numerals.{add-one}
 use native.Mathlib.Nat.{add-zero, add-suc}
 use lib.Dec.{eqb}
 use borrow.Author.Tests.{eq-eqb, ne-eqb}
+use Rattle.records.specs.declared.Parts.{Parts}
+use Rattle.layers.specs.LayerSearch.{layersOf, chosen, under, layersBelow, allUnder, picked, isPreset}
 use Rattle.layers.specs.Internal.LayerSearch.{noPair, upTo33}
 use Rattle.layers.specs.declared.Pair.{Pair}
 use Rattle.layers.specs.declared.Layers.{Layers}
 use Rattle.records.specs.Sides.{bagOf}
 use Rattle.records.specs.declared.Side.{Side}
-use Rattle.layers.specs.LayerSearch.{chosen, under, layersBelow, allUnder, picked, isPreset}
 use Rattle.records.specs.Zones.{zoneAt, zoneCount, globalOf}
 use Rattle.records.specs.declared.Zone.{Zone}
 use Rattle.records.specs.Headers.{bankOf, programOf}
-use Rattle.records.specs.declared.Parts.{Parts}
+
+-- their number in full
+unfoldable pub layerCount : List ℕ → Parts → ℕ → ℕ → ℕ → ℕ
+layerCount b m key velocity h = length (layersOf b m key velocity h)
 
 -- a list of layers in an array of 33, the rest blank
 unfoldable pub padded : List Pair → List Pair

@@ -11,7 +11,7 @@ use native.Mathlib.Nat.{le-refl}
 use mathlib.Core.Bool.{true, false}
 use Rattle.voice.specs.declared.Voice.{Voice}
 use Rattle.layers.specs.declared.Struck.{Struck}
-use Rattle.layers.specs.Internal.LayerSearch.{noPair, upTo33, layerCount, searched}
+use Rattle.layers.specs.Internal.LayerSearch.{noPair, upTo33, searched}
 use Rattle.layers.specs.declared.Layers.{Layers}
 use Rattle.layers.specs.declared.Pair.{Pair}
 use Rattle.voice.specs.Changes.{blank}
@@ -20,6 +20,7 @@ use Rattle.records.specs.Sides.{partsOf}
 use Rattle.records.specs.declared.Found.the-variants.{Nothing, At}
 use Rattle.layers.specs.LayerSearch.{presetFor, layersOf}
 use Rattle.layers.specs.Voicing.{voicesOf, hasPreset, struckVoices, voiceOf}
+use Rattle.layers.proofs.LayerSearchLaws.{layerCount}
 use Rattle.records.specs.declared.Parts.{Parts}
 
 -- a count of voices and the array that holds them

@@ -5,6 +5,9 @@ use mathlib.Core.List.{List}
 use mathlib.Core.Path.{_≡_, refl}
 use Rattle.voice.specs.declared.Stage.the-variants.{Delay}
 use Rattle.voice.specs.declared.Voice.{Voice}
+use Rattle.layers.specs.declared.envelope.Envelope.{Envelope}
+use Rattle.layers.specs.declared.extent.Extent.{Extent}
+use Rattle.layers.specs.declared.tuning.Tuning.{Tuning}
 use Rattle.arith.specs.Holds.{between}
 use Rattle.records.specs.Internal.Amounts.{at, poured, pouredFrom}
 use Rattle.records.specs.Windows.{placeMoved, startOf, endOf, loopStartOf, loopEndOf, modeOf}
@@ -18,9 +21,6 @@ use Rattle.layers.specs.Envelope.{envelopeOf}
 use Rattle.layers.specs.Extent.{extentOf}
 use Rattle.layers.specs.Tuning.{tuningOf}
 use Rattle.layers.specs.Voicing.{voiceBy}
-use Rattle.layers.specs.declared.envelope.Envelope.{Envelope}
-use Rattle.layers.specs.declared.extent.Extent.{Extent}
-use Rattle.layers.specs.declared.tuning.Tuning.{Tuning}
 
 -- a voice as it starts, by its extent, its tuning and its envelope
 abbrev pub started : Extent → Tuning → Envelope → ℕ → ℕ → ℕ → Voice

@@ -8,7 +8,6 @@ mod tuning;
 mod voicing;
 
 pub use layer_search::preset_for;
-pub use layer_search::search;
 use voice::Voice;
 pub use voicing::voices_for;
 

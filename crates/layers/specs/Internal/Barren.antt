@@ -1,14 +1,11 @@
 -- Instruments in which nothing matches, and the array that remembers them for one note-on.
 use mathlib.Core.Bool.{Bool, false, true, cond, not, _&&_}
 use mathlib.Core.List.{List}
-use Prim.Native.Nat.{ℕ, _+_, _<_}
+use Prim.Native.Nat.{ℕ}
 use lib.ListN.{getD, set}
-use mathlib.Core.Path.{_≡_}
 use Rattle.records.specs.declared.Side.{Side}
 use Rattle.records.specs.declared.Zone.{Zone}
-use Rattle.layers.specs.LayerSearch.{picked, chosen}
-use Rattle.records.specs.Sides.{bagOf}
-use Rattle.records.specs.Zones.{zoneCount}
+use Rattle.layers.specs.LayerSearch.{picked}
 
 -- whether instrument k is remembered; a number past the array never is
 unfoldable pub remembered : List Bool → ℕ → Bool
@@ -21,11 +18,3 @@ noted barren k nothing = cond nothing (set barren k true) barren
 -- whether the search goes into the instrument of a preset zone: it is picked, and its instrument not remembered
 unfoldable pub entered : List ℕ → Side → Zone → Zone → ℕ → ℕ → List Bool → Bool
 entered b p zone global key velocity barren = picked b p zone global key velocity && not (remembered barren (zone .link))
-
--- no zone of instrument k matches key and velocity
-pub record Barren (b : List ℕ) (i : Side) (key velocity k : ℕ) : Type 0 where
-  pub none : (n : ℕ) → n < zoneCount b i k → chosen b i key velocity k (bagOf b i k + n) ≡ false
-
--- every instrument that is remembered is one of those
-pub record Known (b : List ℕ) (i : Side) (key velocity : ℕ) (barren : List Bool) : Type 0 where
-  pub known : (k : ℕ) → remembered barren k ≡ true → Barren b i key velocity k

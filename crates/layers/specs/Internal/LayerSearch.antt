@@ -1,15 +1,11 @@
 -- The layers as the search holds them: an array of 33, and how many.
 use mathlib.Core.List.{List, _++_}
-use Prim.Native.Nat.{ℕ, _-_, min}
+use Prim.Native.Nat.{_-_, min, ℕ}
 use lib.ListN.{length, take, replicate}
-use Rattle.records.specs.declared.Parts.{Parts}
-use Rattle.layers.specs.LayerSearch.{layersOf}
 use Rattle.layers.specs.declared.Pair.{Pair}
 use Rattle.layers.specs.declared.Layers.{Layers}
-
--- their number in full
-unfoldable pub layerCount : List ℕ → Parts → ℕ → ℕ → ℕ → ℕ
-layerCount b m key velocity h = length (layersOf b m key velocity h)
+use Rattle.records.specs.declared.Parts.{Parts}
+use Rattle.layers.specs.LayerSearch.{layersOf}
 
 -- no layer
 abbrev pub noPair : Pair

@@ -11,8 +11,7 @@ use Rattle.records.specs.Zones.{zoneCount}
 use Rattle.layers.specs.LayerSearch.{under, layersBelow, layersOf}
 use Rattle.layers.specs.Internal.LayerSearch.{upTo33, searched}
 use Rattle.layers.proofs.LayerSearchLaws.{padded, made, stopped, stored, counted, under-yes, under-no, below-turn, in-front, all-found, chosen-by}
-use Rattle.layers.specs.Internal.Barren.{Known}
-use Rattle.layers.proofs.BarrenLaws.{none-known, noted-length, known-again, entered-chosen, passed-by, below-skip}
+use Rattle.layers.proofs.BarrenLaws.{Known, none-known, noted-length, known-again, entered-chosen, passed-by, below-skip}
 use Rattle.layers.specs.declared.Pair.{Pair}
 use Rattle.layers.proofs.layer_search.search.Statement.{statement}
 use Rattle.layers.proofs.layer_search.search.Tie as tie
