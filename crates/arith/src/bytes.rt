@@ -41,12 +41,14 @@ pub fn signed16(v: u16) -> i16
     }
 }
 
+// Four bytes, the lowest first.
 fn quad(a: u8, b: u8, c: u8, d: u8) -> u32
     ensures { λ r. ⌜ r ≡ a + b * 256 + c * 65536 + d * 16777216 ⌝ }
 {
     (a as u32) + (b as u32) * 256 + (c as u32) * 65536 + (d as u32) * 16777216
 }
 
+// Four bytes of a bank as a number; the place is bounded as that of `u16_at`.
 pub fn u32_at(b: &[u8], at: usize) -> u32
     requires { ⌜ at ≤ 2199023255552 ⌝ }
     ensures { λ r. ⌜ r ≡ u32At (now (b .entry)) at ⌝ }

@@ -19,6 +19,7 @@ fn times(h: u64) -> u64
     std::num::wrapping_add_u64(h << 40, small)
 }
 
+// One byte more in the hash.
 fn hash_byte(h: u64, b: u64) -> u64
     ensures { λ r. ⌜ r ≡ hashByte h b ⌝ }
 {

@@ -17,11 +17,13 @@ pub struct Byte {
     pub place: Place,
 }
 
+// A number of two bytes, and the place behind it.
 pub struct Short {
     pub value: u16,
     pub place: Place,
 }
 
+// A number of four bytes, and the place behind it.
 pub struct Long {
     pub value: u32,
     pub place: Place,
@@ -102,12 +104,14 @@ pub fn next_u32(room: &mut [u8; 65536], from: Place) -> Long {
     }
 }
 
+// Two bytes, the low one first.
 fn two(low: u8, high: u8) -> u16
     ensures { λ r. ⌜ r ≡ low + high * 256 ⌝ }
 {
     (low as u16) + (high as u16) * 256
 }
 
+// Two pairs of bytes, the low one first.
 fn four(low: u16, high: u16) -> u32
     ensures { λ r. ⌜ r ≡ low + high * 65536 ⌝ }
 {

@@ -26,6 +26,7 @@ fn distance_to(e: Engine, to: u32) -> u32
     std::num::wrapping_sub_u32(to, e.clock)
 }
 
+// Found before, or this slot sounds and its window ends past its memory.
 fn or_lacks<'a>(found: bool, ram: &'a [i16], rom: &'a [i16], s: Slot) -> bool
     ensures { λ r. ⌜ r ≡ (found || s .sounding && endsPast (now (ram .entry)) (now (rom .entry)) (s .voice)) ⌝ }
 {

@@ -60,6 +60,7 @@ fn is_pedal_held(s: Slot, channel: u8) -> bool
     v.marked
 }
 
+// The slot is one of those that are let off.
 fn is_picked(s: Slot, channel: u8, whom: Whom) -> bool
     ensures { λ r. ⌜ r ≡ picked channel whom s ⌝ }
 {
@@ -97,6 +98,7 @@ fn off_one(s: Slot, channel: u8, whom: Whom, down: bool, g: &GainTable) -> Slot
     }
 }
 
+// 1 for a slot that counts.
 fn one_if(b: bool) -> u32
     ensures { λ r. ⌜ r ≡ cond b 1 0 ⌝ }
 {

@@ -21,6 +21,7 @@ use state::with_word;
 use voice::Slot;
 use voice::Voice;
 
+// Found before, or the window of this voice ends past its memory.
 fn or_past<'a>(found: bool, ram: &'a [i16], rom: &'a [i16], v: Voice) -> bool
     ensures { λ r. ⌜ r ≡ (found || endsPast (now (ram .entry)) (now (rom .entry)) v) ⌝ }
 {
@@ -45,6 +46,7 @@ pub fn any_past<'a>(ram: &'a [i16], rom: &'a [i16], voices: [Voice; 32], n: usiz
     found
 }
 
+// Found before, or this voice has the class, which is not 0.
 fn or_class(found: bool, class: u16, v: Voice) -> bool
     ensures { λ r. ⌜ r ≡ (found || not (eqb class 0) && eqb (v .class) class) ⌝ }
 {
