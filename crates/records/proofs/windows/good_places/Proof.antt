@@ -10,22 +10,30 @@ use Rattle.records.proofs.JoinLaws.{and-yes, and-no}
 use Rattle.records.proofs.windows.good_places.Statement.{statement}
 use Rattle.records.proofs.windows.good_places.Tie as tie
 
--- the first three tests
-front : (j : tie.Joined2) → j .if2 .if3 ≡ (leZ (pos 0) (j .before .before .args .start) && ltZ (j .before .before .args .start) (j .before .before .args .end) && ltZ (j .before .before .args .end) (pos 4294967296))
-front j =
-    let a = j .before .before .args in
-    let f = j .before .before .fits in
+-- the first two tests
+low-some : (j : tie.Joined1) → j .if1 .if2 ≡ (leZ (pos 0) (j .before .args .start) && ltZ (j .before .args .start) (j .before .args .end))
+low-some j =
+    let a = j .before .args in
+    let f = j .before .fits in
     let low = leZ (pos 0) (a .start) in
     let some = ltZ (a .start) (a .end) in
-    let two : j .before .if1 .if2 ≡ (low && some) =
     ⊎-elim
     (λ w. and-yes low some (rw (toZ-ofZ (f .start)) at (w .0 .taken)) (rw (toZ-ofZ (f .start), toZ-ofZ (f .end)) at (w .1)))
     (λ w. and-no low some (rw (toZ-ofZ (f .start)) at (w .0 .left)) (w .1 ∙ w .0 .left))
-    (j .before .if1 .came) in
+    (j .if1 .came)
+
+-- the third
+high : (j : tie.Joined2) → j .if2 .if3 ≡ (j .before .if1 .if2 && ltZ (j .before .before .args .end) (pos 4294967296))
+high j =
+    let test = j .before .if1 .if2 in
+    let high = ltZ (j .before .before .args .end) (pos 4294967296) in
     ⊎-elim
-    (λ w. and-yes (low && some) (ltZ (a .end) (pos 4294967296)) (sym two ∙ w .0 .taken) (rw (toZ-ofZ (f .end)) at (w .1)))
-    (λ w. and-no (low && some) (ltZ (a .end) (pos 4294967296)) (sym two ∙ w .0 .left) (w .1 ∙ w .0 .left))
+    (λ w. and-yes test high (w .0 .taken) (rw (toZ-ofZ (j .before .before .fits .end)) at (w .1)))
+    (λ w. and-no test high (w .0 .left) (w .1 ∙ w .0 .left))
     (j .if2 .came)
+
+front : (j : tie.Joined2) → j .if2 .if3 ≡ (leZ (pos 0) (j .before .before .args .start) && ltZ (j .before .before .args .start) (j .before .before .args .end) && ltZ (j .before .before .args .end) (pos 4294967296))
+front j = rw (← low-some (j .before)) (high j)
 
 -- the first two of a loop
 inner : (j : tie.Joined5) → j .if5 .if6 ≡ (leZ (j .before .before .before .before .before .args .start) (j .before .before .before .before .before .args .from) && ltZ (j .before .before .before .before .before .args .from) (j .before .before .before .before .before .args .to))
