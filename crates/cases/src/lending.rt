@@ -8,6 +8,7 @@ use crate::commands::Command;
 use crate::input::Place;
 use crate::input::next_bytes;
 use crate::input::next_samples;
+use arith::least;
 
 // How many bytes or samples an array holds now, and the place behind them.
 pub struct Held {
@@ -105,11 +106,10 @@ pub fn nothing() -> Lent
 }
 
 // So many samples, at most all that a memory holds.
-fn least(n: u32, held: usize) -> usize
+fn at_most(n: u32, held: usize) -> usize
     ensures { λ r. ⌜ r ≤ held ⌝ }
 {
-    let wanted = n as usize;
-    if wanted < held { wanted } else { held }
+    least(n as u64, held as u64) as usize
 }
 
 // B: a bank.
@@ -146,9 +146,9 @@ fn cut(c: Command, lent: Lent) -> Loan {
     let place = c.place;
     let mut next = lent;
     if c.letter == b'm' {
-        next.ram = least(c.first, lent.ram_held);
+        next.ram = at_most(c.first, lent.ram_held);
     } else {
-        next.rom = least(c.first, lent.rom_held);
+        next.rom = at_most(c.first, lent.rom_held);
     }
     Loan { lent: next, place }
 }
