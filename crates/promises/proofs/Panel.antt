@@ -11,7 +11,7 @@ use Rattle.curves.proofs.PitchLaws.{gain-le}
 use Rattle.voice.specs.declared.Stage.{Stage}
 use Rattle.voice.specs.declared.Stage.the-variants.{Delay, Attack, Hold, Decay, Sustain, Release}
 use Rattle.voice.specs.declared.Voice.{Voice}
-use Rattle.voice.proofs.BoundsLaws.{level-le}
+use Rattle.voice.proofs.LoudestLaws.{level-le}
 use Rattle.voice.specs.Panel.{stageShown, levelsOf, stageParts, shown, slotParts}
 use Rattle.voice.specs.Stages.{envelope}
 use Rattle.promises.specs.Demand2.{Levels, PanelIsExact}

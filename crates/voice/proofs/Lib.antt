@@ -1,9 +1,9 @@
 pub mod Advance
-pub mod BoundsLaws
 pub mod CalmLaws
 pub mod Examples
 pub mod FramesLaws
 pub mod Inside
+pub mod LoudestLaws
 pub mod MotionLaws
 pub mod PanelLaws
 pub mod RunLaws

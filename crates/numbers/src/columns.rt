@@ -2,14 +2,14 @@
 ghost use mathlib.Core.Path.{_≡_};
 ghost use Rattle.curves.specs.Levels.{gains};
 ghost use Rattle.curves.specs.Octave.{octaves};
-use crate::line::line;
-use crate::line::print_signed;
-use crate::line::signed_line;
-use crate::lists::bend_at;
-use crate::lists::cents_at;
-use crate::lists::level_at;
-use crate::lists::rate_at;
-use crate::lists::time_at;
+use crate::arguments::bend_at;
+use crate::arguments::cents_at;
+use crate::arguments::level_at;
+use crate::arguments::rate_at;
+use crate::arguments::time_at;
+use crate::rows::line;
+use crate::rows::print_signed;
+use crate::rows::signed_line;
 use curves::GainTable;
 use curves::OctaveTable;
 

@@ -1,8 +1,8 @@
 -- The lines of velocities and controls.
 use borrow.Author.Needs.{needs}
 use Prim.Native.Nat.{_-_, _≤_}
-use Rattle.numbers.proofs.loops.attenuations.Statement.{statement}
-use Rattle.numbers.proofs.loops.attenuations.Tie as tie
+use Rattle.numbers.proofs.columns.attenuations.Statement.{statement}
+use Rattle.numbers.proofs.columns.attenuations.Tie as tie
 
 abbrev Inv-loop : tie.InvT-loop
 Inv-loop name first v₀ v = v ≤ 256

@@ -3,8 +3,8 @@ use borrow.Author.Needs.{needs}
 use Prim.Native.Nat.{_-_, _≤_}
 use mathlib.Core.Path.{_≡_}
 use Rattle.curves.specs.Levels.{gains}
-use Rattle.numbers.proofs.loops.gains.Statement.{statement}
-use Rattle.numbers.proofs.loops.gains.Tie as tie
+use Rattle.numbers.proofs.columns.gains.Statement.{statement}
+use Rattle.numbers.proofs.columns.gains.Tie as tie
 
 abbrev Inv-loop : tie.InvT-loop
 Inv-loop g a₀ t3 a = (g ≡ gains) × (a ≤ 1446)

@@ -1,25 +1,25 @@
--- The lines of the frames.
+-- The lines of the steps of one pitch.
 use borrow.Author.Needs.{needs}
 use Prim.Native.Nat.{_-_, _≤_}
 use mathlib.Core.Path.{_≡_}
 use Rattle.curves.specs.Octave.{octaves}
-use Rattle.numbers.proofs.loops.times.Statement.{statement}
-use Rattle.numbers.proofs.loops.times.Tie as tie
+use Rattle.numbers.proofs.columns.steps_at.Statement.{statement}
+use Rattle.numbers.proofs.columns.steps_at.Tie as tie
 
 abbrev Inv-loop : tie.InvT-loop
-Inv-loop t i₀ i = (t ≡ octaves) × (i ≤ 175)
+Inv-loop t cents i₀ i = (t ≡ octaves) × (i ≤ 10)
 
 abbrev μ-loop : tie.MeasureT-loop
-μ-loop t i₀ i = 175 - i
+μ-loop t cents i₀ i = 10 - i
 
 loop-holds : tie.Need-loop-holds Inv-loop μ-loop
 loop-holds c = search needs
 
-time-at-requires : tie.Need-time-at-requires Inv-loop μ-loop
-time-at-requires c κs = search needs
+rate-at-requires : tie.Need-rate-at-requires Inv-loop μ-loop
+rate-at-requires c κs = search needs
 
-time-lines-requires : tie.Need-time-lines-requires Inv-loop μ-loop
-time-lines-requires c κs = search needs
+step-line-requires : tie.Need-step-line-requires Inv-loop μ-loop
+step-line-requires c κs = search needs
 
 add-i : tie.Need-add-i Inv-loop μ-loop
 add-i c = search needs
@@ -33,15 +33,15 @@ loop-again c = search needs
 returns : tie.Need-returns Inv-loop μ-loop
 returns c = search needs
 
-pub times-spec : {M : Type 1} → statement M
-times-spec =
+pub steps-at-spec : {M : Type 1} → statement M
+steps-at-spec =
     tie.close
     (tie.spec
     Inv-loop
     μ-loop
     loop-holds
-    time-at-requires
-    time-lines-requires
+    rate-at-requires
+    step-line-requires
     add-i
     loop-less
     loop-again

@@ -1,25 +1,25 @@
--- The lines of the steps.
+-- The lines of the frames.
 use borrow.Author.Needs.{needs}
 use Prim.Native.Nat.{_-_, _≤_}
 use mathlib.Core.Path.{_≡_}
 use Rattle.curves.specs.Octave.{octaves}
-use Rattle.numbers.proofs.loops.steps.Statement.{statement}
-use Rattle.numbers.proofs.loops.steps.Tie as tie
+use Rattle.numbers.proofs.columns.times.Statement.{statement}
+use Rattle.numbers.proofs.columns.times.Tie as tie
 
 abbrev Inv-loop : tie.InvT-loop
-Inv-loop t i₀ i = (t ≡ octaves) × (i ≤ 161)
+Inv-loop t i₀ i = (t ≡ octaves) × (i ≤ 175)
 
 abbrev μ-loop : tie.MeasureT-loop
-μ-loop t i₀ i = 161 - i
+μ-loop t i₀ i = 175 - i
 
 loop-holds : tie.Need-loop-holds Inv-loop μ-loop
 loop-holds c = search needs
 
-cents-at-requires : tie.Need-cents-at-requires Inv-loop μ-loop
-cents-at-requires c κs = search needs
+time-at-requires : tie.Need-time-at-requires Inv-loop μ-loop
+time-at-requires c κs = search needs
 
-steps-at-requires : tie.Need-steps-at-requires Inv-loop μ-loop
-steps-at-requires c κs = search needs
+time-lines-requires : tie.Need-time-lines-requires Inv-loop μ-loop
+time-lines-requires c κs = search needs
 
 add-i : tie.Need-add-i Inv-loop μ-loop
 add-i c = search needs
@@ -33,15 +33,15 @@ loop-again c = search needs
 returns : tie.Need-returns Inv-loop μ-loop
 returns c = search needs
 
-pub steps-spec : {M : Type 1} → statement M
-steps-spec =
+pub times-spec : {M : Type 1} → statement M
+times-spec =
     tie.close
     (tie.spec
     Inv-loop
     μ-loop
     loop-holds
-    cents-at-requires
-    steps-at-requires
+    time-at-requires
+    time-lines-requires
     add-i
     loop-less
     loop-again

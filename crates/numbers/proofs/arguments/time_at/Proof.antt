@@ -7,8 +7,8 @@ use mir.Syntax.{w32}
 use borrow.Author.Needs.{needs}
 use Rattle.arith.proofs.Expressions.{var, lit, sub, given, fits}
 use Rattle.arith.proofs.WithinLaws.{w-nat}
-use Rattle.numbers.proofs.lists.cents_at.Statement.{statement}
-use Rattle.numbers.proofs.lists.cents_at.Tie as tie
+use Rattle.numbers.proofs.arguments.time_at.Statement.{statement}
+use Rattle.numbers.proofs.arguments.time_at.Tie as tie
 
 mul-result : tie.Need-mul-result
 mul-result c = search needs
@@ -26,13 +26,13 @@ cast-result : tie.Need-cast-result
 cast-result c = search needs
 
 sub-result : tie.Need-sub-result
-sub-result c = fits w32 (given (w-nat {m = (c .before .args .i - 12) * 97} {n = 30000} (omega arith)) ∷ []) (sub (var 0) (lit (pos 9600))) tt
+sub-result c = fits w32 (given (w-nat {m = (c .before .args .i - 22) * 131} {n = 30000} (omega arith)) ∷ []) (sub (var 0) (lit (pos 12000))) tt
 
 returns-2 : tie.Need-returns-2
 returns-2 c = search needs
 
-pub cents-at-spec : {M : Type 1} → statement M
-cents-at-spec =
+pub time-at-spec : {M : Type 1} → statement M
+time-at-spec =
     tie.close
     (tie.spec
     mul-result

@@ -1,25 +1,25 @@
--- The lines of the steps of one pitch.
+-- The lines of the least attenuations.
 use borrow.Author.Needs.{needs}
 use Prim.Native.Nat.{_-_, _≤_}
 use mathlib.Core.Path.{_≡_}
-use Rattle.curves.specs.Octave.{octaves}
-use Rattle.numbers.proofs.loops.steps_at.Statement.{statement}
-use Rattle.numbers.proofs.loops.steps_at.Tie as tie
+use Rattle.curves.specs.Levels.{gains}
+use Rattle.numbers.proofs.columns.levels.Statement.{statement}
+use Rattle.numbers.proofs.columns.levels.Tie as tie
 
 abbrev Inv-loop : tie.InvT-loop
-Inv-loop t cents i₀ i = (t ≡ octaves) × (i ≤ 10)
+Inv-loop g i₀ i = (g ≡ gains) × (i ≤ 109)
 
 abbrev μ-loop : tie.MeasureT-loop
-μ-loop t cents i₀ i = 10 - i
+μ-loop g i₀ i = 109 - i
 
 loop-holds : tie.Need-loop-holds Inv-loop μ-loop
 loop-holds c = search needs
 
-rate-at-requires : tie.Need-rate-at-requires Inv-loop μ-loop
-rate-at-requires c κs = search needs
+level-at-requires : tie.Need-level-at-requires Inv-loop μ-loop
+level-at-requires c κs = search needs
 
-step-line-requires : tie.Need-step-line-requires Inv-loop μ-loop
-step-line-requires c κs = search needs
+level-line-requires : tie.Need-level-line-requires Inv-loop μ-loop
+level-line-requires c κs = search needs
 
 add-i : tie.Need-add-i Inv-loop μ-loop
 add-i c = search needs
@@ -33,15 +33,15 @@ loop-again c = search needs
 returns : tie.Need-returns Inv-loop μ-loop
 returns c = search needs
 
-pub steps-at-spec : {M : Type 1} → statement M
-steps-at-spec =
+pub levels-spec : {M : Type 1} → statement M
+levels-spec =
     tie.close
     (tie.spec
     Inv-loop
     μ-loop
     loop-holds
-    rate-at-requires
-    step-line-requires
+    level-at-requires
+    level-line-requires
     add-i
     loop-less
     loop-again

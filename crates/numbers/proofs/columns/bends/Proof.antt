@@ -1,8 +1,8 @@
 -- The lines of the bends.
 use borrow.Author.Needs.{needs}
 use Prim.Native.Nat.{_-_, _≤_}
-use Rattle.numbers.proofs.loops.bends.Statement.{statement}
-use Rattle.numbers.proofs.loops.bends.Tie as tie
+use Rattle.numbers.proofs.columns.bends.Statement.{statement}
+use Rattle.numbers.proofs.columns.bends.Tie as tie
 
 abbrev Inv-loop : tie.InvT-loop
 Inv-loop i₀ t3 i = i ≤ 406

@@ -1,25 +1,25 @@
--- The lines of the least attenuations.
+-- The lines of the steps.
 use borrow.Author.Needs.{needs}
 use Prim.Native.Nat.{_-_, _≤_}
 use mathlib.Core.Path.{_≡_}
-use Rattle.curves.specs.Levels.{gains}
-use Rattle.numbers.proofs.loops.levels.Statement.{statement}
-use Rattle.numbers.proofs.loops.levels.Tie as tie
+use Rattle.curves.specs.Octave.{octaves}
+use Rattle.numbers.proofs.columns.steps.Statement.{statement}
+use Rattle.numbers.proofs.columns.steps.Tie as tie
 
 abbrev Inv-loop : tie.InvT-loop
-Inv-loop g i₀ i = (g ≡ gains) × (i ≤ 109)
+Inv-loop t i₀ i = (t ≡ octaves) × (i ≤ 161)
 
 abbrev μ-loop : tie.MeasureT-loop
-μ-loop g i₀ i = 109 - i
+μ-loop t i₀ i = 161 - i
 
 loop-holds : tie.Need-loop-holds Inv-loop μ-loop
 loop-holds c = search needs
 
-level-at-requires : tie.Need-level-at-requires Inv-loop μ-loop
-level-at-requires c κs = search needs
+cents-at-requires : tie.Need-cents-at-requires Inv-loop μ-loop
+cents-at-requires c κs = search needs
 
-level-line-requires : tie.Need-level-line-requires Inv-loop μ-loop
-level-line-requires c κs = search needs
+steps-at-requires : tie.Need-steps-at-requires Inv-loop μ-loop
+steps-at-requires c κs = search needs
 
 add-i : tie.Need-add-i Inv-loop μ-loop
 add-i c = search needs
@@ -33,15 +33,15 @@ loop-again c = search needs
 returns : tie.Need-returns Inv-loop μ-loop
 returns c = search needs
 
-pub levels-spec : {M : Type 1} → statement M
-levels-spec =
+pub steps-spec : {M : Type 1} → statement M
+steps-spec =
     tie.close
     (tie.spec
     Inv-loop
     μ-loop
     loop-holds
-    level-at-requires
-    level-line-requires
+    cents-at-requires
+    steps-at-requires
     add-i
     loop-less
     loop-again
