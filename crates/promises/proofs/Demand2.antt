@@ -63,7 +63,7 @@ reaches channel key e h k =
     let at : (i : ℕ) → slotAt (noteOff channel key e .engine) i ≡ letOff (pedalDown e channel) (heldKey channel key) (slotAt e i) =
     λ i. ap (λ (a : Answered). slotAt (a .engine) i) d ∙ after-off channel key e i in
     record {
-      all = λ i t. ap (λ (s : Slot). s .voice) (at i ∙ letOff-picked (pedalDown e channel) (heldKey channel key) (slotAt e i) t);
+      all = λ i t. at i ∙ letOff-picked (pedalDown e channel) (heldKey channel key) (slotAt e i) t;
       none = λ i. ap (heldKey channel key) (at i) ∙ no (pedalDown e channel) (slotAt e i) (heldKey channel key (slotAt e i)) refl;
       others = λ i t. at i ∙ off-keeps (pedalDown e channel) (heldKey channel key) (slotAt e i) t;
       counted = ap (λ (a : Answered). a .count) d;

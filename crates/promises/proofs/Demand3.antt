@@ -29,7 +29,7 @@ use Rattle.curves.specs.Pitch.{stepOf, lifted, bendCents}
 use Rattle.state.specs.declared.Engine.{Engine}
 use Rattle.state.specs.Channels.{channelAt}
 use Rattle.promises.specs.Calls.{voiceIn, Call, next, run, framesOf, framesRun}
-use Rattle.promises.specs.Demand3.{centsIn, Keeps, KeepsAll, PlaceHolds, RatesHold, PlaceHoldsAlways, Exponent}
+use Rattle.promises.specs.Demand3.{centsIn, Keeps, KeepsAll, PlaceHolds, RatesHold, PlaceHoldsAlways}
 use Rattle.state.specs.Slots.{withVoice, slotAt}
 use Rattle.engine.specs.Rendering.{window, slotAfter}
 use Rattle.promises.proofs.EachSlot.{What, stands, pedalled, loosed, freed, started, goes, never, what}
@@ -209,19 +209,19 @@ cents-in : (i : ℕ) (e : Engine) → lifted (centsIn i e) ≤ 14400
 unfolding pitchTotal
 cents-in i e = up-le 9600 4800 (voiceIn i e .pitch +ℤ bendCents (channelAt e (voiceIn i e .channel) .bend))
 
--- where a frame is rendered, c is a pitch total
-cents-bound : (xs : List Call) (i : ℕ) (c : ℤ) (e : Engine) → 0 < framesRun xs e → KeepsAll i c xs e → lifted c ≤ 14400
+-- where a frame is rendered, c is a pitch total: what holds of every pitch total holds of it
+of-total : (P : ℤ → Type 0) (xs : List Call) (i : ℕ) (c : ℤ) (e : Engine) → ((x : Engine) → P (centsIn i x)) → 0 < framesRun xs e → KeepsAll i c xs e → P c
 unfolding framesRun
-cents-bound [] i c e n m = absurd (no n)
+of-total P [] i c e p n m = absurd (no n)
   where
     no : 0 < 0 → ⊥
     no h = omega arith
-cents-bound (x ∷ xs) i c e n m =
-    by (λ (h : 0 < framesRun xs (next x e)). cents-bound xs i c (next x e) h (m .1)) (framesOf x e) refl
+of-total P (x ∷ xs) i c e p n m =
+    by (λ (h : 0 < framesRun xs (next x e)). of-total P xs i c (next x e) p h (m .1)) (framesOf x e) refl
   where
-    by : (0 < framesRun xs (next x e) → lifted c ≤ 14400) → (f : ℕ) → framesOf x e ≡ f → lifted c ≤ 14400
+    by : (0 < framesRun xs (next x e) → P c) → (f : ℕ) → framesOf x e ≡ f → P c
     by r zero q = r (omega arith)
-    by r (suc f) q = subst (λ (z : ℤ). lifted z ≤ 14400) (m .0 .tuned (omega arith)) (cents-in i e)
+    by r (suc f) q = subst P (m .0 .tuned (omega arith)) (p e)
 
 -- the place of a voice that has gone on by one frame or more
 place-of : (v u : Voice) (st n : ℕ) → On v u st n → 0 < n → (v .mode ≡ 3 → released (u .stage) ≡ released (v .stage))
@@ -236,28 +236,6 @@ place-of v u st (suc n) o h k =
     let f : folds u (u .stage) ≡ folds v (v .stage) = ap (λ (x : Voice). folds x (x .stage)) (o .is) ∙ same-folds v (o .stage) (o .at) (o .mark) j in
     ap (λ (x : Voice). x .place) (o .is) ∙ o .place j
     ∙ ap (λ (b : Bool). cond b (folded v (v .place + suc n * st)) (v .place + suc n * st)) (sym f)
-
--- the run as a whole, and the bounds of its step
-pub place-holds : PlaceHolds
-place-holds i c xs e on h rate n m k =
-    let st = stepOf (lifted c) (voiceIn i e .rate) in
-    let o = all xs i c e st on h refl m in
-    let near = steps (lifted c) (voiceIn i e .rate) st (framesRun xs e) n (step-right (lifted c) (voiceIn i e .rate) (cents-bound xs i c e n m) (omega arith) (omega arith)) in
-    record {
-      place = place-of (voiceIn i e) (voiceIn i (run xs e)) st (framesRun xs e) o n k;
-      above = near .above;
-      below = near .below;
-    }
-
--- every voice that is started has such a rate, and no movement changes it
-pub rates-hold : RatesHold
-rates-hold before =
-    from-fresh (λ (v : Voice). (400 ≤ v .rate) × (v .rate ≤ 50000)) (λ v g p m h. h)
-    (λ x e u f. let g = came x e u f in (g .rate-low, g .rate-high)) before
-
--- the two together
-pub place-always : PlaceHoldsAlways
-place-always before i c xs on h n m k = place-holds i c xs (run before fresh) on h (rates-hold before i on) n m k
 
 -- a total that is held, above -28,800
 exponent-of : (k : ℤ) → pos (lifted (heldTo (negsuc 9599) (pos 4800) k) + 19200) ≡ pos 28800 +ℤ heldTo (negsuc 9599) (pos 4800) k
@@ -276,6 +254,29 @@ exponent-of k = by (ltZ k (negsuc 9599)) refl (ltZ (pos 4800) k) refl
     by false p false r = inside k p
 
 -- a pitch total is held, so it stands above -28,800
-pub exponent : Exponent
+exponent-in : (i : ℕ) (e : Engine) → pos (lifted (centsIn i e) + 19200) ≡ pos 28800 +ℤ centsIn i e
 unfolding pitchTotal
-exponent i e = exponent-of (voiceIn i e .pitch +ℤ bendCents (channelAt e (voiceIn i e .channel) .bend))
+exponent-in i e = exponent-of (voiceIn i e .pitch +ℤ bendCents (channelAt e (voiceIn i e .channel) .bend))
+
+-- the run as a whole, and the bounds of its step
+pub place-holds : PlaceHolds
+place-holds i c xs e on h rate n m k =
+    let st = stepOf (lifted c) (voiceIn i e .rate) in
+    let o = all xs i c e st on h refl m in
+    let near = steps (lifted c) (voiceIn i e .rate) st (framesRun xs e) n (step-right (lifted c) (voiceIn i e .rate) (of-total (λ (z : ℤ). lifted z ≤ 14400) xs i c e (cents-in i) n m) (omega arith) (omega arith)) in
+    record {
+      place = place-of (voiceIn i e) (voiceIn i (run xs e)) st (framesRun xs e) o n k;
+      above = near .above;
+      below = near .below;
+      exponent = of-total (λ (z : ℤ). pos (lifted z + 19200) ≡ pos 28800 +ℤ z) xs i c e (exponent-in i) n m;
+    }
+
+-- every voice that is started has such a rate, and no movement changes it
+pub rates-hold : RatesHold
+rates-hold before =
+    from-fresh (λ (v : Voice). (400 ≤ v .rate) × (v .rate ≤ 50000)) (λ v g p m h. h)
+    (λ x e u f. let g = came x e u f in (g .rate-low, g .rate-high)) before
+
+-- the two together
+pub place-always : PlaceHoldsAlways
+place-always before i c xs on h n m k = place-holds i c xs (run before fresh) on h (rates-hold before i on) n m k

@@ -15,3 +15,4 @@ pub mod Panel
 pub mod Runs
 pub mod Seats
 pub mod Voices
+pub mod Controls

@@ -65,7 +65,7 @@ lift-is channel value e h k =
 pub lifts : LiftingReleases
 lifts channel value e h k =
     record {
-      all = λ i t. ap (λ (s : Slot). s .voice) (at i ∙ letOff-picked false (pedalHeld channel) (slotAt e i) t);
+      all = λ i t. at i ∙ letOff-picked false (pedalHeld channel) (slotAt e i) t;
       none = λ i. ap (pedalHeld channel) (at i) ∙ no (slotAt e i) (pedalHeld channel (slotAt e i)) refl;
       others = λ i t. at i ∙ off-keeps false (pedalHeld channel) (slotAt e i) t;
     }

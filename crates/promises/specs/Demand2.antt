@@ -11,7 +11,7 @@ use lib.Ieee.{Float}
 use Rattle.arith.specs.Lists.{countIf}
 use Rattle.voice.specs.Release.{release}
 use Rattle.state.specs.declared.Engine.{Engine}
-use Rattle.state.specs.Slots.{slotAt, slotsOf, ofChannel}
+use Rattle.state.specs.Slots.{slotAt, slotsOf, ofChannel, withVoice}
 use Rattle.events.specs.Keys.{heldKey, pedalDown, mark, pedalHeld}
 use Rattle.promises.specs.Calls.{NoteOff, does, next, voiceIn, NoteOn, Control, Call, run, Program, Bend, Render, Ask, among, history, framesRun, begun, channelOf, startsIn, framesOf, written, told}
 use Rattle.state.specs.Quiet.{fresh}
@@ -32,11 +32,12 @@ use Rattle.voice.specs.Panel.{slotParts}
 
 -- ---- 1. A note-off reaches all held voices of its channel and key
 
--- after a note-off that is done: each held voice of channel and key is released, or marked while the pedal is down; none is
--- held any more; every other slot is as it was; the answer counts them
+-- after a note-off that is done: each held voice of channel and key keeps its slot, and is released there, or marked while the
+-- pedal is down; none is held any more; every other slot is as it was; the answer counts them
 pub record Reached (channel key : ℕ) (e : Engine) : Type 0 where
   pub all : (i : ℕ) → heldKey channel key (slotAt e i) ≡ true
-      → voiceIn i (next (NoteOff channel key) e) ≡ cond (pedalDown e channel) (mark (voiceIn i e)) (release (voiceIn i e))
+      → slotAt (next (NoteOff channel key) e) i
+      ≡ withVoice (slotAt e i) (cond (pedalDown e channel) (mark (voiceIn i e)) (release (voiceIn i e)))
   pub none : (i : ℕ) → heldKey channel key (slotAt (next (NoteOff channel key) e) i) ≡ false
   pub others : (i : ℕ) → heldKey channel key (slotAt e i) ≡ false → slotAt (next (NoteOff channel key) e) i ≡ slotAt e i
   pub counted : does (NoteOff channel key) e .count ≡ countIf (heldKey channel key) (slotsOf e)
@@ -53,9 +54,11 @@ VelocityZeroIsNoteOff =
 
 -- ---- 2. Under the pedal none is lost
 
--- control 64 below 64: each marked voice of the channel is released, none stays marked, every other slot is as it was
+-- control 64 below 64: each marked voice of the channel keeps its slot and is released there, none stays marked, every other
+-- slot is as it was
 pub record Lifted (channel value : ℕ) (e : Engine) : Type 0 where
-  pub all : (i : ℕ) → pedalHeld channel (slotAt e i) ≡ true → voiceIn i (next (Control channel 64 value) e) ≡ release (voiceIn i e)
+  pub all : (i : ℕ) → pedalHeld channel (slotAt e i) ≡ true
+      → slotAt (next (Control channel 64 value) e) i ≡ withVoice (slotAt e i) (release (voiceIn i e))
   pub none : (i : ℕ) → pedalHeld channel (slotAt (next (Control channel 64 value) e) i) ≡ false
   pub others : (i : ℕ) → pedalHeld channel (slotAt e i) ≡ false → slotAt (next (Control channel 64 value) e) i ≡ slotAt e i
 

@@ -35,7 +35,7 @@ advance n c v = n * stepOf (lifted c) (v .rate)
 
 -- what is said of the place: moved by A, folded while it loops; and A <= n * X < A + 2n, with X = 2^24 * 2^(c/1,200) * rate/44,100.
 -- Both sides stand times 44,100 and in 1,200th powers, over whole numbers:
--- (n * X * 44,100)^1200 = n^1200 * 2^(28,800 + c) * rate^1200, and lifted c + 19,200 = 28,800 + c (`Exponent`)
+-- (n * X * 44,100)^1200 = n^1200 * 2^(28,800 + c) * rate^1200, where 28,800 is 24 * 1,200 and lifted c + 19,200 is 28,800 + c
 pub record Moved (i : ℕ) (c : ℤ) (n : ℕ) (before after : Engine) : Type 0 where
   pub place :
       voiceIn i after .place
@@ -48,10 +48,7 @@ pub record Moved (i : ℕ) (c : ℤ) (n : ℕ) (before after : Engine) : Type 0 
   pub below :
       n ^ 1200 * (2 ^ (lifted c + 19200) * voiceIn i before .rate ^ 1200)
       < ((advance n c (voiceIn i before) + n * 2) * 44100) ^ 1200
-
--- the exponent is 24 * 1,200 + c, for every pitch total c that a voice can have
-abbrev pub Exponent : Type 0
-Exponent = (i : ℕ) (e : Engine) → pos (lifted (centsIn i e) + 19200) ≡ pos 28800 +ℤ centsIn i e
+  pub exponent : pos (lifted c + 19200) ≡ pos 28800 +ℤ c
 
 -- a voice past its delay, through a run that renders n frames, one or more; if its loop stops at release, not released there
 abbrev pub PlaceHolds : Type 0
