@@ -1,4 +1,4 @@
--- 01, "Bank admission": the sample rate and the window of a sounding instrument zone. Places are whole signed numbers.
+-- 01, "Bank admission": the window of a sounding instrument zone. Places are whole signed numbers.
 use Prim.Native.Nat.{ℕ, _+_}
 use lib.IntN.{ℤ, pos, _+ℤ_, _*ℤ_}
 use mathlib.Core.List.{List}
