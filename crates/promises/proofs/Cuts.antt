@@ -28,12 +28,12 @@ unfolding frame window
 frame-window ram rom c w s =
     frame-keeps (λ (v : Voice). window ram rom v ≡ window ram rom (s .voice)) (step c (s .voice)) (loss c (s .voice)) w s refl (λ g p. refl)
 
-after-channel : (c : Channel) (w : List ℤ) (n : ℕ) (s : Slot) → after c w n s .voice .channel ≡ s .voice .channel
+pub after-channel : (c : Channel) (w : List ℤ) (n : ℕ) (s : Slot) → after c w n s .voice .channel ≡ s .voice .channel
 unfolding after
 after-channel c w zero s = refl
 after-channel c w (suc n) s = frame-channel c w (after c w n s) ∙ after-channel c w n s
 
-after-window : (ram rom : List ℤ) (c : Channel) (w : List ℤ) (n : ℕ) (s : Slot) → window ram rom (after c w n s .voice) ≡ window ram rom (s .voice)
+pub after-window : (ram rom : List ℤ) (c : Channel) (w : List ℤ) (n : ℕ) (s : Slot) → window ram rom (after c w n s .voice) ≡ window ram rom (s .voice)
 unfolding after
 after-window ram rom c w zero s = refl
 after-window ram rom c w (suc n) s = frame-window ram rom c w (after c w n s) ∙ after-window ram rom c w n s

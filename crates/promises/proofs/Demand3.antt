@@ -1,8 +1,8 @@
 -- Demand 3 over a run of calls: each call leaves the voice of a slot as it is, lets it go, or moves it by its frames; runs add up.
-use Prim.Native.Nat.{ℕ, zero, suc, _+_, _*_, _<_, _≤_}
-use mathlib.Core.Path.{_≡_, refl, ap, sym, _∙_, subst}
+use Prim.Native.Nat.{ℕ, zero, suc, _+_, _-_, _*_, _<_, _≤_}
+use mathlib.Core.Path.{_≡_, refl, ap, ap₂, sym, _∙_, subst}
 use mathlib.Core.Bool.{Bool, true, false, not, _&&_, _||_, cond}
-use borrow.Author.Tests.{eqb-true, ltb-false}
+use borrow.Author.Tests.{eqb-true, ltb-true, ltb-false}
 use lib.Dec.{eqb, ltb, T}
 use native.Mathlib.Nat.{add-zero}
 use mathlib.Core.List.{List, [], _∷_}
@@ -12,8 +12,10 @@ use lib.Signed.{ltZ}
 use Rattle.voice.specs.declared.Stage.{Stage}
 use Rattle.voice.specs.declared.Voice.{Voice}
 use Rattle.voice.specs.Changes.{withMoved, sounds, free}
-use Rattle.voice.specs.Stages.{past, released}
-use Rattle.voice.proofs.Advance.{placeAfter, place-add, going}
+use Rattle.voice.specs.Stages.{past, released, dead}
+use Rattle.voice.proofs.Advance.{placeAfter, place-add, going, enter-past}
+use Rattle.voice.proofs.FramesLaws.{frame-on, living-plays}
+use Rattle.voice.specs.declared.Framed.{Framed}
 use Rattle.events.specs.Keys.{mark}
 use Rattle.voice.specs.declared.Stage.the-variants.{Delay, Attack, Hold, Decay, Sustain, Release}
 use Rattle.voice.specs.Release.{letGo, release}
@@ -22,16 +24,19 @@ use Rattle.voice.specs.Motion.{folds, folded, settled, step, pitchTotal}
 use Rattle.voice.specs.declared.Slot.{Slot}
 use Rattle.voice.specs.declared.Channel.{Channel}
 use Rattle.voice.specs.Sound.{loss}
-use Rattle.voice.specs.Frames.{after}
+use Rattle.voice.specs.Frames.{after, frame, readAndMoved, loud}
 use Rattle.voice.specs.Internal.Frames.{afterAt}
 use Rattle.voice.proofs.RunLaws.{once}
 use Rattle.curves.specs.Pitch.{stepOf, lifted, bendCents}
 use Rattle.state.specs.declared.Engine.{Engine}
 use Rattle.state.specs.Channels.{channelAt}
-use Rattle.promises.specs.Calls.{voiceIn, Call, next, run, framesOf, framesRun}
-use Rattle.promises.specs.Demand3.{centsIn, Keeps, KeepsAll, PlaceHolds, RatesHold, PlaceHoldsAlways}
+use Rattle.promises.specs.Calls.{voiceIn, Call, next, run, framesOf, framesRun, startsIn, among}
+use Rattle.promises.specs.Demand3.{centsIn, Stays, Keeps, KeepsAll, stageIn, ReadAtThePlace, Moved, PlaceBetween, PlaceBetweenAlways, PlaceHolds, RatesHold, PlaceHoldsAlways}
+use Rattle.promises.specs.Moments.{Moment, moment, stateAt, inFront, startedAt}
+use Rattle.promises.proofs.Moments.{no-frame, slot-at, part-keeps, ramOf, romOf, in-call, front-here, front-later, front-end, front-sounded, front-everyone, started-later, started-first, moment-later}
+use Rattle.promises.proofs.Cuts.{played-cut, after-channel, after-window}
 use Rattle.state.specs.Slots.{withVoice, slotAt}
-use Rattle.engine.specs.Rendering.{window, slotAfter}
+use Rattle.engine.specs.Rendering.{window, slotAfter, played}
 use Rattle.promises.proofs.EachSlot.{What, stands, pedalled, loosed, freed, started, goes, never, what}
 use Rattle.curves.proofs.OctaveLaws.{up-le}
 use Rattle.curves.proofs.PitchLaws.{step-right, steps}
@@ -162,6 +167,26 @@ step-is : (i : ℕ) (c : ℤ) (e : Engine) → centsIn i e ≡ c → step (chann
 unfolding step
 step-is i c e h = ap (λ (z : ℤ). stepOf (lifted z) (voiceIn i e .rate)) h
 
+-- n frames of the slots of e; none moves no place, whatever the step
+after-on : (ram rom : List ℤ) (n : ℕ) (e : Engine) (i st : ℕ) → slotAt e i .sounding ≡ true → past (voiceIn i e .stage) ≡ true
+    → (0 < n → step (channelAt e (voiceIn i e .channel)) (voiceIn i e) ≡ st)
+    → slotAfter ram rom e n (slotAt e i) .sounding ≡ true → Onward (slotAt e i) (slotAfter ram rom e n (slotAt e i)) st n
+after-on ram rom zero e i st on h t k =
+    let r = run-on (channelAt e (voiceIn i e .channel)) (window ram rom (voiceIn i e)) zero (slotAt e i) on h k in
+    record { stage = r .stage; at = r .at; mark = r .mark; is = r .is; past = r .past; kept = r .kept; place = r .place }
+after-on ram rom (suc n) e i st on h t k =
+    subst (λ (y : ℕ). Onward (slotAt e i) (slotAfter ram rom e (suc n) (slotAt e i)) y (suc n)) (t (omega arith))
+    (run-on (channelAt e (voiceIn i e .channel)) (window ram rom (voiceIn i e)) (suc n) (slotAt e i) on h k)
+
+-- the same of the state after them
+part-on : (ram rom : List ℤ) (n : ℕ) (e : Engine) (i st : ℕ) → slotAt e i .sounding ≡ true → past (voiceIn i e .stage) ≡ true
+    → (0 < n → step (channelAt e (voiceIn i e .channel)) (voiceIn i e) ≡ st)
+    → slotAt (played ram rom n e) i .sounding ≡ true → On (voiceIn i e) (voiceIn i (played ram rom n e)) st n
+part-on ram rom n e i st on h t k =
+    let q = slot-at ram rom n e i in
+    subst (λ (s : Slot). Onward (slotAt e i) s st n) (sym q)
+    (after-on ram rom n e i st on h t (sym (ap (λ (s : Slot). s .sounding) q) ∙ k))
+
 -- each call
 each : (x : Call) (i : ℕ) (c : ℤ) (e : Engine) (st : ℕ) → slotAt e i .sounding ≡ true → past (voiceIn i e .stage) ≡ true
     → stepOf (lifted c) (voiceIn i e .rate) ≡ st → Keeps i c x e → On (voiceIn i e) (voiceIn i (next x e)) st (framesOf x e)
@@ -174,15 +199,6 @@ each x i c e st on h q m = by (what x e i)
     at : {t : Slot} (s : Slot) → t ≡ s → framesOf x e ≡ 0 → On v (s .voice) st 0 → On v (t .voice) st (framesOf x e)
     at s a n o = rw (a, n) o
 
-    -- n frames; none moves no place, whatever the step
-    run : (ram rom : List ℤ) (n : ℕ) → (0 < n → centsIn i e ≡ c) → slotAfter ram rom e n (slotAt e i) .sounding ≡ true → Onward (slotAt e i) (slotAfter ram rom e n (slotAt e i)) st n
-    run ram rom zero t k =
-        let r = run-on (channelAt e (v .channel)) (window ram rom v) zero (slotAt e i) on h k in
-        record { stage = r .stage; at = r .at; mark = r .mark; is = r .is; past = r .past; kept = r .kept; place = r .place }
-    run ram rom (suc n) t k =
-        subst (λ (y : ℕ). Onward (slotAt e i) (slotAfter ram rom e (suc n) (slotAt e i)) y (suc n)) (step-is i c e (t (omega arith)) ∙ q)
-        (run-on (channelAt e (v .channel)) (window ram rom v) (suc n) (slotAt e i) on h k)
-
     by : What x e i → On v (voiceIn i (next x e)) st (framesOf x e)
     by (stands a n) = at (slotAt e i) a n (still v st h)
     by (pedalled a n l d) = at (withVoice (slotAt e i) (mark v)) a n (marked-on v st h)
@@ -191,37 +207,90 @@ each x i c e st on h q m = by (what x e i)
     by (started u a n f t) = absurd (never (sym (m .own) ∙ t))
     by (goes ram rom a) =
         subst (λ (s : Slot). On v (s .voice) st (framesOf x e)) (sym a)
-        (run ram rom (framesOf x e) (m .tuned) (sym (ap (λ (s : Slot). s .sounding) a) ∙ m .lives))
+        (after-on ram rom (framesOf x e) e i st on h (λ g. step-is i c e (m .tuned g) ∙ q) (sym (ap (λ (s : Slot). s .sounding) a) ∙ m .lives))
 
--- a run
-all : (xs : List Call) (i : ℕ) (c : ℤ) (e : Engine) (st : ℕ) → slotAt e i .sounding ≡ true → past (voiceIn i e .stage) ≡ true
-    → stepOf (lifted c) (voiceIn i e .rate) ≡ st → KeepsAll i c xs e → On (voiceIn i e) (voiceIn i (run xs e)) st (framesRun xs e)
-unfolding run framesRun
-all [] i c e st on h q m = still (voiceIn i e) st h
-all (x ∷ xs) i c e st on h q m =
-    let o = each x i c e st on h q (m .0) in
-    let p : past (voiceIn i (next x e) .stage) ≡ true = ap (λ (v : Voice). past (v .stage)) (o .is) ∙ o .past in
-    let r : stepOf (lifted c) (voiceIn i (next x e) .rate) ≡ st = ap (λ (v : Voice). stepOf (lifted c) (v .rate)) (o .is) ∙ q in
-    on-on st (framesOf x e) (framesRun xs (next x e)) o (all xs i c (next x e) st (m .0 .lives) p r (m .1))
+-- ---- frames of a run
+
+-- the pitch total stays within a render
+cents-part : (ram rom : List ℤ) (n : ℕ) (e : Engine) (i : ℕ) → centsIn i (played ram rom n e) ≡ centsIn i e
+unfolding played pitchTotal
+cents-part ram rom n e i =
+    part-keeps (λ (v : Voice). pitchTotal (channelAt e (v .channel)) v ≡ centsIn i e) (λ v g p m h. h) ram rom n e i refl
+
+-- in front of frame k of the rest
+cents-later : (i k : ℕ) (x : Call) (xs : List Call) (e : Engine) → centsIn i (inFront (framesOf x e + k) (x ∷ xs) e) ≡ centsIn i (inFront k xs (next x e))
+cents-later i k x xs e = ap (λ (m : Moment). centsIn i (stateAt m)) (moment-later k x xs e)
+
+-- from the beginning of a run to the front of frame b: neither ended nor taken, and in each frame the pitch total is c
+record Reaches (i : ℕ) (c : ℤ) (b : ℕ) (xs : List Call) (e : Engine) : Type 0 where
+  frames : b ≤ framesRun xs e
+  lives : slotAt (inFront b xs e) i .sounding ≡ true
+  own : (k : ℕ) → k ≤ b → startedAt i k xs e ≡ false
+  tuned : (k : ℕ) → k < b → centsIn i (inFront k xs e) ≡ c
+
+-- so is the rest of the run, where b lies behind its first call
+reaches-rest : (i : ℕ) (c : ℤ) (b : ℕ) (x : Call) (xs : List Call) (e : Engine) → framesOf x e ≤ b → Reaches i c b (x ∷ xs) e → Reaches i c (b - framesOf x e) xs (next x e)
+unfolding framesRun
+reaches-rest i c b x xs e l r =
+    let g = r .frames in
+    record {
+      frames = omega arith;
+      lives = subst (λ (y : Engine). slotAt y i .sounding ≡ true) (front-later b x xs e l) (r .lives);
+      own = λ k h. started-later i k x xs e (r .own (framesOf x e + k) (omega arith));
+      tuned = λ k h. sym (cents-later i k x xs e) ∙ r .tuned (framesOf x e + k) (omega arith);
+    }
+
+-- the first call keeps the voice
+reaches-first : (i : ℕ) (c : ℤ) (b : ℕ) (x : Call) (xs : List Call) (e : Engine) → framesOf x e ≤ b → Reaches i c b (x ∷ xs) e → Keeps i c x e
+reaches-first i c b x xs e l r =
+    let f = reaches-rest i c b x xs e l r in
+    record {
+      lives = front-sounded xs (next x e) i (b - framesOf x e) (f .lives) (f .own);
+      own = started-first i x xs e (r .own 0 (omega arith));
+      tuned = λ h. sym (cents-part (ramOf x) (romOf x) 0 e i) ∙ subst (λ (y : Engine). centsIn i y ≡ c) (front-here 0 x xs e h) (r .tuned 0 (omega arith));
+    }
+
+-- the voice has gone on by b frames
+to-frame : (xs : List Call) (i : ℕ) (c : ℤ) (e : Engine) (b st : ℕ) → slotAt e i .sounding ≡ true → past (voiceIn i e .stage) ≡ true
+    → stepOf (lifted c) (voiceIn i e .rate) ≡ st → Reaches i c b xs e → On (voiceIn i e) (voiceIn i (inFront b xs e)) st b
+unfolding framesRun moment
+to-frame [] i c e b st on h q r =
+    let g = r .frames in
+    let z : 0 ≡ b = omega arith in
+    subst (λ (n : ℕ). On (voiceIn i e) (voiceIn i (played [] [] 0 e)) st n) z
+    (part-on [] [] 0 e i st on h (λ (n : 0 < 0). absurd (no-frame n)) (r .lives))
+to-frame (x ∷ xs) i c e b st on h q r =
+    by (λ (p : past (voiceIn i (next x e) .stage) ≡ true) (l : framesOf x e ≤ b) (s : stepOf (lifted c) (voiceIn i (next x e) .rate) ≡ st).
+    to-frame xs i c (next x e) (b - framesOf x e) st (reaches-first i c b x xs e l r .lives) p s (reaches-rest i c b x xs e l r))
+    (ltb b (framesOf x e)) refl
+  where
+    Rest : Type 0
+    Rest =
+        past (voiceIn i (next x e) .stage) ≡ true → framesOf x e ≤ b → stepOf (lifted c) (voiceIn i (next x e) .rate) ≡ st
+        → On (voiceIn i (next x e)) (voiceIn i (inFront (b - framesOf x e) xs (next x e))) st (b - framesOf x e)
+
+    by : Rest → (t : Bool) → ltb b (framesOf x e) ≡ t → On (voiceIn i e) (voiceIn i (inFront b (x ∷ xs) e)) st b
+    by rest true t =
+        let l = ltb-true b (framesOf x e) t in
+        let f = front-here b x xs e l in
+        let n : 0 < b → step (channelAt e (voiceIn i e .channel)) (voiceIn i e) ≡ st =
+        λ g. step-is i c e (sym (cents-part (ramOf x) (romOf x) 0 e i) ∙ subst (λ (y : Engine). centsIn i y ≡ c) (front-here 0 x xs e (omega arith)) (r .tuned 0 g)) ∙ q in
+        subst (λ (y : Engine). On (voiceIn i e) (voiceIn i y) st b) (sym f)
+        (part-on (ramOf x) (romOf x) b e i st on h n (subst (λ (y : Engine). slotAt y i .sounding ≡ true) f (r .lives)))
+    by rest false t =
+        let l = ltb-false b (framesOf x e) t in
+        let o = each x i c e st on h q (reaches-first i c b x xs e l r) in
+        let p : past (voiceIn i (next x e) .stage) ≡ true = ap (λ (v : Voice). past (v .stage)) (o .is) ∙ o .past in
+        let s : stepOf (lifted c) (voiceIn i (next x e) .rate) ≡ st = ap (λ (v : Voice). stepOf (lifted c) (v .rate)) (o .is) ∙ q in
+        let n : framesOf x e + (b - framesOf x e) ≡ b = omega arith in
+        subst (λ (y : Engine). On (voiceIn i e) (voiceIn i y) st b) (sym (front-later b x xs e l))
+        (subst (On (voiceIn i e) (voiceIn i (inFront (b - framesOf x e) xs (next x e))) st) n
+        (on-on st (framesOf x e) (b - framesOf x e) o (rest p l s)))
 
 -- a pitch total is held to -9,600..4,800
 cents-in : (i : ℕ) (e : Engine) → lifted (centsIn i e) ≤ 14400
 unfolding pitchTotal
 cents-in i e = up-le 9600 4800 (voiceIn i e .pitch +ℤ bendCents (channelAt e (voiceIn i e .channel) .bend))
-
--- where a frame is rendered, c is a pitch total: what holds of every pitch total holds of it
-of-total : (P : ℤ → Type 0) (xs : List Call) (i : ℕ) (c : ℤ) (e : Engine) → ((x : Engine) → P (centsIn i x)) → 0 < framesRun xs e → KeepsAll i c xs e → P c
-unfolding framesRun
-of-total P [] i c e p n m = absurd (no n)
-  where
-    no : 0 < 0 → ⊥
-    no h = omega arith
-of-total P (x ∷ xs) i c e p n m =
-    by (λ (h : 0 < framesRun xs (next x e)). of-total P xs i c (next x e) p h (m .1)) (framesOf x e) refl
-  where
-    by : (0 < framesRun xs (next x e) → P c) → (f : ℕ) → framesOf x e ≡ f → P c
-    by r zero q = r (omega arith)
-    by r (suc f) q = subst P (m .0 .tuned (omega arith)) (p e)
 
 -- the place of a voice that has gone on by one frame or more
 place-of : (v u : Voice) (st n : ℕ) → On v u st n → 0 < n → (v .mode ≡ 3 → released (u .stage) ≡ released (v .stage))
@@ -258,18 +327,177 @@ exponent-in : (i : ℕ) (e : Engine) → pos (lifted (centsIn i e) + 19200) ≡ 
 unfolding pitchTotal
 exponent-in i e = exponent-of (voiceIn i e .pitch +ℤ bendCents (channelAt e (voiceIn i e .channel) .bend))
 
--- the run as a whole, and the bounds of its step
-pub place-holds : PlaceHolds
-place-holds i c xs e on h rate n m k =
-    let st = stepOf (lifted c) (voiceIn i e .rate) in
-    let o = all xs i c e st on h refl m in
-    let near = steps (lifted c) (voiceIn i e .rate) st (framesRun xs e) n (step-right (lifted c) (voiceIn i e .rate) (of-total (λ (z : ℤ). lifted z ≤ 14400) xs i c e (cents-in i) n m) (omega arith) (omega arith)) in
+-- what is said of the place, from the voice gone on and a state in which c is its pitch total
+moved-by : (i : ℕ) (c : ℤ) (n : ℕ) (a b y : Engine) → 0 < n → centsIn i y ≡ c → (400 ≤ voiceIn i a .rate) × (voiceIn i a .rate ≤ 50000)
+    → On (voiceIn i a) (voiceIn i b) (stepOf (lifted c) (voiceIn i a .rate)) n
+    → (voiceIn i a .mode ≡ 3 → released (voiceIn i b .stage) ≡ released (voiceIn i a .stage)) → Moved i c n a b
+moved-by i c n a b y h q rate o k =
+    let st = stepOf (lifted c) (voiceIn i a .rate) in
+    let near = steps (lifted c) (voiceIn i a .rate) st n h
+    (step-right (lifted c) (voiceIn i a .rate) (subst (λ (z : ℤ). lifted z ≤ 14400) q (cents-in i y)) (omega arith) (omega arith)) in
     record {
-      place = place-of (voiceIn i e) (voiceIn i (run xs e)) st (framesRun xs e) o n k;
+      place = place-of (voiceIn i a) (voiceIn i b) st n o h k;
       above = near .above;
       below = near .below;
-      exponent = of-total (λ (z : ℤ). pos (lifted z + 19200) ≡ pos 28800 +ℤ z) xs i c e (exponent-in i) n m;
+      exponent = subst (λ (z : ℤ). pos (lifted z + 19200) ≡ pos 28800 +ℤ z) q (exponent-in i y);
     }
+
+-- a run that keeps the voice call by call: it sounds at the end, none is started in its slot, and each frame is tuned
+keeps-lives : (xs : List Call) (i : ℕ) (c : ℤ) (e : Engine) → slotAt e i .sounding ≡ true → KeepsAll i c xs e → slotAt (run xs e) i .sounding ≡ true
+unfolding run
+keeps-lives [] i c e on m = on
+keeps-lives (x ∷ xs) i c e on m = keeps-lives xs i c (next x e) (m .0 .lives) (m .1)
+
+keeps-own : (xs : List Call) (i : ℕ) (c : ℤ) (e : Engine) → KeepsAll i c xs e → (k : ℕ) → startedAt i k xs e ≡ false
+unfolding startedAt
+keeps-own [] i c e m k = refl
+keeps-own (x ∷ xs) i c e m k = by (keeps-own xs i c (next x e) (m .1) (k - framesOf x e)) (ltb k (framesOf x e)) (eqb k 0)
+  where
+    by : startedAt i (k - framesOf x e) xs (next x e) ≡ false → (s t : Bool)
+        → cond s false (cond t (among i (startsIn x e)) false || startedAt i (k - framesOf x e) xs (next x e)) ≡ false
+    by r true t = refl
+    by r false true = rw (m .0 .own) r
+    by r false false = r
+
+keeps-tuned : (xs : List Call) (i : ℕ) (c : ℤ) (e : Engine) → KeepsAll i c xs e → (k : ℕ) → k < framesRun xs e → centsIn i (inFront k xs e) ≡ c
+unfolding framesRun
+keeps-tuned [] i c e m k h = absurd (no-frame h)
+keeps-tuned (x ∷ xs) i c e m k h =
+    by (λ (g : k - framesOf x e < framesRun xs (next x e)). keeps-tuned xs i c (next x e) (m .1) (k - framesOf x e) g) (ltb k (framesOf x e)) refl
+  where
+    by : (k - framesOf x e < framesRun xs (next x e) → centsIn i (inFront (k - framesOf x e) xs (next x e)) ≡ c)
+        → (b : Bool) → ltb k (framesOf x e) ≡ b → centsIn i (inFront k (x ∷ xs) e) ≡ c
+    by r true q =
+        let g = ltb-true k (framesOf x e) q in
+        ap (centsIn i) (front-here k x xs e g) ∙ cents-part (ramOf x) (romOf x) k e i ∙ m .0 .tuned (omega arith)
+    by r false q =
+        let g = ltb-false k (framesOf x e) q in
+        ap (centsIn i) (front-later k x xs e g) ∙ r (omega arith)
+
+-- so it reaches the end of the run
+keeps-reaches : (xs : List Call) (i : ℕ) (c : ℤ) (e : Engine) → slotAt e i .sounding ≡ true → KeepsAll i c xs e → Reaches i c (framesRun xs e) xs e
+keeps-reaches xs i c e on m =
+    record {
+      frames = omega arith;
+      lives = ap (λ (s : Slot). s .sounding) (front-end xs e i) ∙ keeps-lives xs i c e on m;
+      own = λ k h. keeps-own xs i c e m k;
+      tuned = λ k h. keeps-tuned xs i c e m k h;
+    }
+
+-- the run as a whole
+pub place-holds : PlaceHolds
+place-holds i c xs e on h rate n m k =
+    let r = keeps-reaches xs i c e on m in
+    let o = to-frame xs i c e (framesRun xs e) (stepOf (lifted c) (voiceIn i e .rate)) on h refl r in
+    moved-by i c (framesRun xs e) e (run xs e) (inFront 0 xs e) n (r .tuned 0 n) rate
+    (subst (λ (s : Slot). On (voiceIn i e) (s .voice) (stepOf (lifted c) (voiceIn i e .rate)) (framesRun xs e)) (front-end xs e i) o) k
+
+-- ---- any two frames
+
+-- between two frames of the first call
+both-here : (i : ℕ) (c : ℤ) (a b st : ℕ) (x : Call) (e : Engine) → a < b
+    → slotAt (played (ramOf x) (romOf x) a e) i .sounding ≡ true → past (voiceIn i (played (ramOf x) (romOf x) a e) .stage) ≡ true
+    → step (channelAt (played (ramOf x) (romOf x) a e) (voiceIn i (played (ramOf x) (romOf x) a e) .channel)) (voiceIn i (played (ramOf x) (romOf x) a e)) ≡ st
+    → slotAt (played (ramOf x) (romOf x) b e) i .sounding ≡ true
+    → On (voiceIn i (played (ramOf x) (romOf x) a e)) (voiceIn i (played (ramOf x) (romOf x) b e)) st (b - a)
+both-here i c a b st x e l on h t k =
+    let n : a + (b - a) ≡ b = omega arith in
+    let q : played (ramOf x) (romOf x) b e ≡ played (ramOf x) (romOf x) (b - a) (played (ramOf x) (romOf x) a e) =
+    ap (λ (m : ℕ). played (ramOf x) (romOf x) m e) (sym n) ∙ played-cut (ramOf x) (romOf x) e a (b - a) in
+    subst (λ (y : Engine). On (voiceIn i (played (ramOf x) (romOf x) a e)) (voiceIn i y) st (b - a)) (sym q)
+    (part-on (ramOf x) (romOf x) (b - a) (played (ramOf x) (romOf x) a e) i st on h (λ g. t) (subst (λ (y : Engine). slotAt y i .sounding ≡ true) q k))
+
+-- the conditions for the rest of the run, where both lie behind its first call
+stays-rest : (i : ℕ) (c : ℤ) (a b : ℕ) (x : Call) (xs : List Call) (e : Engine) → framesOf x e ≤ a → a < b → Stays i c a b (x ∷ xs) e
+    → Stays i c (a - framesOf x e) (b - framesOf x e) xs (next x e)
+stays-rest i c a b x xs e l h s =
+    record {
+      lives = subst (λ (y : Engine). slotAt y i .sounding ≡ true) (front-later b x xs e (omega arith)) (s .lives);
+      own = λ k g j. started-later i k x xs e (s .own (framesOf x e + k) (omega arith) (omega arith));
+      tuned = λ k g j. sym (cents-later i k x xs e) ∙ s .tuned (framesOf x e + k) (omega arith) (omega arith);
+    }
+
+-- and from the end of the first call, where a lies in it
+stays-from : (i : ℕ) (c : ℤ) (a b : ℕ) (x : Call) (xs : List Call) (e : Engine) → a < framesOf x e → framesOf x e ≤ b → b ≤ framesRun (x ∷ xs) e → Stays i c a b (x ∷ xs) e
+    → Reaches i c (b - framesOf x e) xs (next x e)
+unfolding framesRun
+stays-from i c a b x xs e h l n s =
+    record {
+      frames = omega arith;
+      lives = subst (λ (y : Engine). slotAt y i .sounding ≡ true) (front-later b x xs e l) (s .lives);
+      own = λ k g. started-later i k x xs e (s .own (framesOf x e + k) (omega arith) (omega arith));
+      tuned = λ k g. sym (cents-later i k x xs e) ∙ s .tuned (framesOf x e + k) (omega arith) (omega arith);
+    }
+
+-- the voice has gone on by b - a frames
+between-on : (xs : List Call) (e : Engine) (i a b : ℕ) (c : ℤ) (st : ℕ) → a < b → b ≤ framesRun xs e
+    → slotAt (inFront a xs e) i .sounding ≡ true → past (voiceIn i (inFront a xs e) .stage) ≡ true
+    → stepOf (lifted c) (voiceIn i (inFront a xs e) .rate) ≡ st → Stays i c a b xs e
+    → On (voiceIn i (inFront a xs e)) (voiceIn i (inFront b xs e)) st (b - a)
+unfolding framesRun
+between-on [] e i a b c st l n on h q s = absurd (no-frame {k = a} (omega arith))
+between-on (x ∷ xs) e i a b c st l n on h q s =
+    by (λ (g : framesOf x e ≤ a).
+    between-on xs (next x e) i (a - framesOf x e) (b - framesOf x e) c st (omega arith) (omega arith)
+    (subst (λ (y : Engine). slotAt y i .sounding ≡ true) (front-later a x xs e g) on)
+    (subst (λ (y : Engine). past (voiceIn i y .stage) ≡ true) (front-later a x xs e g) h)
+    (subst (λ (y : Engine). stepOf (lifted c) (voiceIn i y .rate) ≡ st) (front-later a x xs e g) q) (stays-rest i c a b x xs e g l s))
+    (ltb a (framesOf x e)) refl (ltb b (framesOf x e)) refl
+  where
+    f : ℕ
+    f = framesOf x e
+
+    P : ℕ → Engine
+    P k = played (ramOf x) (romOf x) k e
+
+    Goal : Type 0
+    Goal = On (voiceIn i (inFront a (x ∷ xs) e)) (voiceIn i (inFront b (x ∷ xs) e)) st (b - a)
+
+    -- a in the first call: from there to frame k of it
+    inside : (k : ℕ) → a < k → a < f → slotAt (P k) i .sounding ≡ true → On (voiceIn i (P a)) (voiceIn i (P k)) st (k - a)
+    inside k g j o =
+        let w = front-here a x xs e j in
+        both-here i c a k st x e g (subst (λ (y : Engine). slotAt y i .sounding ≡ true) w on)
+        (subst (λ (y : Engine). past (voiceIn i y .stage) ≡ true) w h)
+        (subst (λ (y : Engine). step (channelAt y (voiceIn i y .channel)) (voiceIn i y) ≡ st) w
+        (step-is i c (inFront a (x ∷ xs) e) (s .tuned a (omega arith) l) ∙ q)) o
+
+    by : (f ≤ a → On (voiceIn i (inFront (a - f) xs (next x e))) (voiceIn i (inFront (b - f) xs (next x e))) st (b - f - (a - f)))
+        → (t : Bool) → ltb a f ≡ t → (u : Bool) → ltb b f ≡ u → Goal
+    by rest false t u v =
+        let g = ltb-false a f t in
+        let z : b - f - (a - f) ≡ b - a = omega arith in
+        subst (λ (y : Engine). On (voiceIn i y) (voiceIn i (inFront b (x ∷ xs) e)) st (b - a)) (sym (front-later a x xs e g))
+        (subst (λ (y : Engine). On (voiceIn i (inFront (a - f) xs (next x e))) (voiceIn i y) st (b - a)) (sym (front-later b x xs e (omega arith)))
+        (subst (On (voiceIn i (inFront (a - f) xs (next x e))) (voiceIn i (inFront (b - f) xs (next x e))) st) z (rest g)))
+    by rest true t true v =
+        let g = ltb-true a f t in
+        let j = ltb-true b f v in
+        subst (λ (y : Engine). On (voiceIn i y) (voiceIn i (inFront b (x ∷ xs) e)) st (b - a)) (sym (front-here a x xs e g))
+        (subst (λ (y : Engine). On (voiceIn i (P a)) (voiceIn i y) st (b - a)) (sym (front-here b x xs e j))
+        (inside b l g (subst (λ (y : Engine). slotAt y i .sounding ≡ true) (front-here b x xs e j) (s .lives))))
+    by rest true t false v =
+        let g = ltb-true a f t in
+        let j = ltb-false b f v in
+        let r = stays-from i c a b x xs e g j n s in
+        let ends = in-call x a e g .ends i in
+        let live = front-sounded xs (next x e) i (b - f) (r .lives) (r .own) in
+        let o : On (voiceIn i (P a)) (voiceIn i (next x e)) st (f - a) =
+        subst (λ (y : Slot). On (voiceIn i (P a)) (y .voice) st (f - a)) (sym ends) (inside f g g (sym (ap (λ (y : Slot). y .sounding) ends) ∙ live)) in
+        let p : past (voiceIn i (next x e) .stage) ≡ true = ap (λ (w : Voice). past (w .stage)) (o .is) ∙ o .past in
+        let w : stepOf (lifted c) (voiceIn i (P a) .rate) ≡ st = subst (λ (y : Engine). stepOf (lifted c) (voiceIn i y .rate) ≡ st) (front-here a x xs e g) q in
+        let k : stepOf (lifted c) (voiceIn i (next x e) .rate) ≡ st = ap (λ (u : Voice). stepOf (lifted c) (u .rate)) (o .is) ∙ w in
+        let z : f - a + (b - f) ≡ b - a = omega arith in
+        subst (λ (y : Engine). On (voiceIn i y) (voiceIn i (inFront b (x ∷ xs) e)) st (b - a)) (sym (front-here a x xs e g))
+        (subst (λ (y : Engine). On (voiceIn i (P a)) (voiceIn i y) st (b - a)) (sym (front-later b x xs e j))
+        (subst (On (voiceIn i (P a)) (voiceIn i (inFront (b - f) xs (next x e))) st) z
+        (on-on st (f - a) (b - f) o (to-frame xs i c (next x e) (b - f) st live p k r))))
+
+-- any two frames, with the bounds
+pub place-between : PlaceBetween
+place-between xs e i a b c l n on h rate s k =
+    moved-by i c (b - a) (inFront a xs e) (inFront b xs e) (inFront a xs e) (omega arith) (s .tuned a (omega arith) l) rate
+    (between-on xs e i a b c (stepOf (lifted c) (voiceIn i (inFront a xs e) .rate)) l n on h refl s) k
 
 -- every voice that is started has such a rate, and no movement changes it
 pub rates-hold : RatesHold
@@ -280,3 +508,35 @@ rates-hold before =
 -- the two together
 pub place-always : PlaceHoldsAlways
 place-always before i c xs on h n m k = place-holds i c xs (run before fresh) on h (rates-hold before i on) n m k
+
+-- any two frames, from the fresh state
+pub between-always : PlaceBetweenAlways
+between-always xs i a b c l n on h s k =
+    place-between xs fresh i a b c l n on h
+    (front-everyone (λ (v : Voice). (400 ≤ v .rate) × (v .rate ≤ 50000)) (λ v g p m h. h) fresh rates-hold a xs i on) s k
+
+-- ---- what is heard
+
+-- one frame of a slot whose voice is past its delay and not at its envelope's end
+frame-reads : (c : Channel) (w : List ℤ) (t : Slot) → t .sounding ≡ true → past (t .voice .stage) ≡ true → dead (t .voice) (stageIn (t .voice)) ≡ false
+    → frame c w t ≡ readAndMoved (step c (t .voice)) (loss c (t .voice)) w (t .voice) (stageIn (t .voice))
+unfolding frame
+frame-reads c w t on h d =
+    let v = t .voice in
+    frame-on (step c v) (loss c v) w t on ∙ living-plays (step c v) (loss c v) w v (stageIn v) d (enter-past v (v .stage) h .0)
+
+-- its frame is read at its place
+pub read-at : ReadAtThePlace
+unfolding played readAndMoved loud
+read-at i m on h d =
+    let s = slotAt (m .called) i in
+    let c = channelAt (m .called) (s .voice .channel) in
+    let w = window (m .ram) (m .rom) (s .voice) in
+    let t = slotAt (stateAt m) i in
+    let q : t ≡ after c w (m .into) s = slot-at (m .ram) (m .rom) (m .into) (m .called) i in
+    let a : channelAt (stateAt m) (t .voice .channel) ≡ c =
+    ap (λ (y : Slot). channelAt (m .called) (y .voice .channel)) q ∙ ap (channelAt (m .called)) (after-channel c w (m .into) s) in
+    let b : window (m .ram) (m .rom) (t .voice) ≡ w = ap (λ (y : Slot). window (m .ram) (m .rom) (y .voice)) q ∙ after-window (m .ram) (m .rom) c w (m .into) s in
+    let r = ap (frame c w) (sym q) ∙ ap₂ (λ (x : Channel) (y : List ℤ). frame x y t) (sym a) (sym b)
+    ∙ frame-reads (channelAt (stateAt m) (t .voice .channel)) (window (m .ram) (m .rom) (t .voice)) t on h d in
+    record { left = ap (λ (f : Framed). f .left) r; right = ap (λ (f : Framed). f .right) r }

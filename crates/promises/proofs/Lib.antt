@@ -9,6 +9,7 @@ pub mod Determined
 pub mod EachSlot
 pub mod Frames
 pub mod Kept
+pub mod Moments
 pub mod Night
 pub mod Output
 pub mod Panel

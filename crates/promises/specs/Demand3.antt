@@ -1,5 +1,5 @@
--- Demand 3: the place of a voice after n frames, over any run of calls.
-use Prim.Native.Nat.{ℕ, _<_, _*_, _+_, _^_, _≤_}
+-- Demand 3: the place of a voice after n frames, over any run of calls, from any frame of it to any other.
+use Prim.Native.Nat.{ℕ, _<_, _*_, _+_, _-_, _^_, _≤_}
 use lib.IntN.{ℤ, pos, _+ℤ_}
 use mathlib.Core.Bool.{true, false, cond}
 use mathlib.Core.Path.{_≡_}
@@ -11,12 +11,24 @@ use Rattle.promises.specs.Calls.{voiceIn, Call, next, framesOf, startsIn
 use Rattle.state.specs.Slots.{slotAt}
 use Rattle.curves.specs.Pitch.{stepOf, lifted}
 use Rattle.voice.specs.declared.Voice.{Voice}
-use Rattle.voice.specs.Stages.{past, released}
+use Rattle.voice.specs.declared.Stage.{Stage}
+use Rattle.voice.specs.Stages.{past, released, entered, dead, envelope}
+use Rattle.voice.specs.Sound.{loss, wholeLoss, gained, shaped, leftOf, rightOf}
+use Rattle.voice.specs.Reading.{reading}
+use Rattle.engine.specs.Rendering.{window}
+use Rattle.promises.specs.Moments.{Moment, stateAt, inFront, startedAt, addsLeft, addsRight}
 use Rattle.state.specs.Quiet.{fresh}
 
 -- its pitch total as it stands
 abbrev pub centsIn : ℕ → Engine → ℤ
 centsIn i e = pitchTotal (channelAt e (voiceIn i e .channel)) (voiceIn i e)
+
+-- from frame a to frame b of a run the voice in slot i is neither ended nor taken (where no voice is started, a slot sounds at
+-- b only if it has sounded since a), and in each frame its pitch total is c
+pub record Stays (i : ℕ) (c : ℤ) (a b : ℕ) (xs : List Call) (e : Engine) : Type 0 where
+  pub lives : slotAt (inFront b xs e) i .sounding ≡ true
+  pub own : (k : ℕ) → a < k → k ≤ b → startedAt i k xs e ≡ false
+  pub tuned : (k : ℕ) → a ≤ k → k < b → centsIn i (inFront k xs e) ≡ c
 
 -- a call neither ends nor takes the voice in slot i, and where it renders a frame the pitch total is c
 pub record Keeps (i : ℕ) (c : ℤ) (x : Call) (e : Engine) : Type 0 where
@@ -28,6 +40,17 @@ pub record Keeps (i : ℕ) (c : ℤ) (x : Call) (e : Engine) : Type 0 where
 abbrev pub KeepsAll : ℕ → ℤ → List Call → Engine → Type 0
 KeepsAll i c [] e = Unit {0}
 KeepsAll i c (x ∷ xs) e = Keeps i c x e × KeepsAll i c xs (next x e)
+
+-- the stage that a voice is in once spent ones are left, as at the start of its frame
+abbrev pub stageIn : Voice → Stage
+stageIn v = entered v (v .stage)
+
+-- u of the frame at a moment, for a voice v of it: its window read at its place, at its gain, and in attack at its level
+abbrev pub amplitude : Moment → Voice → ℤ
+amplitude m v =
+    shaped v (stageIn v)
+    (gained (reading (folds v (stageIn v)) (v .loopfrom) (v .loopto) (window (m .ram) (m .rom) v) (v .place))
+    (wholeLoss (loss (channelAt (stateAt m) (v .channel)) v) (envelope v (stageIn v))))
 
 -- A: n times 01's step
 abbrev pub advance : ℕ → ℤ → Voice → ℕ
@@ -49,6 +72,43 @@ pub record Moved (i : ℕ) (c : ℤ) (n : ℕ) (before after : Engine) : Type 0 
       n ^ 1200 * (2 ^ (lifted c + 19200) * voiceIn i before .rate ^ 1200)
       < ((advance n c (voiceIn i before) + n * 2) * 44100) ^ 1200
   pub exponent : pos (lifted c + 19200) ≡ pos 28800 +ℤ c
+
+-- any two frames a < b of any run, inside a render too: a voice that sounds in front of frame a and is past its delay there has
+-- moved by b - a steps in front of frame b; if its loop stops at release, it is not released between them. (A rate of
+-- 400..50,000 is what every sounding voice has, `RatesHold`.)
+abbrev pub PlaceBetween : Type 0
+PlaceBetween =
+    (xs : List Call) (e : Engine) (i a b : ℕ) (c : ℤ) → a < b → b ≤ framesRun xs e →
+    slotAt (inFront a xs e) i .sounding ≡ true →
+    past (voiceIn i (inFront a xs e) .stage) ≡ true →
+    (400 ≤ voiceIn i (inFront a xs e) .rate) × (voiceIn i (inFront a xs e) .rate ≤ 50000) →
+    Stays i c a b xs e →
+    (voiceIn i (inFront a xs e) .mode ≡ 3
+    → released (voiceIn i (inFront b xs e) .stage) ≡ released (voiceIn i (inFront a xs e) .stage)) →
+    Moved i c (b - a) (inFront a xs e) (inFront b xs e)
+
+-- so, from the fresh state, nothing is to be supposed but what the customer says
+abbrev pub PlaceBetweenAlways : Type 0
+PlaceBetweenAlways =
+    (xs : List Call) (i a b : ℕ) (c : ℤ) → a < b → b ≤ framesRun xs fresh →
+    slotAt (inFront a xs fresh) i .sounding ≡ true →
+    past (voiceIn i (inFront a xs fresh) .stage) ≡ true →
+    Stays i c a b xs fresh →
+    (voiceIn i (inFront a xs fresh) .mode ≡ 3
+    → released (voiceIn i (inFront b xs fresh) .stage) ≡ released (voiceIn i (inFront a xs fresh) .stage)) →
+    Moved i c (b - a) (inFront a xs fresh) (inFront b xs fresh)
+
+-- what slot i adds at a moment is what is read at the place of its voice v there, panned
+pub record ReadAt (i : ℕ) (m : Moment) (v : Voice) : Type 0 where
+  pub left : addsLeft i m ≡ leftOf (amplitude m v) (v .pan)
+  pub right : addsRight i m ≡ rightOf (amplitude m v) (v .pan)
+
+-- in every frame of a voice that is past its delay and does not end before it is read
+abbrev pub ReadAtThePlace : Type 0
+ReadAtThePlace =
+    (i : ℕ) (m : Moment) → slotAt (stateAt m) i .sounding ≡ true → past (voiceIn i (stateAt m) .stage) ≡ true →
+    dead (voiceIn i (stateAt m)) (stageIn (voiceIn i (stateAt m))) ≡ false →
+    ReadAt i m (voiceIn i (stateAt m))
 
 -- a voice past its delay, through a run that renders n frames, one or more; if its loop stops at release, not released there
 abbrev pub PlaceHolds : Type 0

@@ -1,4 +1,5 @@
 pub mod Calls
+pub mod Moments
 pub mod Demand1
 pub mod Age
 pub mod Demand2

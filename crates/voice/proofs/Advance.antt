@@ -54,7 +54,7 @@ unfolding fromDelay
 delay-held v left e = simp e (attack-held v 0)
 
 -- past its delay, a voice does not wait; and it is released after as before
-enter-past : (v : Voice) (s : Stage) → past s ≡ true → (waiting (entered v s) ≡ false) × (released (entered v s) ≡ released s)
+pub enter-past : (v : Voice) (s : Stage) → past s ≡ true → (waiting (entered v s) ≡ false) × (released (entered v s) ≡ released s)
 enter-past v (Delay left) e = delay-held v left e
 enter-past v (Attack t) e = attack-held v t
 enter-past v (Hold t) e = hold-held v t
