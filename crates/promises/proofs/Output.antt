@@ -1,4 +1,4 @@
--- Demand 2: the word, other channels, the output, and cuts of a render.
+-- Demand 2: the word, other channels and the output.
 use Prim.Native.Nat.{ℕ, _^_, _<_, zero, suc, _+_, _*_, _≤_, _-_, _%_}
 use mathlib.Core.Path.{sym, subst, _≡_, ap, _∙_, refl}
 use mathlib.Core.List.{List, [], _∷_, _++_, append-assoc, append-nil}
@@ -15,7 +15,7 @@ use Rattle.state.specs.Board.{voiceCount}
 use Rattle.state.proofs.SeatsLaws.{ones-voices as word-voices}
 use Rattle.promises.specs.Calls.{run, next, channelOf, does, written}
 use Rattle.promises.proofs.Seats.{sized-run}
-use Rattle.promises.specs.Demand2.{OnesAreVoices, OtherVoicesStand, OtherChannelsStand, Fraction, OutputIsExact, CutsDoNotMatter}
+use Rattle.promises.specs.Demand2.{OnesAreVoices, OtherVoicesStand, OtherChannelsStand, Fraction, OutputIsExact}
 use Rattle.voice.specs.Frames.{after}
 use Rattle.state.specs.Slots.{slotAt, withClock}
 use Rattle.engine.specs.Rendering.{slotAfter, distance, played, renderNumber, render, leftSum, rightSum, output, rendered}
@@ -40,7 +40,6 @@ use Rattle.engine.proofs.MixerLaws.{unit-exact}
 use Rattle.arith.specs.Within.{Within}
 use Rattle.arith.proofs.WithinLaws.{w-le}
 use Rattle.promises.proofs.Demand1.{render-numbers}
-use Rattle.promises.proofs.Cuts.{played-cut, output-cut}
 use Rattle.promises.specs.Calls as Calls
 
 -- ---- the word
@@ -168,7 +167,7 @@ module _ (ram rom : List ℤ) (e : Engine) where
       by false q f = f (l ∷ r ∷ t) d (below (eqb-false j n q))
 
 -- what a done render writes
-done-written : (to : ℕ) (ram rom : List ℤ) (out : List Float) (e : Engine) → does (Calls.Render to ram rom out) e .status ≡ 0
+pub done-written : (to : ℕ) (ram rom : List ℤ) (out : List Float) (e : Engine) → does (Calls.Render to ram rom out) e .status ≡ 0
     → written (Calls.Render to ram rom out) e ≡ output ram rom e (distance e to) ++ drop (2 * distance e to) out
 unfolding render rendered
 done-written to ram rom out e h = by (eqb number 0) refl h
@@ -182,7 +181,7 @@ done-written to ram rom out e h = by (eqb number 0) refl h
     by false q k = absurd (eqb-false number 0 q k)
 
 -- and the state after it
-done-state : (to : ℕ) (ram rom : List ℤ) (out : List Float) (e : Engine) → does (Calls.Render to ram rom out) e .status ≡ 0
+pub done-state : (to : ℕ) (ram rom : List ℤ) (out : List Float) (e : Engine) → does (Calls.Render to ram rom out) e .status ≡ 0
     → next (Calls.Render to ram rom out) e ≡ withClock (played ram rom (distance e to) e) to
 unfolding render
 done-state to ram rom out e h = by (eqb number 0) refl h
@@ -214,75 +213,3 @@ exact to ram rom out e none h =
     fraction : {all : List Float} (m : ℕ) (z : ℤ) → written (Calls.Render to ram rom out) e ≡ all → getD all m none ≡ mixed z
         → Fraction (getD (written (Calls.Render to ram rom out) e) m none) z
     fraction m z w at = subst (λ (x : Float). Fraction x z) (sym (ap (λ (x : List Float). getD x m none) w ∙ at)) (mixed-fraction z)
-
--- ---- cuts
-
--- the clock's value matters to nothing but the distance
-output-clock : (ram rom : List ℤ) (e : Engine) (t n : ℕ) → output ram rom (withClock e t) n ≡ output ram rom e n
-unfolding output
-output-clock ram rom e t zero = refl
-output-clock ram rom e t (suc n) = ap (λ (o : List Float). o ++ (mixed (leftSum ram rom e n) ∷ mixed (rightSum ram rom e n) ∷ [])) (output-clock ram rom e t n)
-
-played-clock : (ram rom : List ℤ) (e : Engine) (t u n : ℕ) → withClock (played ram rom n (withClock e t)) u ≡ withClock (played ram rom n e) u
-unfolding played
-played-clock ram rom e t u n = refl
-
--- distances add up
-add-up : (e : Engine) (a b : ℕ) → e .clock < 4294967296 → a < 4294967296 → b < 4294967296 → (y : Engine) → y .clock ≡ a
-    → distance e a + distance y b ≤ 4096 → distance e b ≡ distance e a + distance y b
-unfolding distance
-add-up e a b h k l y q s = rw q (sum (e .clock) h (rw q at s))
-  where
-    sum : (c : ℕ) → c < 4294967296 → (a + 4294967296 - c) % 4294967296 + (b + 4294967296 - a) % 4294967296 ≤ 4096
-        → (b + 4294967296 - c) % 4294967296 ≡ (a + 4294967296 - c) % 4294967296 + (b + 4294967296 - a) % 4294967296
-    sum c h s =
-        join _ _ _ s (leb c a) refl (each c a h k (leb c a) refl) (leb a b) refl (each a b k l (leb a b) refl) (leb c b) refl (each c b h l (leb c b) refl)
-      where
-        up : (x y : ℕ) → y < 4294967296 → leb x y ≡ true → (y + 4294967296 - x) % 4294967296 ≡ y - x
-        up x y l q = let g = leb-true x y q in omega arith
-
-        down : (x y : ℕ) → x < 4294967296 → leb x y ≡ false → (y + 4294967296 - x) % 4294967296 ≡ y + 4294967296 - x
-        down x y l q = let g = leb-false x y q in omega arith
-
-        -- the three distances, each by its case
-        join : (x y z : ℕ) → x + y ≤ 4096 → (p : Bool) → leb c a ≡ p → x ≡ cond p (a - c) (a + 4294967296 - c) → (q : Bool) → leb a b ≡ q → y ≡ cond q (b - a) (b + 4294967296 - a)
-            → (r : Bool) → leb c b ≡ r → z ≡ cond r (b - c) (b + 4294967296 - c) → z ≡ x + y
-        join x y z n true p u true q v true r w = let g = leb-true c a p in let i = leb-true a b q in omega arith
-        join x y z n true p u true q v false r w = let g = leb-true c a p in let i = leb-true a b q in let j = leb-false c b r in omega arith
-        join x y z n true p u false q v true r w = let g = leb-true c a p in let i = leb-false a b q in let j = leb-true c b r in omega arith
-        join x y z n true p u false q v false r w = let g = leb-true c a p in let i = leb-false a b q in let j = leb-false c b r in omega arith
-        join x y z n false p u true q v true r w = let g = leb-false c a p in let i = leb-true a b q in let j = leb-true c b r in omega arith
-        join x y z n false p u true q v false r w = let g = leb-false c a p in let i = leb-true a b q in let j = leb-false c b r in omega arith
-        join x y z n false p u false q v true r w = let g = leb-false c a p in let i = leb-false a b q in let j = leb-true c b r in omega arith
-        join x y z n false p u false q v false r w = let g = leb-false c a p in let i = leb-false a b q in let j = leb-false c b r in omega arith
-
-        each : (x y : ℕ) → x < 4294967296 → y < 4294967296 → (p : Bool) → leb x y ≡ p → (y + 4294967296 - x) % 4294967296 ≡ cond p (y - x) (y + 4294967296 - x)
-        each x y i j true p = up x y j p
-        each x y i j false p = down x y i p
-
--- the first output in front of the second; the state by the slots
-pub cuts : CutsDoNotMatter
-cuts mid to ram rom out more all e hc hm ht size one two few =
-    let m = distance e mid in
-    let y = next (Calls.Render mid ram rom out) e in
-    let n = distance y to in
-    let s1 = done-state mid ram rom out e one in
-    let s2 = done-state to ram rom more y two in
-    let d : distance e to ≡ m + n = add-up e mid to hc hm ht y (ap (λ (x : Engine). x .clock) s1) few in
-    let room : 2 * distance e to ≤ length all = omega arith in
-    let ok : does (Calls.Render to ram rom all) e .status ≡ 0 = render-numbers to ram rom all e .done .1 (omega arith, room, render-numbers mid ram rom out e .done .0 one .2) in
-    let s = done-state to ram rom all e ok in
-    let w = done-written to ram rom all e ok in (
-      s ∙ ap (λ (k : ℕ). withClock (played ram rom k e) to) d
-          ∙ ap (λ (x : Engine). withClock x to) (played-cut ram rom e m n)
-          ∙ sym (played-clock ram rom (played ram rom m e) mid to n)
-          ∙ ap (λ (x : Engine). withClock (played ram rom n x) to) (sym s1) ∙ sym s2,
-      w ∙ ap (λ (k : ℕ). output ram rom e k ++ drop (2 * k) all) d
-          ∙ ap (λ (x : List Float). output ram rom e (m + n) ++ x) (ap (λ (k : ℕ). drop k all) (sym size) ∙ drop-length all)
-          ∙ append-nil (output ram rom e (m + n)) ∙ output-cut ram rom e m n
-          ∙ ap (λ (x : List Float). x ++ output ram rom (played ram rom m e) n)
-          (sym (ap (take (2 * m)) (done-written mid ram rom out e one) ∙ take-at (output ram rom e m) (drop (2 * m) out) (2 * m) (out-length ram rom e m)))
-          ∙ ap (λ (x : List Float). take (2 * m) (written (Calls.Render mid ram rom out) e) ++ x)
-          (sym (ap (take (2 * n)) (done-written to ram rom more y two) ∙ take-at (output ram rom y n) (drop (2 * n) more) (2 * n) (out-length ram rom y n)
-          ∙ ap (λ (x : Engine). output ram rom x n) s1 ∙ output-clock ram rom (played ram rom m e) mid n)),
-    )

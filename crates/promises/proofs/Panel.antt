@@ -1,46 +1,50 @@
--- Demand 2: the panel's levels are exact.
+-- The panel names the stage, and its levels are exact.
 use mathlib.Core.Bool.{Bool, true, false, cond}
-use mathlib.Core.List.{[]}
-use Prim.Native.Nat.{_<_}
-use mathlib.Core.Path.{_≡_, refl}
+use Prim.Native.Nat.{ℕ, _<_}
+use mathlib.Core.Path.{_≡_, refl, ap, _∙_}
 use native.Mathlib.Omega.{arith}
-use borrow.Author.Tests.{ltb-true}
+use borrow.Author.Tests.{le-ltb}
 use lib.Dec.{ltb}
 use Rattle.voice.proofs.PanelLaws.{level-exact}
 use Rattle.curves.proofs.PitchLaws.{gain-le}
+use Rattle.voice.specs.declared.Shown.{Shown}
+use Rattle.voice.specs.declared.Slot.{Slot}
 use Rattle.voice.specs.declared.Stage.{Stage}
 use Rattle.voice.specs.declared.Stage.the-variants.{Delay, Attack, Hold, Decay, Sustain, Release}
 use Rattle.voice.specs.declared.Voice.{Voice}
 use Rattle.voice.proofs.LoudestLaws.{level-le}
-use Rattle.voice.specs.Panel.{stageShown, levelsOf, stageParts, shown, slotParts}
+use Rattle.voice.specs.Panel.{stageShown, levelsOf, levelOf, shown, shownNumber}
 use Rattle.voice.specs.Stages.{envelope}
-use Rattle.promises.specs.Demand2.{Levels, PanelIsExact}
+use Rattle.promises.specs.Panel.{Named, WithLevel, Tells, PanelIsExact}
+use Rattle.promises.specs.Calls.{voiceIn}
+use Rattle.state.specs.declared.Engine.{Engine}
 use Rattle.state.specs.Slots.{slotAt}
 use Rattle.state.specs.Board.{ask}
 use Rattle.voice.specs.declared.Shown.the-variants as is
 
+-- a slot within the board is told what it shows
+asked : (i : ℕ) (e : Engine) → i < 32 → ask i e ≡ shown (slotAt e i)
+unfolding ask
+asked i e h = ap (λ (b : Bool). cond b is.Refused (shown (slotAt e i))) (le-ltb 31 i (omega arith))
+
 -- each stage
-stage-exact : (v : Voice) (s : Stage) → Levels (stageParts v s) (levelsOf (stageShown v s))
-stage-exact v (Delay left) = tt
-stage-exact v (Attack t) = (level-exact _ (level-le (v .attack) t), tt)
-stage-exact v (Hold t) = tt
-stage-exact v (Decay t) = (level-exact _ (gain-le (envelope v (Decay t))), tt)
-stage-exact v Sustain = (level-exact _ (gain-le (envelope v Sustain)), tt)
-stage-exact v (Release a t) = (level-exact _ (gain-le (envelope v (Release a t))), tt)
+stage-told : (i : ℕ) (e : Engine) (v : Voice) (s : Stage) → ask i e ≡ stageShown v s → Tells i e v s
+stage-told i e v (Delay left) q = record { names = q; number = ap shownNumber q; values = ap levelsOf q }
+stage-told i e v (Attack t) q = record { level = _; exact = level-exact _ (level-le (v .attack) t); names = q; number = ap shownNumber q; values = ap levelsOf q }
+stage-told i e v (Hold t) q = record { names = q; number = ap shownNumber q; values = ap levelsOf q }
+stage-told i e v (Decay t) q = record { level = _; exact = level-exact _ (gain-le (envelope v (Decay t))); names = q; number = ap shownNumber q; values = ap levelsOf q }
+stage-told i e v Sustain q = record { level = _; exact = level-exact _ (gain-le (envelope v Sustain)); names = q; number = ap shownNumber q; values = ap levelsOf q }
+stage-told i e v (Release a t) q =
+    record { level = _; exact = level-exact _ (gain-le (envelope v (Release a t))); names = q; number = ap shownNumber q; values = ap levelsOf q }
 
--- a slot, sounding or free
-slot-exact : (b : Bool) (v : Voice) → Levels (cond b (stageParts v (v .stage)) []) (levelsOf (cond b (stageShown v (v .stage)) is.Free))
-slot-exact true v = stage-exact v (v .stage)
-slot-exact false v = tt
-
--- the slot that is asked for
+-- the slot that is asked for, sounding or free
 pub panel-exact : PanelIsExact
-unfolding ask shown
-panel-exact i e h = inside (ltb 31 i) refl
-  where
-    inside : (b : Bool) → ltb 31 i ≡ b → Levels (slotParts (slotAt e i)) (levelsOf (cond b is.Refused (shown (slotAt e i))))
-    inside true q = absurd (no (ltb-true 31 i q))
-      where
-        no : 31 < i → ⊥
-        no g = omega arith
-    inside false q = slot-exact (slotAt e i .sounding) (slotAt e i .voice)
+unfolding shown
+panel-exact i e h =
+    let v = voiceIn i e in
+    let at : (b : Bool) → slotAt e i .sounding ≡ b → ask i e ≡ cond b (stageShown v (v .stage)) is.Free =
+    λ b q. asked i e h ∙ ap (λ (b : Bool). cond b (stageShown v (v .stage)) is.Free) q in (
+      λ on. stage-told i e v (v .stage) (at true on),
+      λ off. let q = at false off in record { names = q; number = ap shownNumber q; values = ap levelsOf q },
+      refl,
+    )

@@ -230,32 +230,3 @@ abbrev pub OutputIsExact : Type 0
 OutputIsExact =
     (to : ℕ) (ram rom : List ℤ) (out : List Float) (e : Engine) (none : Float) → does (Render to ram rom out) e .status ≡ 0
     → Rendered to ram rom out e none
-
--- ---- 10. A render may be cut anywhere
-
--- m frames and then n are m + n frames: the same state, the same numbers
-abbrev pub CutsDoNotMatter : Type 0
-CutsDoNotMatter =
-    (mid to : ℕ) (ram rom : List ℤ) (out more all : List Float) (e : Engine) →
-    e .clock < 4294967296 → mid < 4294967296 → to < 4294967296 →
-    length all ≡ 2 * (distance e mid + distance (next (Render mid ram rom out) e) to) →
-    does (Render mid ram rom out) e .status ≡ 0 →
-    does (Render to ram rom more) (next (Render mid ram rom out) e) .status ≡ 0 →
-    distance e mid + distance (next (Render mid ram rom out) e) to ≤ 4096 →
-    (next (Render to ram rom all) e ≡ next (Render to ram rom more) (next (Render mid ram rom out) e))
-    × (written (Render to ram rom all) e
-    ≡ take (2 * distance e mid) (written (Render mid ram rom out) e)
-    ++ take (2 * distance (next (Render mid ram rom out) e) to) (written (Render to ram rom more) (next (Render mid ram rom out) e)))
-
--- ---- 11. The panel's levels
-
--- each is that many 2^-24 of full, exactly
-abbrev pub Levels : List ℕ → List Float → Type 0
-Levels [] [] = Unit {0}
-Levels [] (x ∷ xs) = ⊥
-Levels (n ∷ ns) [] = ⊥
-Levels (n ∷ ns) (x ∷ xs) = Over x (pos n) 16777216 × Levels ns xs
-
--- the panel is told the attack's level or the envelope's gain, and no level of other stages
-abbrev pub PanelIsExact : Type 0
-PanelIsExact = (i : ℕ) (e : Engine) → i < 32 → Levels (slotParts (slotAt e i)) (told (Ask i) e)

@@ -3,6 +3,8 @@ pub mod Moments
 pub mod Demand1
 pub mod Age
 pub mod Demand2
+pub mod Cuts
+pub mod Panel
 pub mod Controls
 pub mod Demand3
 pub mod Determined
