@@ -22,9 +22,12 @@ use Rattle.events.specs.Controls.{controlled, controlChange, pedal, silence}
 use Rattle.events.specs.Programs.{programChange}
 use Rattle.promises.proofs.EachSlot.{and-both, letOff-picked, cut-picked, cut-left}
 use Rattle.promises.proofs.Demand2.{off-done, gone}
-use Rattle.promises.specs.Controls.{ControlsSetOne, BendSetsOne, AllSoundOff, AllNotesOff, AllNotesOffAlways, keysOff}
+use Rattle.promises.specs.Controls.{ControlsSetOne, BendSetsOne, PedalRaised, OthersDoNothing, AllSoundOff, AllNotesOff, AllNotesOffAlways, keysOff}
+use Rattle.state.specs.Answers.{done}
+use Rattle.state.proofs.AnswersLaws.{or-no}
 use Rattle.promises.specs.Calls.{run}
 use Rattle.promises.proofs.Banks.{came}
+use Rattle.promises.proofs.Cuts.{map-two}
 use Rattle.promises.proofs.Voices.{from-fresh}
 
 -- within its ranges each is done
@@ -43,6 +46,37 @@ sets-one channel value e h k =
 pub bend-sets : BendSetsOne
 unfolding pitchBend
 bend-sets channel bend e h k = simp (le-ltb 15 channel h, le-ltb 16383 bend k)
+
+-- past the tests it is `pedal`
+pedal-is : (channel value : ℕ) (e : Engine) → channel ≤ 15 → value ≤ 127 → controlChange channel 64 value e ≡ record { status = 0; count = 0; engine = pedal channel value e }
+unfolding controlChange controlled
+pedal-is channel value e h k = simp (le-ltb 15 channel h, le-ltb 127 value k)
+
+-- the slots apart, a lifted pedal is that of its channel
+pub raised : PedalRaised
+unfolding pedal
+raised channel value e h k =
+    let low : value ≤ 127 = omega arith in
+    let d = pedal-is channel value e h low in
+    let up = lt-ltb value 64 k in
+    record {
+      done = d ∙ sym (ap (λ (a : Answered). record { status = 0; count = 0; engine = a .engine }) d);
+      channels = ap (λ (a : Answered). a .engine .channels) d ∙ simp up;
+      order = ap (λ (a : Answered). a .engine .order) d ∙ simp up;
+      clock = ap (λ (a : Answered). a .engine .clock) d ∙ simp up;
+    }
+
+-- no test of a control's number holds
+pub nothing-done : OthersDoNothing
+unfolding controlChange controlled
+nothing-done channel control value e h j k none =
+    let a = or-no (eqb control 0) _ none in
+    let b = or-no (eqb control 7) _ (a .1) in
+    let c = or-no (eqb control 11) _ (b .1) in
+    let d = or-no (eqb control 64) _ (c .1) in
+    let f = or-no (eqb control 120) _ (d .1) in
+    let g = or-no (eqb control 123) _ (f .1) in
+    simp (le-ltb 15 channel h, le-ltb 127 control j, le-ltb 127 value k, a .0, b .0, c .0, d .0, f .0, g .0)
 
 -- past the tests it is `silence`
 silence-is : (channel value : ℕ) (e : Engine) → channel ≤ 15 → value ≤ 127 → controlChange channel 120 value e ≡ record { status = 0; count = 0; engine = silence channel e }
@@ -101,11 +135,6 @@ one-more channel n down s = by (held channel s) refl (ltb (s .voice .key) n) ref
         above : (k n : ℕ) → n ≤ k → (k ≡ n → ⊥) → suc n ≤ k
         above k n a b = omega (arith, a, b)
 
--- f over a list, and g over that, where h is both
-both : (f g h : Slot → Slot) → ((s : Slot) → g (f s) ≡ h s) → (ss : List Slot) → map g (map f ss) ≡ map h ss
-both f g h k [] = refl
-both f g h k (s ∷ ss) = ap₂ (λ (x : Slot) (xs : List Slot). x ∷ xs) (k s) (both f g h k ss)
-
 -- f and g over a list, where they are the same at each place of it
 each : (f g : Slot → Slot) (ss : List Slot) → ((i : ℕ) → f (getD ss i (free blank)) ≡ g (getD ss i (free blank))) → map f ss ≡ map g ss
 each f g [] k = refl
@@ -135,7 +164,7 @@ keys-off channel (suc n) e h k =
     ap (λ (x : Engine). noteOff channel (suc n) x .engine) (keys-off channel n e h (omega arith))
     ∙ ap (λ (a : Answered). a .engine) (off-done channel (suc n) (withSlots e ss) h k)
     ∙ ap (λ (xs : List Slot). withSlots e (map (letOff down (heldKey channel (suc n))) xs)) (slots-back ss)
-    ∙ ap (withSlots e) (both f (letOff down (heldKey channel (suc n))) (letOff down (heldBelow channel (suc (suc n)))) (one-more channel (suc n) down) (slotsOf e))
+    ∙ ap (withSlots e) (sym (map-two f (letOff down (heldKey channel (suc n))) (letOff down (heldBelow channel (suc (suc n)))) (λ s. sym (one-more channel (suc n) down s)) (slotsOf e)))
 
 -- past the tests it lets off every held voice
 notes-is : (channel value : ℕ) (e : Engine) → channel ≤ 15 → value ≤ 127 → controlChange channel 123 value e ≡ record { status = 0; count = 0; engine = off channel (held channel) e }
@@ -151,8 +180,8 @@ held-sounds channel s t = and-both _ _ (and-both _ _ (and-both _ _ t .0) .0) .0
 pub notes-off : AllNotesOff
 unfolding off
 notes-off channel value e h k low =
-    ap (λ (a : Answered). a .engine) (notes-is channel value e h k) ∙ ap (withSlots e) (each _ _ (slotsOf e) same)
-    ∙ sym (keys-off channel 127 e h (omega arith))
+    notes-is channel value e h k
+    ∙ ap (done 0) (ap (withSlots e) (each _ _ (slotsOf e) same) ∙ sym (keys-off channel 127 e h (omega arith)))
   where
     same : (i : ℕ) → letOff (pedalDown e channel) (held channel) (slotAt e i) ≡ letOff (pedalDown e channel) (heldBelow channel 128) (slotAt e i)
     same i = by (held channel (slotAt e i)) refl

@@ -59,7 +59,7 @@ after-window ram rom c w zero s = refl
 after-window ram rom c w (suc n) s = frame-window ram rom c w (after c w n s) ∙ after-window ram rom c w n s
 
 -- f over a list, and g over that
-map-two : (f g h : Slot → Slot) → ((s : Slot) → h s ≡ g (f s)) → (ss : List Slot) → map h ss ≡ map g (map f ss)
+pub map-two : (f g h : Slot → Slot) → ((s : Slot) → h s ≡ g (f s)) → (ss : List Slot) → map h ss ≡ map g (map f ss)
 map-two f g h k [] = refl
 map-two f g h k (s ∷ ss) = rw (k s) (ap (_∷_ (g (f s))) (map-two f g h k ss))
 

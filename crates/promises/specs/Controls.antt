@@ -1,8 +1,10 @@
 -- Demand 2, controls, program change and pitch bend (01, "Slots, keys and the clock"): what each sets or frees, and that nothing
 -- else moves.
-use Prim.Native.Nat.{ℕ, zero, suc, _≤_}
+use Prim.Native.Nat.{ℕ, zero, suc, _≤_, _<_}
 use mathlib.Core.Bool.{true, false}
-use mathlib.Core.List.{List}
+use mathlib.Core.List.{List, [], _∷_}
+use lib.Dec.{eqb}
+use Rattle.arith.specs.Lists.{anyOf}
 use mathlib.Core.Path.{_≡_}
 use Rattle.voice.specs.declared.Channel.{Channel}
 use Rattle.voice.specs.Changes.{free}
@@ -38,6 +40,23 @@ BendSetsOne =
     (channel bend : ℕ) (e : Engine) → channel ≤ 15 → bend ≤ 16383
     → Sets (Bend channel bend) channel (λ (c : Channel). withBend c bend) e
 
+-- the pedal lifted: it releases the marked voices (`LiftingReleases`) and sets the pedal of its channel; nothing else moves
+pub record Raised (channel value : ℕ) (e : Engine) : Type 0 where
+  pub done : does (Control channel 64 value) e ≡ done 0 (next (Control channel 64 value) e)
+  pub channels : next (Control channel 64 value) e .channels ≡ withChannel e channel (withPedal (channelAt e channel) value) .channels
+  pub order : next (Control channel 64 value) e .order ≡ e .order
+  pub clock : next (Control channel 64 value) e .clock ≡ e .clock
+
+-- that is so in every state, for every value below 64
+abbrev pub PedalRaised : Type 0
+PedalRaised = (channel value : ℕ) (e : Engine) → channel ≤ 15 → value < 64 → Raised channel value e
+
+-- a control that is none of 0, 7, 11, 64, 120 and 123 does nothing
+abbrev pub OthersDoNothing : Type 0
+OthersDoNothing =
+    (channel control value : ℕ) (e : Engine) → channel ≤ 15 → control ≤ 127 → value ≤ 127
+    → anyOf (eqb control) (0 ∷ 7 ∷ 11 ∷ 64 ∷ 120 ∷ 123 ∷ []) ≡ false → does (Control channel control value) e ≡ done 0 e
+
 -- control 120 frees exactly the channel's voices: every other slot, the channels, the order of age and the clock stay
 pub record Silenced (channel value : ℕ) (e : Engine) : Type 0 where
   pub done : does (Control channel 120 value) e ≡ done 0 (next (Control channel 120 value) e)
@@ -61,10 +80,10 @@ abbrev pub AllNotesOff : Type 0
 AllNotesOff =
     (channel value : ℕ) (e : Engine) → channel ≤ 15 → value ≤ 127
     → ((i : ℕ) → slotAt e i .sounding ≡ true → voiceIn i e .key ≤ 127)
-    → next (Control channel 123 value) e ≡ keysOff channel 128 e
+    → does (Control channel 123 value) e ≡ done 0 (keysOff channel 128 e)
 
 -- none has, so it is that after any run
 abbrev pub AllNotesOffAlways : Type 0
 AllNotesOffAlways =
     (before : List Call) (channel value : ℕ) → channel ≤ 15 → value ≤ 127
-    → next (Control channel 123 value) (run before fresh) ≡ keysOff channel 128 (run before fresh)
+    → does (Control channel 123 value) (run before fresh) ≡ done 0 (keysOff channel 128 (run before fresh))
