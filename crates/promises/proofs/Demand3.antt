@@ -348,7 +348,7 @@ unfolding run
 keeps-lives [] i c e on m = on
 keeps-lives (x ∷ xs) i c e on m = keeps-lives xs i c (next x e) (m .0 .lives) (m .1)
 
-keeps-own : (xs : List Call) (i : ℕ) (c : ℤ) (e : Engine) → KeepsAll i c xs e → (k : ℕ) → startedAt i k xs e ≡ false
+pub keeps-own : (xs : List Call) (i : ℕ) (c : ℤ) (e : Engine) → KeepsAll i c xs e → (k : ℕ) → startedAt i k xs e ≡ false
 unfolding startedAt
 keeps-own [] i c e m k = refl
 keeps-own (x ∷ xs) i c e m k = by (keeps-own xs i c (next x e) (m .1) (k - framesOf x e)) (ltb k (framesOf x e)) (eqb k 0)
@@ -359,7 +359,7 @@ keeps-own (x ∷ xs) i c e m k = by (keeps-own xs i c (next x e) (m .1) (k - fra
     by r false true = rw (m .0 .own) r
     by r false false = r
 
-keeps-tuned : (xs : List Call) (i : ℕ) (c : ℤ) (e : Engine) → KeepsAll i c xs e → (k : ℕ) → k < framesRun xs e → centsIn i (inFront k xs e) ≡ c
+pub keeps-tuned : (xs : List Call) (i : ℕ) (c : ℤ) (e : Engine) → KeepsAll i c xs e → (k : ℕ) → k < framesRun xs e → centsIn i (inFront k xs e) ≡ c
 unfolding framesRun
 keeps-tuned [] i c e m k h = absurd (no-frame h)
 keeps-tuned (x ∷ xs) i c e m k h =

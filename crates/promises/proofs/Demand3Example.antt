@@ -2,7 +2,7 @@
 use Prim.Native.Nat.{ℕ, _<_}
 use mathlib.Core.List.{List, [], _∷_, _++_}
 use lib.IntN.{ℤ, pos}
-use mathlib.Core.Bool.{false}
+use mathlib.Core.Bool.{true, false}
 use lib.ListN.{replicate}
 use lib.Ieee.{nan}
 use mathlib.Core.Path.{_≡_, refl, sym, ap, _∙_, subst}
@@ -17,7 +17,8 @@ use Rattle.state.specs.Quiet.{freshChannel, upFrom, fresh}
 use Rattle.promises.specs.Demand3.{KeepsAll, Moved}
 use Rattle.voice.specs.Stages.{past}
 use Rattle.state.specs.Slots.{slotAt}
-use Rattle.promises.proofs.Demand3.{place-always}
+use Rattle.promises.proofs.Demand3.{place-always, place-between, keeps-own, keeps-tuned}
+use Rattle.promises.specs.Moments.{moment, inFront}
 use Rattle.curves.specs.Levels as CurvesLevels
 use Rattle.curves.specs.Times as CurvesTimes
 use Rattle.curves.specs.Pitch as CurvesPitch
@@ -138,10 +139,18 @@ record Computed : Type 0 where
   conditions : KeepsAll 0 (pos 0) meanwhile struckBell
   five : framesRun meanwhile struckBell ≡ 5
   at-sample-one : voiceIn 0 (run meanwhile struckBell) .place ≡ 16777216
+  -- in front of frame 1, inside the first render, and of frame 4, inside the second
+  there : slotAt (inFront 1 meanwhile struckBell) 0 .sounding ≡ true
+  there-past : past (voiceIn 0 (inFront 1 meanwhile struckBell) .stage) ≡ true
+  there-rate : voiceIn 0 (inFront 1 meanwhile struckBell) .rate ≡ 44100
+  there-mode : voiceIn 0 (inFront 1 meanwhile struckBell) .mode ≡ 1
+  there-place : voiceIn 0 (inFront 1 meanwhile struckBell) .place ≡ 16777216
+  later : slotAt (inFront 4 meanwhile struckBell) 0 .sounding ≡ true
+  later-place : voiceIn 0 (inFront 4 meanwhile struckBell) .place ≡ 0
 
 -- each by running the definitions
 computed : Computed
-unfolding CurvesLevels.gainOf CurvesLevels.cbOf CurvesLevels.above CurvesLevels.leastCb CurvesTimes.framesUp CurvesTimes.frames CurvesPitch.bendCents CurvesPitch.stepOf CurvesInternalPitch.stepAt CurvesTables.allLe RecordsInternalAmounts.pouredFrom RecordsInternalAmounts.poured ArithBytes.u8At ArithBytes.u16At ArithBytes.u32At ArithBytes.i8At ArithBytes.i16At RecordsChunks.chunkAt RecordsChunks.nameAt RecordsChunks.bytesIn RecordsChunks.body RecordsChunks.records RecordsLooking.first RecordsLooking.last RecordsSides.presets RecordsSides.instruments RecordsSides.partsOf RecordsSides.bagOf RecordsSides.genOf RecordsSides.modOf RecordsSides.operator RecordsSides.amount RecordsSides.signed RecordsHeaders.programOf RecordsHeaders.bankOf ArithHolds.between ArithHolds.betweenZ ArithFloors.modZ ArithHolds.word32 RecordsWindows.shifted RecordsWindows.placeMoved RecordsWindows.startOf RecordsWindows.endOf RecordsWindows.loopStartOf RecordsWindows.loopEndOf RecordsWindows.modeOf RecordsWindows.loops RecordsWindows.goodPlaces RecordsWindows.goodWindow RecordsHeaders.rateOf RecordsHeaders.romOf RecordsZones.zoneCount RecordsZones.genCount RecordsZones.has RecordsZones.closingOf RecordsZones.zoneAt RecordsZones.globalOf RecordsZones.lastOf RecordsZones.amountIn RecordsZones.value RecordsZones.zoneBelow RecordsZones.firstZone BankAdmission.longFault BankFraming.badChunk BankFraming.chunkFault BankFraming.badRecords BankFraming.recordsFault BankIndexes.fallsAt BankIndexes.endsWrong BankIndexes.badAt BankIndexes.badHead BankIndexes.badBag BankIndexes.headFault BankIndexes.bagFault BankIndexes.indexFault BankLinks.badNumber BankLinks.zoneLinkAt BankLinks.linkFault BankLinks.numberFault BankRates.namesSample BankRates.badRate BankRates.rateFault BankBounds.badWindow BankBounds.windowFault BankAdmission.faultOf BankAdmission.admitted LayersLayerSearch.isPreset LayersLayerSearch.presetFor LayersLayerSearch.picked LayersLayerSearch.chosen LayersLayerSearch.under LayersLayerSearch.allUnder LayersLayerSearch.layersBelow LayersLayerSearch.layersOf LayersLayerSearchLaws.layerCount LayersInternalLayerSearch.upTo33 LayersInternalLayerSearch.searched LayersLayerSearch.layerOf LayersRanges.rangeAt LayersRanges.inside LayersRanges.hasAs LayersRanges.keyRange LayersRanges.velocityRange LayersRanges.matches TotalsValues.instrumentOnly TotalsValues.defaultOf TotalsValues.heldTotal TotalsValues.totalOf TotalsValues.total TotalsSettings.ifMidi TotalsSettings.keyOf TotalsSettings.rootOf TotalsSettings.pitchOf TotalsSettings.keyedTime TotalsSettings.softness TotalsSettings.attenuationOf TotalsSettings.playMode LayersVoicing.voiceBy LayersVoicing.voiceOf LayersVoicing.voicesOf LayersVoicing.hasPreset LayersVoicing.struckVoices LayersInternalVoicing.struckOf VoiceFrames.goOn VoiceFrames.loud VoiceFrames.readAndMoved VoiceFrames.living VoiceFrames.frameAt VoiceFrames.frame VoiceMotion.pitchTotal VoiceMotion.step VoiceMotion.folds VoiceMotion.fold VoiceMotion.settled VoiceMotion.ended VoiceRelease.release VoiceFrames.after VoiceInternalFrames.heard VoiceInternalFrames.afterAt VoiceInternalFrames.heardAt VoiceStages.levelAt VoiceStages.decayAt VoiceStages.releaseAt VoiceStages.fromDecay VoiceStages.fromHold VoiceStages.fromAttack VoiceStages.fromDelay EventsBends.pitchBend EventsKeys.pedalHeld StateSlots.cut EventsControls.pedal EventsControls.silence EventsControls.controlled EventsControls.controlChange EventsStriking.bankFrom StateSlots.ofChannel EventsKeys.held EventsKeys.heldKey EventsKeys.letOff EventsKeys.off EventsKeys.offKey EventsKeys.noteOff EventsStriking.channelBank EventsStarting.anyPast EventsStarting.classIn EventsStarting.rival EventsStarting.start EventsStarting.startAll EventsStarting.cleared EventsStarting.struck EventsStriking.noteOnNumber EventsStriking.noteOn EngineRendering.distance EngineRendering.window EngineRendering.lacking EngineRendering.renderNumber EngineRendering.played EngineRendering.render StateSeats.lowestFree StateSeats.claim StateSeats.leastBy StateSeats.taken StateSeats.seat StateSeats.without StateSeats.renewed StateSeats.startIn StateSlots.paired StateSlots.wordOf StateQuiet.fresh run framesRun seats among
+unfolding CurvesLevels.gainOf CurvesLevels.cbOf CurvesLevels.above CurvesLevels.leastCb CurvesTimes.framesUp CurvesTimes.frames CurvesPitch.bendCents CurvesPitch.stepOf CurvesInternalPitch.stepAt CurvesTables.allLe RecordsInternalAmounts.pouredFrom RecordsInternalAmounts.poured ArithBytes.u8At ArithBytes.u16At ArithBytes.u32At ArithBytes.i8At ArithBytes.i16At RecordsChunks.chunkAt RecordsChunks.nameAt RecordsChunks.bytesIn RecordsChunks.body RecordsChunks.records RecordsLooking.first RecordsLooking.last RecordsSides.presets RecordsSides.instruments RecordsSides.partsOf RecordsSides.bagOf RecordsSides.genOf RecordsSides.modOf RecordsSides.operator RecordsSides.amount RecordsSides.signed RecordsHeaders.programOf RecordsHeaders.bankOf ArithHolds.between ArithHolds.betweenZ ArithFloors.modZ ArithHolds.word32 RecordsWindows.shifted RecordsWindows.placeMoved RecordsWindows.startOf RecordsWindows.endOf RecordsWindows.loopStartOf RecordsWindows.loopEndOf RecordsWindows.modeOf RecordsWindows.loops RecordsWindows.goodPlaces RecordsWindows.goodWindow RecordsHeaders.rateOf RecordsHeaders.romOf RecordsZones.zoneCount RecordsZones.genCount RecordsZones.has RecordsZones.closingOf RecordsZones.zoneAt RecordsZones.globalOf RecordsZones.lastOf RecordsZones.amountIn RecordsZones.value RecordsZones.zoneBelow RecordsZones.firstZone BankAdmission.longFault BankFraming.badChunk BankFraming.chunkFault BankFraming.badRecords BankFraming.recordsFault BankIndexes.fallsAt BankIndexes.endsWrong BankIndexes.badAt BankIndexes.badHead BankIndexes.badBag BankIndexes.headFault BankIndexes.bagFault BankIndexes.indexFault BankLinks.badNumber BankLinks.zoneLinkAt BankLinks.linkFault BankLinks.numberFault BankRates.namesSample BankRates.badRate BankRates.rateFault BankBounds.badWindow BankBounds.windowFault BankAdmission.faultOf BankAdmission.admitted LayersLayerSearch.isPreset LayersLayerSearch.presetFor LayersLayerSearch.picked LayersLayerSearch.chosen LayersLayerSearch.under LayersLayerSearch.allUnder LayersLayerSearch.layersBelow LayersLayerSearch.layersOf LayersLayerSearchLaws.layerCount LayersInternalLayerSearch.upTo33 LayersInternalLayerSearch.searched LayersLayerSearch.layerOf LayersRanges.rangeAt LayersRanges.inside LayersRanges.hasAs LayersRanges.keyRange LayersRanges.velocityRange LayersRanges.matches TotalsValues.instrumentOnly TotalsValues.defaultOf TotalsValues.heldTotal TotalsValues.totalOf TotalsValues.total TotalsSettings.ifMidi TotalsSettings.keyOf TotalsSettings.rootOf TotalsSettings.pitchOf TotalsSettings.keyedTime TotalsSettings.softness TotalsSettings.attenuationOf TotalsSettings.playMode LayersVoicing.voiceBy LayersVoicing.voiceOf LayersVoicing.voicesOf LayersVoicing.hasPreset LayersVoicing.struckVoices LayersInternalVoicing.struckOf VoiceFrames.goOn VoiceFrames.loud VoiceFrames.readAndMoved VoiceFrames.living VoiceFrames.frameAt VoiceFrames.frame VoiceMotion.pitchTotal VoiceMotion.step VoiceMotion.folds VoiceMotion.fold VoiceMotion.settled VoiceMotion.ended VoiceRelease.release VoiceFrames.after VoiceInternalFrames.heard VoiceInternalFrames.afterAt VoiceInternalFrames.heardAt VoiceStages.levelAt VoiceStages.decayAt VoiceStages.releaseAt VoiceStages.fromDecay VoiceStages.fromHold VoiceStages.fromAttack VoiceStages.fromDelay EventsBends.pitchBend EventsKeys.pedalHeld StateSlots.cut EventsControls.pedal EventsControls.silence EventsControls.controlled EventsControls.controlChange EventsStriking.bankFrom StateSlots.ofChannel EventsKeys.held EventsKeys.heldKey EventsKeys.letOff EventsKeys.off EventsKeys.offKey EventsKeys.noteOff EventsStriking.channelBank EventsStarting.anyPast EventsStarting.classIn EventsStarting.rival EventsStarting.start EventsStarting.startAll EventsStarting.cleared EventsStarting.struck EventsStriking.noteOnNumber EventsStriking.noteOn EngineRendering.distance EngineRendering.window EngineRendering.lacking EngineRendering.renderNumber EngineRendering.played EngineRendering.render StateSeats.lowestFree StateSeats.claim StateSeats.leastBy StateSeats.taken StateSeats.seat StateSeats.without StateSeats.renewed StateSeats.startIn StateSlots.paired StateSlots.wordOf StateQuiet.fresh run framesRun seats among moment
 computed =
     record {
       struck = refl;
@@ -166,6 +175,13 @@ computed =
       );
       five = refl;
       at-sample-one = refl;
+      there = refl;
+      there-past = refl;
+      there-rate = refl;
+      there-mode = refl;
+      there-place = refl;
+      later = refl;
+      later-place = refl;
     }
 
 -- so demand 3 speaks of it
@@ -178,3 +194,15 @@ bell-moved =
     (subst (λ (n : ℕ). 0 < n) (sym (ap (framesRun meanwhile) (computed .struck) ∙ computed .five)) (omega arith))
     (subst (λ (e : Engine). KeepsAll 0 (pos 0) meanwhile e) (sym (computed .struck)) (computed .conditions))
     (λ h. absurd (eqb-false 1 3 refl (sym (ap (λ (e : Engine). voiceIn 0 e .mode) (computed .struck)) ∙ h)))
+
+-- and of its frames 1 and 4, each inside a render
+pub bell-between : Moved 0 (pos 0) 3 (inFront 1 meanwhile struckBell) (inFront 4 meanwhile struckBell)
+bell-between =
+    place-between meanwhile struckBell 0 1 4 (pos 0) (omega arith) (rw (computed .five) (omega arith)) (computed .there) (computed .there-past)
+    (rw (computed .there-rate) (omega arith, omega arith))
+    (record {
+      lives = computed .later;
+      own = λ k h j. keeps-own meanwhile 0 (pos 0) struckBell (computed .conditions) k;
+      tuned = λ k h j. keeps-tuned meanwhile 0 (pos 0) struckBell (computed .conditions) k (rw (computed .five) (omega arith));
+    })
+    (λ h. absurd (eqb-false 1 3 refl (sym (computed .there-mode) ∙ h)))
