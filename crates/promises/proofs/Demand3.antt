@@ -275,7 +275,7 @@ place-holds i c xs e on h rate n m k =
 pub rates-hold : RatesHold
 rates-hold before =
     from-fresh (λ (v : Voice). (400 ≤ v .rate) × (v .rate ≤ 50000)) (λ v g p m h. h)
-    (λ x e u f. let g = came x e u f in (g .rate-low, g .rate-high)) before
+    (λ x e u f. let g = came x e u f .good in (g .rate-low, g .rate-high)) before
 
 -- the two together
 pub place-always : PlaceHoldsAlways

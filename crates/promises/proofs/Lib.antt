@@ -14,5 +14,6 @@ pub mod Output
 pub mod Panel
 pub mod Runs
 pub mod Seats
+pub mod States
 pub mod Voices
 pub mod Controls
