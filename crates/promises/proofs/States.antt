@@ -8,9 +8,9 @@ use native.Mathlib.Nat.{not-suc-le-zero, min-eq-left, div-le-of-le-mul, div-lt-i
 use native.Mathlib.Omega.{arith}
 use borrow.Author.Tests.{leb-false, le-leb, lt-ltb, le-ltb, eqb-false}
 use lib.Dec.{eqb, ltb, leb, lit<}
-use lib.Ieee.{Float}
+use lib.Ieee.{Float, nan}
 use lib.IntN.{ℤ, pos, negsuc}
-use lib.ListN.{length, getD, take, drop, length-drop}
+use lib.ListN.{length, replicate, getD, take, drop, length-drop}
 use lib.Seq.{getD-take, getD-drop, length-take-le}
 use Rattle.arith.specs.Holds.{heldTo}
 use Rattle.arith.specs.Within.{Within}
@@ -34,7 +34,7 @@ use Rattle.voice.proofs.MotionLaws.{fold-lt, split}
 use Rattle.state.specs.Quiet.{fresh}
 use Rattle.state.specs.Channels.{channelAt, noChannel}
 use Rattle.state.specs.Reach.{memory}
-use Rattle.state.specs.Slots.{slotAt}
+use Rattle.state.specs.Slots.{paired, slotAt}
 use Rattle.state.specs.declared.Engine.{Engine}
 use Rattle.events.specs.Keys.{mark}
 use Rattle.engine.specs.Rendering.{window}
@@ -43,6 +43,7 @@ use Rattle.promises.specs.States.{InBounds, StatesHold, FramesHold, slot
 use Rattle.promises.proofs.Banks.{Came, came}
 use Rattle.promises.proofs.Demand1.{render-numbers}
 use Rattle.promises.proofs.Demand2.{let-go}
+use Rattle.promises.proofs.Demand3Example.{ram, before, computed}
 use Rattle.promises.proofs.EachSlot.{either, never}
 use Rattle.promises.proofs.Frames.{after-keeps, after-sounded}
 use Rattle.promises.proofs.Kept.{run-keeps, Sized, sized-lasts, fresh-sized}
@@ -429,3 +430,21 @@ only-its-samples xs to ram rom out i k ok on =
       first = is-sample ram rom v d l (u .place / 16777216) (r .first);
       second = is-second ram rom v d l u (after-inside c w k s inside .window) (frames-hold xs ram rom i k on) (r .second);
     }
+
+-- ---- the statements speak of something: the struck bell of `Demand3Example`
+
+-- it sounds
+bell-sounds : slotAt (run before fresh) 0 .sounding ≡ true
+unfolding paired
+bell-sounds = ap (λ (e : Engine). slotAt e 0 .sounding) (computed .struck)
+
+-- so it is in its bounds
+pub bell-in-bounds : InBounds (voiceIn 0 (run before fresh))
+bell-in-bounds = states-hold before 0 bell-sounds
+
+-- two frames into a render that is done it sounds in its attack, and reads its samples
+pub bell-reads : ReadsOwn ram [] (voiceIn 0 (run before fresh)) (slotInto 2 ram [] 0 (run before fresh) .voice)
+bell-reads =
+    only-its-samples before 3 ram [] (replicate 6 nan) 0 2
+    (ap (λ (e : Engine). does (Render 3 ram [] (replicate 6 nan)) e .status) (computed .struck) ∙ computed .done)
+    (ap (λ (e : Engine). slotInto 2 ram [] 0 e .sounding) (computed .struck) ∙ ap (λ (s : Slot). s .sounding) (computed .two-frames))
