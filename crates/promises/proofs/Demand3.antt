@@ -35,8 +35,7 @@ use Rattle.engine.specs.Rendering.{window, slotAfter}
 use Rattle.promises.proofs.EachSlot.{What, stands, pedalled, loosed, freed, started, goes, never, what}
 use Rattle.curves.proofs.OctaveLaws.{up-le}
 use Rattle.curves.proofs.PitchLaws.{step-right, steps}
-use Rattle.promises.proofs.Banks.{came}
-use Rattle.promises.proofs.Voices.{from-fresh}
+use Rattle.promises.proofs.States.{states-hold}
 use Rattle.state.specs.Quiet.{fresh}
 use Rattle.arith.proofs.FloorsLaws.{sub-pos}
 use Rattle.arith.specs.Holds.{heldTo}
@@ -271,11 +270,9 @@ place-holds i c xs e on h rate n m k =
       exponent = of-total (λ (z : ℤ). pos (lifted z + 19200) ≡ pos 28800 +ℤ z) xs i c e (exponent-in i) n m;
     }
 
--- every voice that is started has such a rate, and no movement changes it
+-- it is one of the bounds of every voice that sounds
 pub rates-hold : RatesHold
-rates-hold before =
-    from-fresh (λ (v : Voice). (400 ≤ v .rate) × (v .rate ≤ 50000)) (λ v g p m h. h)
-    (λ x e u f. let g = came x e u f .good in (g .rate-low, g .rate-high)) before
+rates-hold before i on = states-hold before i on .rate
 
 -- the two together
 pub place-always : PlaceHoldsAlways

@@ -1,5 +1,5 @@
 -- Reached states: a voice starts in its bounds, and neither a mark, nor a release, nor a frame takes it out of them.
-use Prim.Native.Nat.{ℕ, zero, suc, _+_, _-_, _*_, _/_, _<_, _≤_, min}
+use Prim.Native.Nat.{ℕ, zero, suc, _+_, _*_, _/_, _<_, _≤_}
 use mathlib.Core.Bool.{Bool, true, false, not, cond, _&&_, _||_, and-false}
 use mathlib.Core.Path.{_≡_, refl, sym, ap, _∙_, subst}
 use mathlib.Core.List.{List, [], _∷_}
@@ -8,11 +8,10 @@ use native.Mathlib.Nat.{not-suc-le-zero, min-eq-left, div-le-of-le-mul, div-lt-i
 use native.Mathlib.Omega.{arith}
 use borrow.Author.Tests.{leb-false, le-leb, lt-ltb, le-ltb, eqb-false}
 use lib.Dec.{eqb, ltb, leb, lit<}
-use lib.Ieee.{Float, nan}
+use lib.Ieee.{Float}
 use lib.IntN.{ℤ, pos, negsuc}
-use lib.ListN.{length, replicate, getD, take, drop, length-drop}
+use lib.ListN.{length, getD, take, drop, length-drop}
 use lib.Seq.{getD-take, getD-drop, length-take-le}
-use Rattle.arith.specs.Holds.{heldTo}
 use Rattle.arith.specs.Within.{Within}
 use Rattle.arith.proofs.HoldsLaws.{clamp-in}
 use Rattle.records.specs.Windows.{loops}
@@ -23,10 +22,10 @@ use Rattle.voice.specs.declared.Stage.the-variants.{Delay, Attack, Hold, Decay,
 use Rattle.voice.specs.declared.Voice.{Voice}
 use Rattle.voice.specs.Changes.{withMoved, sounds, free}
 use Rattle.voice.specs.Frames.{silent, moved, goOn, readAndMoved, living, frameAt, frame, after}
-use Rattle.voice.specs.Motion.{span, folds, folded, settled, ended, step}
-use Rattle.voice.specs.Reading.{sample, behind}
+use Rattle.voice.specs.Motion.{span, folds, folded, settled, ended}
+use Rattle.voice.specs.Reading.{behind}
 use Rattle.voice.specs.Release.{letGo, release}
-use Rattle.voice.specs.Sound.{loss, panOf}
+use Rattle.voice.specs.Sound.{panOf}
 use Rattle.voice.specs.Stages.{levelAt, decayAt, fromDecay, fromHold, fromAttack, fromDelay, entered, dead, waiting, released, spent}
 use Rattle.voice.proofs.FramesLaws.{folds-loop}
 use Rattle.voice.proofs.Inside.{Inside, Read, after-inside, never-outside}
@@ -34,18 +33,16 @@ use Rattle.voice.proofs.MotionLaws.{fold-lt, split}
 use Rattle.state.specs.Quiet.{fresh}
 use Rattle.state.specs.Channels.{channelAt, noChannel}
 use Rattle.state.specs.Reach.{memory}
-use Rattle.state.specs.Slots.{paired, slotAt}
+use Rattle.state.specs.Slots.{slotAt}
 use Rattle.state.specs.declared.Engine.{Engine}
-use Rattle.events.specs.Keys.{mark}
 use Rattle.engine.specs.Rendering.{window}
 use Rattle.promises.specs.Calls.{Call, Render, does, run, voiceIn}
 use Rattle.promises.specs.States.{InBounds, StatesHold, FramesHold, slotInto, Unguarded, NoGuardActs, NoGuardInFrames, NoZeroChannel, Windowed, NoEmptyWindow, Sample, Behind, ReadsOwn, OnlyItsSamples, secondOf}
 use Rattle.promises.proofs.Banks.{Came, came}
 use Rattle.promises.proofs.Demand1.{render-numbers}
 use Rattle.promises.proofs.Demand2.{let-go}
-use Rattle.promises.proofs.Demand3Example.{ram, before, computed}
 use Rattle.promises.proofs.EachSlot.{either, never}
-use Rattle.promises.proofs.Frames.{after-keeps, after-sounded}
+use Rattle.promises.proofs.Frames.{after-sounded}
 use Rattle.promises.proofs.Kept.{run-keeps, Sized, sized-lasts, fresh-sized}
 use Rattle.promises.proofs.Voices.{Lasts, lasts-from-fresh}
 
@@ -229,7 +226,7 @@ shifts v s p m h k f a =
 lets : (v : Voice) → InBounds v → InBounds (release v)
 unfolding release
 lets v h =
-    shifts v (letGo v (v .stage)) (v .place) false h (h .place)
+    shifts v (letGo v (v .stage)) (v .place) false h (omega (arith, h .place))
     (λ e. h .folded (folds-before v (v .stage) (letGo v (v .stage)) (λ r. let-go v (v .stage)) e))
     (in-attack v (letGo v (v .stage)) (let-attacking v (v .stage)))
 
@@ -254,7 +251,7 @@ plays st l w s h = by (s .sounding) (dead v g) (waiting g) (ended v g (v .place 
     by : (a b c d : Bool) → ended v g (v .place + st) ≡ d
         → InBounds (cond a (cond b (silent (free v)) (cond c (silent (sounds (moved v g (v .place)))) (record { slot = cond d (free v) (sounds (moved v g (settled v g (v .place + st)))); left = readAndMoved st l w v g .left; right = readAndMoved st l w v g .right }))) (silent s) .slot .voice)
     by true true c d e = h
-    by true false true d e = at (v .place) (h .place) (λ f. h .folded (folds-before v (v .stage) (spent g) lasting f))
+    by true false true d e = at (v .place) (omega (arith, h .place)) (λ f. h .folded (folds-before v (v .stage) (spent g) lasting f))
     by true false false true e = h
     by true false false false e =
         let z = settles v g (v .place + st) (λ f. h .loop-in (folds-mode v g f)) e in
@@ -271,7 +268,7 @@ plays-on c w (suc n) s h = plays _ _ w (after c w n s) (plays-on c w n s h)
 lasts : Lasts InBounds
 lasts =
     record {
-      marks = λ v h. shifts v (v .stage) (v .place) true h (h .place) (h .folded) (h .attack);
+      marks = λ v h. shifts v (v .stage) (v .place) true h (omega (arith, h .place)) (h .folded) (h .attack);
       lets = lets;
       plays = plays-on;
     }
@@ -355,18 +352,18 @@ whole-window ram rom v h l =
       some = some;
     }
 
-module _ (xs : List Call) (to : ℕ) (ram rom : List ℤ) (out : List Float) (i : ℕ) (ok : does (Render to ram rom out) (run xs fresh) .status ≡ 0) where
-  -- where a render is done, the memory of a voice that sounds reaches
-  reaches : slotAt (run xs fresh) i .sounding ≡ true → voiceIn i (run xs fresh) .end ≤ length (memory ram rom (voiceIn i (run xs fresh)))
-  reaches on =
-      let v = voiceIn i (run xs fresh) in
-      ⊎-elim (λ p. absurd (render-numbers to ram rom out (run xs fresh) .done .0 ok .2 (record { slot = i; sounds = on; past = p }))) (λ l. l)
-      (split (length (memory ram rom v)) (v .end))
+-- where a render is done, the memory of a voice that sounds reaches
+memory-reaches : (to : ℕ) (ram rom : List ℤ) (out : List Float) (e : Engine) (i : ℕ) → does (Render to ram rom out) e .status ≡ 0
+    → slotAt e i .sounding ≡ true → voiceIn i e .end ≤ length (memory ram rom (voiceIn i e))
+memory-reaches to ram rom out e i ok on =
+    let v = voiceIn i e in
+    ⊎-elim (λ p. absurd (render-numbers to ram rom out e .done .0 ok .2 (record { slot = i; sounds = on; past = p }))) (λ l. l)
+    (split (length (memory ram rom v)) (v .end))
 
 -- so no window is empty there
 pub no-empty-window : NoEmptyWindow
 no-empty-window xs to ram rom out i ok on =
-    whole-window ram rom (voiceIn i (run xs fresh)) (states-hold xs i on) (reaches xs to ram rom out i ok on)
+    whole-window ram rom (voiceIn i (run xs fresh)) (states-hold xs i on) (memory-reaches to ram rom out (run xs fresh) i ok on)
 
 -- ---- a voice reads its own samples
 
@@ -423,28 +420,10 @@ only-its-samples xs to ram rom out i k ok on =
     let was = after-sounded c w k s on in
     let h = states-hold xs i was in
     let d = no-empty-window xs to ram rom out i ok was in
-    let l = reaches xs to ram rom out i ok was in
-    let inside : Inside w v = record { window = d .whole; place = h .place; loop = λ g f. h .loop-in (folds-mode v g f) } in
+    let l = memory-reaches to ram rom out e i ok was in
+    let inside : Inside w v = record { window = d .whole; place = omega (arith, h .place); loop = λ g f. h .loop-in (folds-mode v g f) } in
     let r = never-outside c w k s inside (entered u (u .stage)) in
     record {
       first = is-sample ram rom v d l (u .place / 16777216) (r .first);
       second = is-second ram rom v d l u (after-inside c w k s inside .window) (frames-hold xs ram rom i k on) (r .second);
     }
-
--- ---- the statements speak of something: the struck bell of `Demand3Example`
-
--- it sounds
-bell-sounds : slotAt (run before fresh) 0 .sounding ≡ true
-unfolding paired
-bell-sounds = ap (λ (e : Engine). slotAt e 0 .sounding) (computed .struck)
-
--- so it is in its bounds
-pub bell-in-bounds : InBounds (voiceIn 0 (run before fresh))
-bell-in-bounds = states-hold before 0 bell-sounds
-
--- two frames into a render that is done it sounds in its attack, and reads its samples
-pub bell-reads : ReadsOwn ram [] (voiceIn 0 (run before fresh)) (slotInto 2 ram [] 0 (run before fresh) .voice)
-bell-reads =
-    only-its-samples before 3 ram [] (replicate 6 nan) 0 2
-    (ap (λ (e : Engine). does (Render 3 ram [] (replicate 6 nan)) e .status) (computed .struck) ∙ computed .done)
-    (ap (λ (e : Engine). slotInto 2 ram [] 0 e .sounding) (computed .struck) ∙ ap (λ (s : Slot). s .sounding) (computed .two-frames))
