@@ -28,7 +28,7 @@ use Rattle.voice.specs.Release.{letGo, release}
 use Rattle.voice.specs.Sound.{panOf}
 use Rattle.voice.specs.Stages.{levelAt, decayAt, fromDecay, fromHold, fromAttack, fromDelay, entered, dead, waiting, released, spent}
 use Rattle.voice.proofs.FramesLaws.{folds-loop}
-use Rattle.voice.proofs.Inside.{Inside, Read, after-inside, never-outside}
+use Rattle.voice.proofs.Inside.{Inside, Read, Reads, after-inside, never-outside}
 use Rattle.voice.proofs.MotionLaws.{fold-lt, split}
 use Rattle.state.specs.Quiet.{fresh}
 use Rattle.state.specs.Channels.{channelAt, noChannel}
@@ -314,7 +314,9 @@ unguarded : (v : Voice) → InBounds v → Unguarded v
 unguarded v h =
     record {
       level = λ t q. full (v .attack) t (h .attack t q .1);
-      played = λ t q. full (v .attack) t (omega (arith, subst (Unspent v) q (entered-unspent v (v .stage))));
+      played = λ t q.
+          let l : t < v .attack = subst (Unspent v) q (entered-unspent v (v .stage)) in
+          (l, full (v .attack) t (omega arith));
       folding = λ s. untested v s h;
       pan = unheld (v .pan) (h .pan);
     }
@@ -408,7 +410,12 @@ module _ (ram rom : List ℤ) (v : Voice) (h : Windowed ram rom v) (l : v .end �
           over : (j to n : ℕ) → j < to → to ≤ n → j ≡ n → ⊥
           over j to n x y z = omega arith
 
--- what a frame reads
+  -- and so both
+  reads-own : (u : Voice) → InBounds u → length (window ram rom v) ≡ span u → Reads (window ram rom v) u (entered u (u .stage)) → ReadsOwn ram rom v u
+  reads-own u b w r =
+      record { first = is-sample (u .place / 16777216) (r .first); second = is-second u w b (r .second) }
+
+-- what each frame reads
 pub only-its-samples : OnlyItsSamples
 only-its-samples xs to ram rom out i k ok on =
     let e = run xs fresh in
@@ -422,8 +429,5 @@ only-its-samples xs to ram rom out i k ok on =
     let d = no-empty-window xs to ram rom out i ok was in
     let l = memory-reaches to ram rom out e i ok was in
     let inside : Inside w v = record { window = d .whole; place = omega (arith, h .place); loop = λ g f. h .loop-in (folds-mode v g f) } in
-    let r = never-outside c w k s inside (entered u (u .stage)) in
-    record {
-      first = is-sample ram rom v d l (u .place / 16777216) (r .first);
-      second = is-second ram rom v d l u (after-inside c w k s inside .window) (frames-hold xs ram rom i k on) (r .second);
-    }
+    reads-own ram rom v d l u (frames-hold xs ram rom i k on) (after-inside c w k s inside .window)
+    (never-outside c w k s inside (entered u (u .stage)))

@@ -1,5 +1,5 @@
--- Reached states: what holds of every voice that sounds after any run. So no guard that the definitions add to 01 ever acts, and
--- a voice reads its own samples.
+-- Reached states: what holds of every voice that sounds after any run. So no guard ever acts (what a definition adds to 01 for
+-- values that 01 does not speak of), and a voice reads its own samples.
 use Prim.Native.Nat.{ℕ, _+_, _*_, _/_, _<_, _≤_}
 use mathlib.Core.Bool.{true, false, not, _&&_, _||_}
 use mathlib.Core.Path.{_≡_}
@@ -71,8 +71,8 @@ FramesHold =
 pub record Unguarded (v : Voice) : Type 0 where
   -- the least in `levelAt`, where the panel or a release asks for the level
   pub level : (t : ℕ) → v .stage ≡ Attack t → levelAt (v .attack) t ≡ 16777216 * t / v .attack
-  -- the same where a frame does, once spent stages are left
-  pub played : (t : ℕ) → entered v (v .stage) ≡ Attack t → levelAt (v .attack) t ≡ 16777216 * t / v .attack
+  -- the same where a frame does, once spent stages are left: there t is below N
+  pub played : (t : ℕ) → entered v (v .stage) ≡ Attack t → (t < v .attack) × (levelAt (v .attack) t ≡ 16777216 * t / v .attack)
   -- the test of the loop in `folds`: it folds in mode 1, and in mode 3 until release
   pub folding : (s : Stage) → folds v s ≡ (eqb (v .mode) 1 || eqb (v .mode) 3 && not (released s))
   -- the hold in `panOf`
