@@ -33,17 +33,22 @@ use Rattle.voice.proofs.MotionLaws.{fold-lt, split}
 use Rattle.state.specs.Quiet.{fresh}
 use Rattle.state.specs.Channels.{channelAt, noChannel}
 use Rattle.state.specs.Reach.{memory}
-use Rattle.state.specs.Slots.{slotAt}
+use Rattle.state.specs.Slots.{slotAt, ofChannel}
 use Rattle.state.specs.declared.Engine.{Engine}
+use Rattle.events.specs.Keys.{pedalHeld}
+use Rattle.events.specs.Starting.{cleared}
 use Rattle.engine.specs.Rendering.{window}
 use Rattle.promises.specs.Calls.{Call, Render, does, run, voiceIn}
-use Rattle.promises.specs.States.{InBounds, StatesHold, FramesHold, slotInto, Unguarded, NoGuardActs, NoGuardInFrames, NoZeroChannel, Windowed, NoEmptyWindow, Sample, Behind, ReadsOwn, OnlyItsSamples, secondOf}
+use Rattle.promises.specs.Age.{Ordered}
+use Rattle.promises.specs.States.{NoSecondRelease, OrderUnguarded, NoOrderGuard, amid, InBounds, StatesHold, FramesHold, slotInto, Unguarded, NoGuardActs, NoGuardInFrames, NoZeroChannel, Windowed, NoEmptyWindow, Sample, Behind, ReadsOwn, OnlyItsSamples, secondOf}
 use Rattle.promises.proofs.Banks.{Came, came}
 use Rattle.promises.proofs.Demand1.{render-numbers}
 use Rattle.promises.proofs.Demand2.{let-go}
-use Rattle.promises.proofs.EachSlot.{either, never}
+use Rattle.promises.proofs.Age.{order-slots, renewed-is}
+use Rattle.promises.proofs.EachSlot.{either, never, and-both, held-unreleased}
 use Rattle.promises.proofs.Frames.{after-sounded}
-use Rattle.promises.proofs.Kept.{run-keeps, Sized, sized-lasts, fresh-sized}
+use Rattle.promises.proofs.Kept.{layers}
+use Rattle.promises.proofs.Seats.{ordered-lasts, ordered-run, sized-run}
 use Rattle.promises.proofs.Voices.{Lasts, lasts-from-fresh}
 
 -- ---- folding
@@ -87,7 +92,7 @@ settles v g p h = by (folds v g) refl
         (omega (arith, h q, z), λ t. z)
     by false q e = (leb-false _ _ e, λ t. absurd (never t))
 
--- ---- the stages of an attack
+-- ---- stages
 
 -- frame t of an attack that is not spent
 abbrev Unspent : Voice → Stage → Type 0
@@ -98,34 +103,47 @@ Unspent v (Decay t) = Unit {0}
 Unspent v Sustain = Unit {0}
 Unspent v (Release a t) = Unit {0}
 
-decay-unspent : (v : Voice) (t : ℕ) → Unspent v (fromDecay v t)
+-- and no release
+abbrev Held : Voice → Stage → Type 0
+Held v s = Unspent v s × (released s ≡ false)
+
+decay-held : (v : Voice) (t : ℕ) → Held v (fromDecay v t)
 unfolding fromDecay
-decay-unspent v t = either (Unspent v) (leb (v .sustain) (decayAt (v .decay) (v .sustain) t)) Sustain (Decay t) tt tt
+decay-held v t = either (Held v) (leb (v .sustain) (decayAt (v .decay) (v .sustain) t)) Sustain (Decay t) (tt, refl) (tt, refl)
 
-hold-unspent : (v : Voice) (t : ℕ) → Unspent v (fromHold v t)
+hold-held : (v : Voice) (t : ℕ) → Held v (fromHold v t)
 unfolding fromHold
-hold-unspent v t = either (Unspent v) (leb (v .hold) t) (fromDecay v 0) (Hold t) (decay-unspent v 0) tt
+hold-held v t = either (Held v) (leb (v .hold) t) (fromDecay v 0) (Hold t) (decay-held v 0) (tt, refl)
 
-attack-unspent : (v : Voice) (t : ℕ) → Unspent v (fromAttack v t)
+attack-held : (v : Voice) (t : ℕ) → Held v (fromAttack v t)
 unfolding fromAttack
-attack-unspent v t = by (leb (v .attack) t) refl
+attack-held v t = by (leb (v .attack) t) refl
   where
-    by : (b : Bool) → leb (v .attack) t ≡ b → Unspent v (cond b (fromHold v 0) (Attack t))
-    by true q = hold-unspent v 0
-    by false q = leb-false (v .attack) t q
+    by : (b : Bool) → leb (v .attack) t ≡ b → Held v (cond b (fromHold v 0) (Attack t))
+    by true q = hold-held v 0
+    by false q = (leb-false (v .attack) t q, refl)
 
-delay-unspent : (v : Voice) (left : ℕ) → Unspent v (fromDelay v left)
+delay-held : (v : Voice) (left : ℕ) → Held v (fromDelay v left)
 unfolding fromDelay
-delay-unspent v left = either (Unspent v) (eqb left 0) (fromAttack v 0) (Delay left) (attack-unspent v 0) tt
+delay-held v left = either (Held v) (eqb left 0) (fromAttack v 0) (Delay left) (attack-held v 0) (tt, refl)
 
--- spent stages are left
-entered-unspent : (v : Voice) (s : Stage) → Unspent v (entered v s)
-entered-unspent v (Delay left) = delay-unspent v left
-entered-unspent v (Attack t) = attack-unspent v t
-entered-unspent v (Hold t) = hold-unspent v t
-entered-unspent v (Decay t) = decay-unspent v t
-entered-unspent v Sustain = tt
-entered-unspent v (Release a t) = tt
+-- once spent stages are left, an attack is not spent; and it is released as before
+enters : (v : Voice) (s : Stage) → Unspent v (entered v s) × (released (entered v s) ≡ released s)
+enters v (Delay left) = delay-held v left
+enters v (Attack t) = attack-held v t
+enters v (Hold t) = hold-held v t
+enters v (Decay t) = decay-held v t
+enters v Sustain = (tt, refl)
+enters v (Release a t) = (tt, refl)
+
+-- a frame spent releases nothing
+spent-same : (s : Stage) → released (spent s) ≡ released s
+spent-same (Delay left) = refl
+spent-same (Attack t) = refl
+spent-same (Hold t) = refl
+spent-same (Decay t) = refl
+spent-same Sustain = refl
+spent-same (Release a t) = refl
 
 -- frame t of an attack of N frames: N is not 0, and t is at most N
 abbrev Attacking : Voice → Stage → Type 0
@@ -158,24 +176,6 @@ let-attacking v (Decay t) = tt
 let-attacking v Sustain = tt
 let-attacking v (Release a t) = tt
 
--- a stage that is released stays so when it is entered
-enter-released : (v : Voice) (s : Stage) → released s ≡ true → released (entered v s) ≡ true
-enter-released v (Delay left) e = absurd (never e)
-enter-released v (Attack t) e = absurd (never e)
-enter-released v (Hold t) e = absurd (never e)
-enter-released v (Decay t) e = absurd (never e)
-enter-released v Sustain e = absurd (never e)
-enter-released v (Release a t) e = refl
-
--- and when a frame of it is spent
-spent-released : (s : Stage) → released s ≡ true → released (spent s) ≡ true
-spent-released (Delay left) e = absurd (never e)
-spent-released (Attack t) e = absurd (never e)
-spent-released (Hold t) e = absurd (never e)
-spent-released (Decay t) e = absurd (never e)
-spent-released Sustain e = absurd (never e)
-spent-released (Release a t) e = refl
-
 -- ---- a voice starts in its bounds
 
 -- mode 0, 1 or 3
@@ -199,6 +199,7 @@ starts x u c =
       folded = λ e. rw (m .place) (omega (arith, folds-loop u (u .stage) e));
       pan = m .pan;
       attack = λ t q. absurd (never (sym (ap waiting q) ∙ m .waits));
+      marked = λ e. absurd (never (sym (g .unmarked) ∙ e));
       rate = (g .rate-low, g .rate-high);
     }
 
@@ -207,9 +208,9 @@ starts x u c =
 -- with another stage and place
 shifts : (v : Voice) (s : Stage) (p : ℕ) (m : Bool) → InBounds v → p < span v * 16777216
     → (folds v s ≡ true → p < v .loopto * 16777216) → ((t : ℕ) → s ≡ Attack t → (0 < v .attack) × (t ≤ v .attack))
-    → InBounds (withMoved v s p m)
+    → (m ≡ true → released s ≡ false) → InBounds (withMoved v s p m)
 unfolding folds
-shifts v s p m h k f a =
+shifts v s p m h k f a r =
     record {
       channel = h .channel;
       mode = h .mode;
@@ -219,6 +220,7 @@ shifts v s p m h k f a =
       folded = f;
       pan = h .pan;
       attack = a;
+      marked = r;
       rate = h .rate;
     }
 
@@ -228,7 +230,7 @@ unfolding release
 lets v h =
     shifts v (letGo v (v .stage)) (v .place) false h (omega (arith, h .place))
     (λ e. h .folded (folds-before v (v .stage) (letGo v (v .stage)) (λ r. let-go v (v .stage)) e))
-    (in-attack v (letGo v (v .stage)) (let-attacking v (v .stage)))
+    (in-attack v (letGo v (v .stage)) (let-attacking v (v .stage))) (λ e. absurd (never e))
 
 -- a frame
 plays : (st : ℕ) (l : ℤ) (w : List ℤ) (s : Slot) → InBounds (s .voice) → InBounds (frameAt st l w s .slot .voice)
@@ -241,21 +243,23 @@ plays st l w s h = by (s .sounding) (dead v g) (waiting g) (ended v g (v .place 
     g : Stage
     g = entered (s .voice) (s .voice .stage)
 
-    -- a released voice is released after it
-    lasting : released (v .stage) ≡ true → released (spent g) ≡ true
-    lasting r = spent-released g (enter-released v (v .stage) r)
+    -- it is released as before
+    same : released (spent g) ≡ released (v .stage)
+    same = spent-same g ∙ enters v (v .stage) .1
 
     at : (p : ℕ) → p < span v * 16777216 → (folds v (spent g) ≡ true → p < v .loopto * 16777216) → InBounds (moved v g p)
-    at p k f = shifts v (spent g) p (v .marked) h k f (in-attack v (spent g) (spent-attacking v g (entered-unspent v (v .stage))))
+    at p k f =
+        shifts v (spent g) p (v .marked) h k f (in-attack v (spent g) (spent-attacking v g (enters v (v .stage) .0)))
+        (λ e. same ∙ h .marked e)
 
     by : (a b c d : Bool) → ended v g (v .place + st) ≡ d
         → InBounds (cond a (cond b (silent (free v)) (cond c (silent (sounds (moved v g (v .place)))) (record { slot = cond d (free v) (sounds (moved v g (settled v g (v .place + st)))); left = readAndMoved st l w v g .left; right = readAndMoved st l w v g .right }))) (silent s) .slot .voice)
     by true true c d e = h
-    by true false true d e = at (v .place) (omega (arith, h .place)) (λ f. h .folded (folds-before v (v .stage) (spent g) lasting f))
+    by true false true d e = at (v .place) (omega (arith, h .place)) (λ f. h .folded (folds-before v (v .stage) (spent g) (λ r. same ∙ r) f))
     by true false false true e = h
     by true false false false e =
         let z = settles v g (v .place + st) (λ f. h .loop-in (folds-mode v g f)) e in
-        at (settled v g (v .place + st)) (z .0) (λ f. z .1 (folds-before v g (spent g) (spent-released g) f))
+        at (settled v g (v .place + st)) (z .0) (λ f. z .1 (folds-before v g (spent g) (λ r. spent-same g ∙ r) f))
     by false b c d e = h
 
 -- n frames
@@ -268,7 +272,7 @@ plays-on c w (suc n) s h = plays _ _ w (after c w n s) (plays-on c w n s h)
 lasts : Lasts InBounds
 lasts =
     record {
-      marks = λ v h. shifts v (v .stage) (v .place) true h (omega (arith, h .place)) (h .folded) (h .attack);
+      marks = λ v r h. shifts v (v .stage) (v .place) true h (omega (arith, h .place)) (h .folded) (h .attack) (λ e. r);
       lets = lets;
       plays = plays-on;
     }
@@ -315,7 +319,7 @@ unguarded v h =
     record {
       level = λ t q. full (v .attack) t (h .attack t q .1);
       played = λ t q.
-          let l : t < v .attack = subst (Unspent v) q (entered-unspent v (v .stage)) in
+          let l : t < v .attack = subst (Unspent v) q (enters v (v .stage) .0) in
           (l, full (v .attack) t (omega arith));
       folding = λ s. untested v s h;
       pan = unheld (v .pan) (h .pan);
@@ -337,9 +341,28 @@ any-default (x ∷ xs) (suc i) d e h = any-default xs i d e (omega arith)
 
 -- there are 16 channels
 pub no-zero-channel : NoZeroChannel
-no-zero-channel xs channel other h =
-    let z = run-keeps Sized sized-lasts xs fresh fresh-sized in
-    any-default (run xs fresh .channels) channel noChannel other (omega (arith, z .channels))
+no-zero-channel xs channel other h = any-default (run xs fresh .channels) channel noChannel other (omega (arith, sized-run xs .channels))
+
+-- what the pedal holds is marked
+pub no-second-release : NoSecondRelease
+unfolding pedalHeld ofChannel
+no-second-release xs channel i (inl h) = held-unreleased channel (slotAt (run xs fresh) i) h
+no-second-release xs channel i (inr h) =
+    let s = slotAt (run xs fresh) i in
+    let a = and-both (s .sounding && eqb (s .voice .channel) channel) (s .voice .marked) h in
+    states-hold xs i (and-both (s .sounding) (eqb (s .voice .channel) channel) (a .0) .0) .marked (a .1)
+
+-- an order is read and renewed as it is
+plain-order : (e : Engine) → Ordered (e .order) → OrderUnguarded e
+plain-order e h = record { entries = order-slots (e .order) (h .slots); newest = λ i l. renewed-is i (e .order) l h }
+
+-- it is one through any run, and through any layers
+pub no-order-guard : NoOrderGuard
+unfolding cleared
+no-order-guard xs channel vs us =
+    let e = run xs fresh in
+    let o = ordered-run xs in
+    (plain-order e o, plain-order (amid channel vs us e) (layers (λ (y : Engine). Ordered (y .order)) ordered-lasts us (record { engine = cleared channel vs e; mine = 0 }) o))
 
 -- where the memory reaches, a voice in its bounds has its whole window
 whole-window : (ram rom : List ℤ) (v : Voice) → InBounds v → v .end ≤ length (memory ram rom v) → Windowed ram rom v
@@ -402,7 +425,7 @@ module _ (ram rom : List ℤ) (v : Voice) (h : Windowed ram rom v) (l : v .end �
       by : (f : Bool) → folds u g ≡ f → Sample ram rom v (secondOf u) ⊎ ((folds u g ≡ false) × Behind ram rom v (secondOf u))
       by false q = inr (q, record { behind = omega (arith, k .0, h .whole, h .some); zero = k .1 })
       by true q =
-          let p = b .folded (folds-before u (u .stage) g (enter-released u (u .stage)) q) in
+          let p = b .folded (folds-before u (u .stage) g (λ r. enters u (u .stage) .1 ∙ r) q) in
           let at : u .place / 16777216 < u .loopto = div-lt-iff-lt-mul (lit< tt) .1 p in
           let j : secondOf u < u .loopto = rw q (behind-lt (u .loopfrom) (u .loopto) (u .place / 16777216) (folds-loop u g q) at) in
           absurd (over (secondOf u) (u .loopto) (span u) j (b .loop-in (folds-mode u g q)) (k .0 ∙ w))

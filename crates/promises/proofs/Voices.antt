@@ -13,15 +13,16 @@ use Rattle.voice.specs.declared.Voice.{Voice}
 use Rattle.voice.specs.Changes.{withMoved, sounds, free, blank}
 use Rattle.state.specs.declared.Engine.{Engine}
 use Rattle.state.specs.Slots.{slotAt, withVoice, paired}
-use Rattle.promises.specs.Calls.{voiceIn, Call, next, framesOf, begun, startsIn, among, run, history, framesRun}
+use Rattle.promises.specs.Calls.{voiceIn, Call, next, channelOf, framesOf, begun, startsIn, among, run, history, framesRun}
 use Rattle.voice.specs.Release.{letGo, release}
+use Rattle.voice.specs.Stages.{released}
 use Rattle.voice.specs.declared.Channel.{Channel}
 use Rattle.voice.specs.declared.Slot.{Slot}
 use Rattle.voice.specs.Frames.{after}
 use Rattle.state.specs.Channels.{channelAt}
 use Rattle.events.specs.Keys.{mark}
 use Rattle.engine.specs.Rendering.{window, slotAfter}
-use Rattle.promises.proofs.EachSlot.{Among, What, stands, pedalled, loosed, freed, started, goes, never, what}
+use Rattle.promises.proofs.EachSlot.{Among, What, stands, pedalled, loosed, freed, started, goes, never, what, held-unreleased}
 use Rattle.promises.proofs.Frames.{after-keeps, after-sounded, Late, late-after, late-none}
 use Rattle.state.specs.Quiet.{fresh}
 use Rattle.state.proofs.AnswersLaws.{or-no}
@@ -35,9 +36,9 @@ Fixed P = (v : Voice) (g : Stage) (p : ℕ) (m : Bool) → P v → P (withMoved 
 abbrev pub Everyone : (Voice → Type 0) → Engine → Type 0
 Everyone P e = (i : ℕ) → slotAt e i .sounding ≡ true → P (voiceIn i e)
 
--- a property that no mark, no release and no frame takes away
+-- a property that no mark of a voice that is not released, no release and no frame takes away
 pub record Lasts (P : Voice → Type 0) : Type 0 where
-  pub marks : (v : Voice) → P v → P (mark v)
+  pub marks : (v : Voice) → released (v .stage) ≡ false → P v → P (mark v)
   pub lets : (v : Voice) → P v → P (release v)
   pub plays : (c : Channel) (w : List ℤ) (n : ℕ) (s : Slot) → P (s .voice) → P (after c w n s .voice)
 
@@ -46,7 +47,7 @@ fixed-lasts : (P : Voice → Type 0) → Fixed P → Lasts P
 unfolding release
 fixed-lasts P k =
     record {
-      marks = λ v h. k v (v .stage) (v .place) true h;
+      marks = λ v r h. k v (v .stage) (v .place) true h;
       lets = λ v h. k v (letGo v (v .stage)) (v .place) false h;
       plays = λ c w n s h. after-keeps c w P (λ v g p. k v g p (v .marked)) n s h;
     }
@@ -65,7 +66,7 @@ module _ (P : Voice → Type 0) (k : Lasts P) (x : Call) (e : Engine) (i : ℕ) 
 
       by : What x e i → P (voiceIn i (next x e))
       by (stands a n) = at s a h
-      by (pedalled a n l d) = at (withVoice s (mark (s .voice))) a (λ o. k .marks (s .voice) (h o))
+      by (pedalled a n l d) = at (withVoice s (mark (s .voice))) a (λ o. k .marks (s .voice) (held-unreleased (channelOf x) s l) (h o))
       by (loosed a n c) = at (withVoice s (release (s .voice))) a (λ o. k .lets (s .voice) (h o))
       by (freed a n c) = at (free (s .voice)) a (λ o. absurd (never o))
       by (started u a n f t) = at (sounds u) a (λ o. new u f t)

@@ -3,7 +3,7 @@
 use Prim.Native.Nat.{ℕ, _+_, _*_, _/_, _<_, _≤_}
 use mathlib.Core.Bool.{true, false, not, _&&_, _||_}
 use mathlib.Core.Path.{_≡_}
-use mathlib.Core.List.{List}
+use mathlib.Core.List.{List, [], _∷_, _++_}
 use mathlib.Core.Logic.{_⊎_}
 use lib.Dec.{eqb}
 use lib.Ieee.{Float}
@@ -23,8 +23,11 @@ use Rattle.voice.specs.Sound.{panOf}
 use Rattle.state.specs.Channels.{channelAt}
 use Rattle.state.specs.Quiet.{fresh}
 use Rattle.state.specs.Reach.{memory}
+use Rattle.state.specs.Seats.{orderOf, without, renewed}
 use Rattle.state.specs.Slots.{slotAt}
 use Rattle.state.specs.declared.Engine.{Engine}
+use Rattle.events.specs.Keys.{held, pedalHeld}
+use Rattle.events.specs.Starting.{startAll, cleared}
 use Rattle.engine.specs.Rendering.{window, slotAfter}
 use Rattle.promises.specs.Calls.{Call, Render, does, run, voiceIn}
 
@@ -48,6 +51,8 @@ pub record InBounds (v : Voice) : Type 0 where
   pub pan : Within (v .pan) 500
   -- in attack, frame t of N: N is not 0, and t is at most N
   pub attack : (t : ℕ) → v .stage ≡ Attack t → (0 < v .attack) × (t ≤ v .attack)
+  -- marked, it is not released
+  pub marked : v .marked ≡ true → released (v .stage) ≡ false
   -- its rate is 400..50,000
   pub rate : (400 ≤ v .rate) × (v .rate ≤ 50000)
 
@@ -94,6 +99,30 @@ abbrev pub NoZeroChannel : Type 0
 NoZeroChannel =
     (xs : List Call) (channel : ℕ) (other : Channel) → channel ≤ 15
     → channelAt (run xs fresh) channel ≡ getD (run xs fresh .channels) channel other
+
+-- a release is never let go again, as `letGo` allows: what a note-off, 123 or a lifted pedal lets go is not released
+abbrev pub NoSecondRelease : Type 0
+NoSecondRelease =
+    (xs : List Call) (channel i : ℕ)
+    → (held channel (slotAt (run xs fresh) i) ≡ true) ⊎ (pedalHeld channel (slotAt (run xs fresh) i) ≡ true)
+    → released (voiceIn i (run xs fresh) .stage) ≡ false
+
+-- the order of age without its guards
+pub record OrderUnguarded (e : Engine) : Type 0 where
+  -- the remainder in `orderOf`: its entries are slots as they are
+  pub entries : orderOf e ≡ e .order
+  -- the `take` in `renewed`: a slot that is moved behind all others stood in it, so there are no more than before
+  pub newest : (i : ℕ) → i < 32 → renewed i (e .order) ≡ without i (e .order) ++ (i ∷ [])
+
+-- the state while a note-on starts its layers vs: the rivals are freed, and us are started
+abbrev pub amid : ℕ → List Voice → List Voice → Engine → Engine
+amid channel vs us e = startAll us (record { engine = cleared channel vs e; mine = 0 }) .engine
+
+-- after any run, and before each layer that a note-on then starts
+abbrev pub NoOrderGuard : Type 0
+NoOrderGuard =
+    (xs : List Call) (channel : ℕ) (vs us : List Voice)
+    → OrderUnguarded (run xs fresh) × OrderUnguarded (amid channel vs us (run xs fresh))
 
 -- a voice's window is never the empty one: it is its part of the lent memory, without a test, and has all its samples, one or more
 pub record Windowed (ram rom : List ℤ) (v : Voice) : Type 0 where
