@@ -42,12 +42,12 @@ pan-held : (own added : ℤ) → Within (totalOf 17 own added) 500
 unfolding totalOf heldTotal
 pan-held own added = held-within (cond (instrumentOnly 17) own (own +ℤ added)) 499
 
--- so is the voice of a layer
+-- the voice of a layer is made so
 layer-made : (b : List ℕ) (m : Parts) (l : Layer) (c k v : ℕ) → Made (voiceBy b m l c k v)
 unfolding voiceBy total
 layer-made b m l c k v = record { place = refl; waits = refl; pan = pan-held _ _ }
 
--- of each of a preset
+-- and each voice of a preset
 preset-made : (b : List ℕ) (h c k v : ℕ) → All Made (voicesOf b (partsOf b) h c k v)
 unfolding voicesOf voiceOf
 preset-made b h c k v = each (take 33 (layersOf b (partsOf b) k v h))
@@ -56,7 +56,7 @@ preset-made b h c k v = each (take 33 (layersOf b (partsOf b) k v h))
     each [] = tt
     each (p ∷ ps) = (layer-made b (partsOf b) (layerOf b (partsOf b) h p) c k v, each ps)
 
--- of each that a key starts
+-- and each that a key starts
 struck-made : (b : List ℕ) (bank program c k v : ℕ) → All Made (struckVoices b bank program c k v)
 struck-made b bank program c k v = by (presetFor b (partsOf b) bank program) refl
   where

@@ -268,7 +268,7 @@ unfolding after frame
 plays-on c w zero s h = h
 plays-on c w (suc n) s h = plays _ _ w (after c w n s) (plays-on c w n s h)
 
--- all of it
+-- so no call takes them away
 lasts : Lasts InBounds
 lasts =
     record {
