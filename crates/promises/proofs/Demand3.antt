@@ -40,8 +40,7 @@ use Rattle.engine.specs.Rendering.{window, slotAfter, played}
 use Rattle.promises.proofs.EachSlot.{What, stands, pedalled, loosed, freed, started, goes, never, what}
 use Rattle.curves.proofs.OctaveLaws.{up-le}
 use Rattle.curves.proofs.PitchLaws.{step-right, steps}
-use Rattle.promises.proofs.Banks.{came}
-use Rattle.promises.proofs.Voices.{from-fresh}
+use Rattle.promises.proofs.States.{states-hold}
 use Rattle.state.specs.Quiet.{fresh}
 use Rattle.arith.proofs.FloorsLaws.{sub-pos}
 use Rattle.arith.specs.Holds.{heldTo}
@@ -499,11 +498,9 @@ place-between xs e i a b c l n on h rate s k =
     moved-by i c (b - a) (inFront a xs e) (inFront b xs e) (inFront a xs e) (omega arith) (s .tuned a (omega arith) l) rate
     (between-on xs e i a b c (stepOf (lifted c) (voiceIn i (inFront a xs e) .rate)) l n on h refl s) k
 
--- every voice that is started has such a rate, and no movement changes it
+-- it is one of the bounds of every voice that sounds
 pub rates-hold : RatesHold
-rates-hold before =
-    from-fresh (λ (v : Voice). (400 ≤ v .rate) × (v .rate ≤ 50000)) (λ v g p m h. h)
-    (λ x e u f. let g = came x e u f in (g .rate-low, g .rate-high)) before
+rates-hold before i on = states-hold before i on .rate
 
 -- the two together
 pub place-always : PlaceHoldsAlways

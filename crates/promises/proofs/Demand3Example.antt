@@ -8,13 +8,14 @@ use lib.Ieee.{nan}
 use mathlib.Core.Path.{_≡_, refl, sym, ap, _∙_, subst}
 use native.Mathlib.Omega.{arith}
 use borrow.Author.Tests.{eqb-false}
-use Rattle.voice.specs.declared.Stage.the-variants.{Delay}
+use Rattle.voice.specs.declared.Stage.the-variants.{Delay, Attack}
 use Rattle.voice.specs.declared.Voice.{Voice}
-use Rattle.promises.specs.Calls.{Call, NoteOn, NoteOff, Bend, Render, run, framesRun, voiceIn, seats, among}
-use Rattle.voice.specs.Changes.{blank}
+use Rattle.promises.specs.Calls.{Call, NoteOn, NoteOff, Bend, Render, does, run, framesRun, voiceIn, seats, among}
+use Rattle.voice.specs.Changes.{blank, sounds, withMoved}
 use Rattle.state.specs.declared.Engine.{Engine}
 use Rattle.state.specs.Quiet.{freshChannel, upFrom, fresh}
 use Rattle.promises.specs.Demand3.{KeepsAll, Moved}
+use Rattle.promises.specs.States.{slotInto}
 use Rattle.voice.specs.Stages.{past}
 use Rattle.state.specs.Slots.{slotAt}
 use Rattle.promises.proofs.Demand3.{place-always, place-between, keeps-own, keeps-tuned}
@@ -81,7 +82,7 @@ bell =
     0 ∷ 0 ∷ 0 ∷ 0 ∷ 0 ∷ 0 ∷ 0 ∷ 0 ∷ []
 
 -- its samples
-abbrev ram : List ℤ
+abbrev pub ram : List ℤ
 ram = pos 0 ∷ pos 900 ∷ pos 1000 ∷ pos 900 ∷ pos 0 ∷ pos 100 ∷ pos 50 ∷ pos 0 ∷ []
 
 -- the voice that it starts
@@ -113,7 +114,7 @@ voice =
     }
 
 -- it is struck
-abbrev before : List Call
+abbrev pub before : List Call
 before = NoteOn bell ram [] 0 60 100 ∷ []
 
 -- the state then
@@ -133,23 +134,26 @@ meanwhile =
     ∷ []
 
 -- what is computed: the state once it is struck; that each call meets the conditions, at a pitch total of 0 cents; the frames;
--- and the place after them, five steps of one sample folded into the loop of four
-record Computed : Type 0 where
-  struck : run before fresh ≡ struckBell
-  conditions : KeepsAll 0 (pos 0) meanwhile struckBell
-  five : framesRun meanwhile struckBell ≡ 5
-  at-sample-one : voiceIn 0 (run meanwhile struckBell) .place ≡ 16777216
+-- and the place after them, five steps of one sample folded into the loop of four. Of the first render: that it is done, and the
+-- slot two frames into it
+pub record Computed : Type 0 where
+  pub struck : run before fresh ≡ struckBell
+  pub conditions : KeepsAll 0 (pos 0) meanwhile struckBell
+  pub five : framesRun meanwhile struckBell ≡ 5
+  pub at-sample-one : voiceIn 0 (run meanwhile struckBell) .place ≡ 16777216
+  pub done : does (Render 3 ram [] (replicate 6 nan)) struckBell .status ≡ 0
+  pub two-frames : slotInto 2 ram [] 0 struckBell ≡ sounds (withMoved voice (Attack 2) 33554432 false)
   -- in front of frame 1, inside the first render, and of frame 4, inside the second
-  there : slotAt (inFront 1 meanwhile struckBell) 0 .sounding ≡ true
-  there-past : past (voiceIn 0 (inFront 1 meanwhile struckBell) .stage) ≡ true
-  there-rate : voiceIn 0 (inFront 1 meanwhile struckBell) .rate ≡ 44100
-  there-mode : voiceIn 0 (inFront 1 meanwhile struckBell) .mode ≡ 1
-  there-place : voiceIn 0 (inFront 1 meanwhile struckBell) .place ≡ 16777216
-  later : slotAt (inFront 4 meanwhile struckBell) 0 .sounding ≡ true
-  later-place : voiceIn 0 (inFront 4 meanwhile struckBell) .place ≡ 0
+  pub there : slotAt (inFront 1 meanwhile struckBell) 0 .sounding ≡ true
+  pub there-past : past (voiceIn 0 (inFront 1 meanwhile struckBell) .stage) ≡ true
+  pub there-rate : voiceIn 0 (inFront 1 meanwhile struckBell) .rate ≡ 44100
+  pub there-mode : voiceIn 0 (inFront 1 meanwhile struckBell) .mode ≡ 1
+  pub there-place : voiceIn 0 (inFront 1 meanwhile struckBell) .place ≡ 16777216
+  pub later : slotAt (inFront 4 meanwhile struckBell) 0 .sounding ≡ true
+  pub later-place : voiceIn 0 (inFront 4 meanwhile struckBell) .place ≡ 0
 
 -- each by running the definitions
-computed : Computed
+pub computed : Computed
 unfolding CurvesLevels.gainOf CurvesLevels.cbOf CurvesLevels.above CurvesLevels.leastCb CurvesTimes.framesUp CurvesTimes.frames CurvesPitch.bendCents CurvesPitch.stepOf CurvesInternalPitch.stepAt CurvesTables.allLe RecordsInternalAmounts.pouredFrom RecordsInternalAmounts.poured ArithBytes.u8At ArithBytes.u16At ArithBytes.u32At ArithBytes.i8At ArithBytes.i16At RecordsChunks.chunkAt RecordsChunks.nameAt RecordsChunks.bytesIn RecordsChunks.body RecordsChunks.records RecordsLooking.first RecordsLooking.last RecordsSides.presets RecordsSides.instruments RecordsSides.partsOf RecordsSides.bagOf RecordsSides.genOf RecordsSides.modOf RecordsSides.operator RecordsSides.amount RecordsSides.signed RecordsHeaders.programOf RecordsHeaders.bankOf ArithHolds.between ArithHolds.betweenZ ArithFloors.modZ ArithHolds.word32 RecordsWindows.shifted RecordsWindows.placeMoved RecordsWindows.startOf RecordsWindows.endOf RecordsWindows.loopStartOf RecordsWindows.loopEndOf RecordsWindows.modeOf RecordsWindows.loops RecordsWindows.goodPlaces RecordsWindows.goodWindow RecordsHeaders.rateOf RecordsHeaders.romOf RecordsZones.zoneCount RecordsZones.genCount RecordsZones.has RecordsZones.closingOf RecordsZones.zoneAt RecordsZones.globalOf RecordsZones.lastOf RecordsZones.amountIn RecordsZones.value RecordsZones.zoneBelow RecordsZones.firstZone BankAdmission.longFault BankFraming.badChunk BankFraming.chunkFault BankFraming.badRecords BankFraming.recordsFault BankIndexes.fallsAt BankIndexes.endsWrong BankIndexes.badAt BankIndexes.badHead BankIndexes.badBag BankIndexes.headFault BankIndexes.bagFault BankIndexes.indexFault BankLinks.badNumber BankLinks.zoneLinkAt BankLinks.linkFault BankLinks.numberFault BankRates.namesSample BankRates.badRate BankRates.rateFault BankBounds.badWindow BankBounds.windowFault BankAdmission.faultOf BankAdmission.admitted LayersLayerSearch.isPreset LayersLayerSearch.presetFor LayersLayerSearch.picked LayersLayerSearch.chosen LayersLayerSearch.under LayersLayerSearch.allUnder LayersLayerSearch.layersBelow LayersLayerSearch.layersOf LayersLayerSearchLaws.layerCount LayersInternalLayerSearch.upTo33 LayersInternalLayerSearch.searched LayersLayerSearch.layerOf LayersRanges.rangeAt LayersRanges.inside LayersRanges.hasAs LayersRanges.keyRange LayersRanges.velocityRange LayersRanges.matches TotalsValues.instrumentOnly TotalsValues.defaultOf TotalsValues.heldTotal TotalsValues.totalOf TotalsValues.total TotalsSettings.ifMidi TotalsSettings.keyOf TotalsSettings.rootOf TotalsSettings.pitchOf TotalsSettings.keyedTime TotalsSettings.softness TotalsSettings.attenuationOf TotalsSettings.playMode LayersVoicing.voiceBy LayersVoicing.voiceOf LayersVoicing.voicesOf LayersVoicing.hasPreset LayersVoicing.struckVoices LayersInternalVoicing.struckOf VoiceFrames.goOn VoiceFrames.loud VoiceFrames.readAndMoved VoiceFrames.living VoiceFrames.frameAt VoiceFrames.frame VoiceMotion.pitchTotal VoiceMotion.step VoiceMotion.folds VoiceMotion.fold VoiceMotion.settled VoiceMotion.ended VoiceRelease.release VoiceFrames.after VoiceInternalFrames.heard VoiceInternalFrames.afterAt VoiceInternalFrames.heardAt VoiceStages.levelAt VoiceStages.decayAt VoiceStages.releaseAt VoiceStages.fromDecay VoiceStages.fromHold VoiceStages.fromAttack VoiceStages.fromDelay EventsBends.pitchBend EventsKeys.pedalHeld StateSlots.cut EventsControls.pedal EventsControls.silence EventsControls.controlled EventsControls.controlChange EventsStriking.bankFrom StateSlots.ofChannel EventsKeys.held EventsKeys.heldKey EventsKeys.letOff EventsKeys.off EventsKeys.offKey EventsKeys.noteOff EventsStriking.channelBank EventsStarting.anyPast EventsStarting.classIn EventsStarting.rival EventsStarting.start EventsStarting.startAll EventsStarting.cleared EventsStarting.struck EventsStriking.noteOnNumber EventsStriking.noteOn EngineRendering.distance EngineRendering.window EngineRendering.lacking EngineRendering.renderNumber EngineRendering.played EngineRendering.render StateSeats.lowestFree StateSeats.claim StateSeats.leastBy StateSeats.taken StateSeats.seat StateSeats.without StateSeats.renewed StateSeats.startIn StateSlots.paired StateSlots.wordOf StateQuiet.fresh run framesRun seats among moment
 computed =
     record {
@@ -182,6 +186,8 @@ computed =
       there-place = refl;
       later = refl;
       later-place = refl;
+      done = refl;
+      two-frames = refl;
     }
 
 -- so demand 3 speaks of it

@@ -5,7 +5,7 @@ use mathlib.Core.Logic.{_⊎_, inl, inr, ⊎-elim}
 use mathlib.Core.Bool.{Bool, true, cond, false, _||_, or-true, not, _&&_}
 use Prim.Native.Nat.{ℕ, zero, suc}
 use lib.ListN.{getD, set, length}
-use borrow.Author.Tests.{eqb-true, eqb-false}
+use borrow.Author.Tests.{eqb-true, eqb-false, not-true}
 use lib.Dec.{eqb, T, ltb}
 use lib.IntN.{ℤ}
 use lib.Ieee.{Float}
@@ -144,6 +144,14 @@ unfolding held
 held-channel c s h =
     and-both (ofChannel c s) (not (released (s .voice .stage)))
     (and-both (ofChannel c s && not (released (s .voice .stage))) (not (s .voice .marked)) h .0) .0
+
+-- and not released
+pub held-unreleased : (c : ℕ) (s : Slot) → held c s ≡ true → released (s .voice .stage) ≡ false
+unfolding held
+held-unreleased c s h =
+    not-true (released (s .voice .stage))
+    (and-both (ofChannel c s) (not (released (s .voice .stage)))
+    (and-both (ofChannel c s && not (released (s .voice .stage))) (not (s .voice .marked)) h .0) .1)
 
 key-held : (c k : ℕ) (s : Slot) → heldKey c k s ≡ true → held c s ≡ true
 unfolding heldKey

@@ -40,7 +40,8 @@ module _ (P : Engine → Type 0) (l : Lasting P) where
   told : (n : ℕ) (e : Engine) (a : Answered) → P e → P (a .engine) → P (answer n e a .engine)
   told n e a h k = either (λ (x : Answered). P (x .engine)) (eqb n 0) a (refused n e) k h
 
-  layers : (vs : List Voice) (x : Started) → P (x .engine) → P (startAll vs x .engine)
+  -- layers that are started one after the other
+  pub layers : (vs : List Voice) (x : Started) → P (x .engine) → P (startAll vs x .engine)
   unfolding startAll start
   layers [] x h = h
   layers (v ∷ vs) x h = layers vs (start v x) (l .start (x .engine) (x .mine) v h)

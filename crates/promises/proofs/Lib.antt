@@ -15,5 +15,7 @@ pub mod Output
 pub mod Panel
 pub mod Runs
 pub mod Seats
+pub mod States
+pub mod StatesExample
 pub mod Voices
 pub mod Controls

@@ -265,7 +265,7 @@ was-down x e h i on m = by (what x e i)
         (λ o p. subst (λ (c : ℕ). pedalDown e c ≡ true) (sym (of-channel (channelOf x) s (held-channel (channelOf x) s l))) d)
     by (loosed a n c) = at (withVoice s (release (s .voice))) a (λ o p. absurd (never p))
     by (freed a n c) = at (free (s .voice)) a (λ o p. absurd (never o))
-    by (started u a n f t) = at (sounds u) a (λ o p. absurd (never (sym (came x e u f .unmarked) ∙ p)))
+    by (started u a n f t) = at (sounds u) a (λ o p. absurd (never (sym (came x e u f .good .unmarked) ∙ p)))
     by (goes ram rom a) =
         let ch = channelAt e (s .voice .channel) in
         let w = window ram rom (s .voice) in

@@ -613,7 +613,8 @@ seat-slot e m h = by (ltb (lowestFree (slotsOf e)) 32) refl
     by false q =
         rw (order-slots (e .order) (h .slots)) (least (claim e m) (getD (e .order) 0 0) (e .order) .slot (head-slot (e .order) (h .slots)) (h .slots))
 
-ordered-lasts : Lasting (λ (e : Engine). Ordered (e .order))
+-- no part of a call changes that the order is one
+pub ordered-lasts : Lasting (λ (e : Engine). Ordered (e .order))
 unfolding startIn
 ordered-lasts =
     record {

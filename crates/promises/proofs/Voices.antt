@@ -5,6 +5,7 @@ use mathlib.Core.Path.{_≡_, sym, ap, _∙_, subst, refl}
 use mathlib.Core.List.{List, [], _∷_, _++_}
 use lib.ListN.{getD, replicate}
 use lib.Dec.{eqb}
+use lib.IntN.{ℤ}
 use native.Mathlib.Nat.{add-zero}
 use native.Mathlib.Omega.{arith}
 use Rattle.voice.specs.declared.Stage.{Stage}
@@ -12,13 +13,16 @@ use Rattle.voice.specs.declared.Voice.{Voice}
 use Rattle.voice.specs.Changes.{withMoved, sounds, free, blank}
 use Rattle.state.specs.declared.Engine.{Engine}
 use Rattle.state.specs.Slots.{slotAt, withVoice, paired}
-use Rattle.promises.specs.Calls.{voiceIn, Call, next, framesOf, begun, startsIn, among, run, history, framesRun}
+use Rattle.promises.specs.Calls.{voiceIn, Call, next, channelOf, framesOf, begun, startsIn, among, run, history, framesRun}
 use Rattle.voice.specs.Release.{letGo, release}
+use Rattle.voice.specs.Stages.{released}
+use Rattle.voice.specs.declared.Channel.{Channel}
 use Rattle.voice.specs.declared.Slot.{Slot}
+use Rattle.voice.specs.Frames.{after}
 use Rattle.state.specs.Channels.{channelAt}
 use Rattle.events.specs.Keys.{mark}
 use Rattle.engine.specs.Rendering.{window, slotAfter}
-use Rattle.promises.proofs.EachSlot.{Among, What, stands, pedalled, loosed, freed, started, goes, never, what}
+use Rattle.promises.proofs.EachSlot.{Among, What, stands, pedalled, loosed, freed, started, goes, never, what, held-unreleased}
 use Rattle.promises.proofs.Frames.{after-keeps, after-sounded, Late, late-after, late-none}
 use Rattle.state.specs.Quiet.{fresh}
 use Rattle.state.proofs.AnswersLaws.{or-no}
@@ -32,11 +36,23 @@ Fixed P = (v : Voice) (g : Stage) (p : ℕ) (m : Bool) → P v → P (withMoved 
 abbrev pub Everyone : (Voice → Type 0) → Engine → Type 0
 Everyone P e = (i : ℕ) → slotAt e i .sounding ≡ true → P (voiceIn i e)
 
-let-keeps : (P : Voice → Type 0) → Fixed P → (v : Voice) → P v → P (release v)
-unfolding release
-let-keeps P k v h = k v (letGo v (v .stage)) (v .place) false h
+-- a property that no mark of a voice that is not released, no release and no frame takes away
+pub record Lasts (P : Voice → Type 0) : Type 0 where
+  pub marks : (v : Voice) → released (v .stage) ≡ false → P v → P (mark v)
+  pub lets : (v : Voice) → P v → P (release v)
+  pub plays : (c : Channel) (w : List ℤ) (n : ℕ) (s : Slot) → P (s .voice) → P (after c w n s .voice)
 
-module _ (P : Voice → Type 0) (k : Fixed P) (x : Call) (e : Engine) (i : ℕ) where
+-- what they do not touch they do not take away
+fixed-lasts : (P : Voice → Type 0) → Fixed P → Lasts P
+unfolding release
+fixed-lasts P k =
+    record {
+      marks = λ v r h. k v (v .stage) (v .place) true h;
+      lets = λ v h. k v (letGo v (v .stage)) (v .place) false h;
+      plays = λ c w n s h. after-keeps c w P (λ v g p. k v g p (v .marked)) n s h;
+    }
+
+module _ (P : Voice → Type 0) (k : Lasts P) (x : Call) (e : Engine) (i : ℕ) where
   -- one call, one slot: P of the voice before, and of a voice that the call starts there
   pub call-voice : (slotAt e i .sounding ≡ true → P (voiceIn i e)) → ((u : Voice) → Among u (begun x e) → among i (startsIn x e) ≡ true → P u)
       → slotAt (next x e) i .sounding ≡ true → P (voiceIn i (next x e))
@@ -50,17 +66,17 @@ module _ (P : Voice → Type 0) (k : Fixed P) (x : Call) (e : Engine) (i : ℕ) 
 
       by : What x e i → P (voiceIn i (next x e))
       by (stands a n) = at s a h
-      by (pedalled a n l d) = at (withVoice s (mark (s .voice))) a (λ o. k (s .voice) (s .voice .stage) (s .voice .place) true (h o))
-      by (loosed a n c) = at (withVoice s (release (s .voice))) a (λ o. let-keeps P k (s .voice) (h o))
+      by (pedalled a n l d) = at (withVoice s (mark (s .voice))) a (λ o. k .marks (s .voice) (held-unreleased (channelOf x) s l) (h o))
+      by (loosed a n c) = at (withVoice s (release (s .voice))) a (λ o. k .lets (s .voice) (h o))
       by (freed a n c) = at (free (s .voice)) a (λ o. absurd (never o))
       by (started u a n f t) = at (sounds u) a (λ o. new u f t)
       by (goes ram rom a) =
           at (slotAfter ram rom e (framesOf x e) s) a
-          (λ o. after-keeps (channelAt e (s .voice .channel)) (window ram rom (s .voice)) P (λ v g p. k v g p (v .marked)) (framesOf x e) s
+          (λ o. k .plays (channelAt e (s .voice .channel)) (window ram rom (s .voice)) (framesOf x e) s
           (h (after-sounded (channelAt e (s .voice .channel)) (window ram rom (s .voice)) (framesOf x e) s o)))
 
 -- a run
-pub run-everyone : (P : Voice → Type 0) → Fixed P → ((x : Call) (e : Engine) (u : Voice) → Among u (begun x e) → P u)
+pub run-everyone : (P : Voice → Type 0) → Lasts P → ((x : Call) (e : Engine) (u : Voice) → Among u (begun x e) → P u)
     → (xs : List Call) (e : Engine) → Everyone P e → Everyone P (run xs e)
 unfolding run
 run-everyone P k new [] e h = h
@@ -76,9 +92,13 @@ fresh-free i = silent (replicate 32 blank) i
     silent (v ∷ vs) zero = refl
     silent (v ∷ vs) (suc i) = silent vs i
 
--- a run from the fresh state: what every started voice has, every voice that sounds has
+-- a run from the fresh state: what every started voice has and keeps, every voice that sounds has
+pub lasts-from-fresh : (P : Voice → Type 0) → Lasts P → ((x : Call) (e : Engine) (u : Voice) → Among u (begun x e) → P u) → (xs : List Call) → Everyone P (run xs fresh)
+lasts-from-fresh P k new xs = run-everyone P k new xs fresh (λ i on. absurd (never (sym (fresh-free i) ∙ on)))
+
+-- the same of what no movement touches
 pub from-fresh : (P : Voice → Type 0) → Fixed P → ((x : Call) (e : Engine) (u : Voice) → Among u (begun x e) → P u) → (xs : List Call) → Everyone P (run xs fresh)
-from-fresh P k new xs = run-everyone P k new xs fresh (λ i on. absurd (never (sym (fresh-free i) ∙ on)))
+from-fresh P k = lasts-from-fresh P (fixed-lasts P k)
 
 -- ---- a slot in which no voice is started
 
@@ -126,7 +146,7 @@ run-voice P k [] e i none on h = h
 run-voice P k (x ∷ xs) e i none on h =
     let p = among-parts i (startsIn x e) (history xs (next x e)) none in
     run-voice P k xs (next x e) i (p .1) on
-    (call-voice P k x e i (λ o. h) (λ u f t. absurd (never (sym (p .0) ∙ t))) (run-sounded xs (next x e) i (p .1) on))
+    (call-voice P (fixed-lasts P k) x e i (λ o. h) (λ u f t. absurd (never (sym (p .0) ∙ t))) (run-sounded xs (next x e) i (p .1) on))
 
 -- ---- a released voice
 

@@ -7,4 +7,5 @@ pub mod Cuts
 pub mod Panel
 pub mod Controls
 pub mod Demand3
+pub mod States
 pub mod Determined
