@@ -26,7 +26,7 @@ use Rattle.state.specs.Slots.{withClock}
 use Rattle.state.specs.Reach.{memory}
 use Rattle.promises.specs.Calls.{Call, does, next, run, written, framesOf, voiceIn}
 use Rattle.promises.specs.Demand1.{SlotPast}
-use Rattle.promises.specs.Cuts.{ahead, together, Pieces, none, asks, refused, piece, AllDone, numbersOf, SameAsWhole, AnyCut, WholeOfPieces}
+use Rattle.promises.specs.Cuts.{ahead, together, Pieces, none, asks, refuses, piece, AllDone, numbersOf, AnyCut, WholeOfPieces}
 use Rattle.promises.proofs.Moments.{part-sounded, part-keeps}
 use Rattle.promises.proofs.EachSlot.{either}
 use Rattle.promises.proofs.Demand1.{render-numbers, changes-nothing}
@@ -203,7 +203,7 @@ module _ (ram rom : List ℤ) where
       let g = no-piece xs e p in
       let i = idle x xs [] e e [] p refl refl g in
       record { each = g .each; state = i .0; numbers = i .1 }
-  no-piece (x ∷ xs) e (refused y h p) =
+  no-piece (x ∷ xs) e (refuses y h p) =
       let g = no-piece xs e p in
       let i = idle x xs [] e e [] p (changes-nothing x e h .state) (no-frames x e h) g in
       record { each = g .each; state = i .0; numbers = i .1 }
@@ -279,7 +279,7 @@ module _ (ram rom : List ℤ) where
       let g = any-pieces xs n ns e p h k clear in
       let i = idle x xs (n ∷ ns) e _ _ p refl refl g in
       record { each = g .each; state = i .0; numbers = i .1 }
-  any-pieces (x ∷ xs) n ns e (refused z r p) h k clear =
+  any-pieces (x ∷ xs) n ns e (refuses z r p) h k clear =
       let g = any-pieces xs n ns e p h k clear in
       let i = idle x xs (n ∷ ns) e _ _ p (changes-nothing x e r .state) (no-frames x e r) g in
       record { each = g .each; state = i .0; numbers = i .1 }
@@ -312,7 +312,7 @@ any-cut to ram rom out e n ns xs h t ok total p =
 -- where a piece is done, no window ends past its memory
 clear-of : (ram rom : List ℤ) (xs : List Call) (n : ℕ) (ns : List ℕ) (e : Engine) (p : Pieces ram rom xs (n ∷ ns) e) → AllDone p → SlotPast ram rom e → ⊥
 clear-of ram rom (x ∷ xs) n ns e (asks slot p) a = clear-of ram rom xs n ns e p a
-clear-of ram rom (x ∷ xs) n ns e (refused z r p) a = clear-of ram rom xs n ns e p a
+clear-of ram rom (x ∷ xs) n ns e (refuses z r p) a = clear-of ram rom xs n ns e p a
 clear-of ram rom (x ∷ xs) n ns e (piece j out room p) a = render-numbers (ahead e n) ram rom out e .done .0 (a .0) .2
 
 -- so the whole is done

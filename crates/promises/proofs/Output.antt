@@ -1,14 +1,14 @@
 -- Demand 2: the word, other channels and the output.
-use Prim.Native.Nat.{ℕ, _^_, _<_, zero, suc, _+_, _*_, _≤_, _-_, _%_}
+use Prim.Native.Nat.{ℕ, _^_, _<_, zero, suc, _+_, _*_, _≤_, _-_}
 use mathlib.Core.Path.{sym, subst, _≡_, ap, _∙_, refl}
-use mathlib.Core.List.{List, [], _∷_, _++_, append-assoc, append-nil}
-use lib.Dec.{eqb, ltb, leb}
-use lib.Seq.{getD-set-other, getD-at, getD-append-add, drop-at, take-at, drop-length}
+use mathlib.Core.List.{List, [], _∷_, _++_, append-assoc}
+use lib.Dec.{eqb, ltb}
+use lib.Seq.{getD-set-other, getD-at, getD-append-add, drop-at}
 use mathlib.Core.Bool.{cond, Bool, true, false}
-use lib.ListN.{length, getD, length-append, drop, length-drop, take}
+use lib.ListN.{length, getD, length-append, drop, length-drop}
 use native.Mathlib.Omega.{arith}
 use lib.IntN.{ℤ, pos, negsuc}
-use borrow.Author.Tests.{eqb-true, eqb-false, ltb-true, ltb-false, leb-true, leb-false}
+use borrow.Author.Tests.{eqb-true, eqb-false, ltb-true, ltb-false}
 use lib.Ieee.{Float}
 use Rattle.state.specs.Quiet.{fresh}
 use Rattle.state.specs.Board.{voiceCount}

@@ -4,18 +4,15 @@ use Prim.Native.Nat.{ℕ, _<_}
 use mathlib.Core.Path.{_≡_, refl, ap, _∙_}
 use native.Mathlib.Omega.{arith}
 use borrow.Author.Tests.{le-ltb}
-use lib.Dec.{ltb}
 use Rattle.voice.proofs.PanelLaws.{level-exact}
 use Rattle.curves.proofs.PitchLaws.{gain-le}
-use Rattle.voice.specs.declared.Shown.{Shown}
-use Rattle.voice.specs.declared.Slot.{Slot}
 use Rattle.voice.specs.declared.Stage.{Stage}
 use Rattle.voice.specs.declared.Stage.the-variants.{Delay, Attack, Hold, Decay, Sustain, Release}
 use Rattle.voice.specs.declared.Voice.{Voice}
 use Rattle.voice.proofs.LoudestLaws.{level-le}
-use Rattle.voice.specs.Panel.{stageShown, levelsOf, levelOf, shown, shownNumber}
+use Rattle.voice.specs.Panel.{stageShown, levelsOf, shown, shownNumber}
 use Rattle.voice.specs.Stages.{envelope}
-use Rattle.promises.specs.Panel.{Named, WithLevel, Tells, PanelIsExact}
+use Rattle.promises.specs.Panel.{Tells, PanelIsExact}
 use Rattle.promises.specs.Calls.{voiceIn}
 use Rattle.state.specs.declared.Engine.{Engine}
 use Rattle.state.specs.Slots.{slotAt}

@@ -28,8 +28,9 @@ use Rattle.voice.specs.Release.{letGo, release}
 use Rattle.voice.specs.Sound.{panOf}
 use Rattle.voice.specs.Stages.{levelAt, decayAt, fromDecay, fromHold, fromAttack, fromDelay, entered, dead, waiting, released, spent}
 use Rattle.voice.proofs.FramesLaws.{folds-loop}
-use Rattle.voice.proofs.Inside.{Inside, Read, Reads, after-inside, never-outside}
-use Rattle.voice.proofs.MotionLaws.{fold-lt, split}
+use Rattle.voice.proofs.Advance.{spent-released}
+use Rattle.voice.proofs.Inside.{Inside, Read, Reads, settled-in, after-inside, never-outside}
+use Rattle.voice.proofs.MotionLaws.{split}
 use Rattle.state.specs.Quiet.{fresh}
 use Rattle.state.specs.Channels.{channelAt, noChannel}
 use Rattle.state.specs.Reach.{memory}
@@ -78,20 +79,6 @@ folds-mode v s = by (ltb (v .loopfrom) (v .loopto)) (eqb (v .mode) 1) (eqb (v .m
     by true false false x e = e
     by false b c x e = absurd (never e)
 
--- moved and not ended, it lies in its window, and before the loop's end where it folds
-settles : (v : Voice) (g : Stage) (p : ℕ) → (folds v g ≡ true → v .loopto ≤ span v) → ended v g p ≡ false
-    → (settled v g p < span v * 16777216) × (folds v g ≡ true → settled v g p < v .loopto * 16777216)
-unfolding settled ended
-settles v g p h = by (folds v g) refl
-  where
-    by : (f : Bool) → folds v g ≡ f → (not f && leb (span v * 16777216) p) ≡ false
-        → (cond f (folded v p) p < span v * 16777216) × (f ≡ true → cond f (folded v p) p < v .loopto * 16777216)
-    by true q e =
-        let l = folds-loop v g q in
-        let z = fold-lt (v .loopfrom * 16777216) (v .loopto * 16777216) p (omega arith) in
-        (omega (arith, h q, z), λ t. z)
-    by false q e = (leb-false _ _ e, λ t. absurd (never t))
-
 -- ---- stages
 
 -- frame t of an attack that is not spent
@@ -135,15 +122,6 @@ enters v (Hold t) = hold-held v t
 enters v (Decay t) = decay-held v t
 enters v Sustain = (tt, refl)
 enters v (Release a t) = (tt, refl)
-
--- a frame spent releases nothing
-spent-same : (s : Stage) → released (spent s) ≡ released s
-spent-same (Delay left) = refl
-spent-same (Attack t) = refl
-spent-same (Hold t) = refl
-spent-same (Decay t) = refl
-spent-same Sustain = refl
-spent-same (Release a t) = refl
 
 -- frame t of an attack of N frames: N is not 0, and t is at most N
 abbrev Attacking : Voice → Stage → Type 0
@@ -245,7 +223,7 @@ plays st l w s h = by (s .sounding) (dead v g) (waiting g) (ended v g (v .place 
 
     -- it is released as before
     same : released (spent g) ≡ released (v .stage)
-    same = spent-same g ∙ enters v (v .stage) .1
+    same = spent-released g ∙ enters v (v .stage) .1
 
     at : (p : ℕ) → p < span v * 16777216 → (folds v (spent g) ≡ true → p < v .loopto * 16777216) → InBounds (moved v g p)
     at p k f =
@@ -258,8 +236,8 @@ plays st l w s h = by (s .sounding) (dead v g) (waiting g) (ended v g (v .place 
     by true false true d e = at (v .place) (omega (arith, h .place)) (λ f. h .folded (folds-before v (v .stage) (spent g) (λ r. same ∙ r) f))
     by true false false true e = h
     by true false false false e =
-        let z = settles v g (v .place + st) (λ f. h .loop-in (folds-mode v g f)) e in
-        at (settled v g (v .place + st)) (z .0) (λ f. z .1 (folds-before v g (spent g) (λ r. spent-same g ∙ r) f))
+        let z = settled-in v g (v .place + st) (λ f. h .loop-in (folds-mode v g f)) e in
+        at (settled v g (v .place + st)) (z .0) (λ f. z .1 (folds-before v g (spent g) (λ r. spent-released g ∙ r) f))
     by false b c d e = h
 
 -- n frames

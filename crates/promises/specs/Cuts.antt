@@ -19,11 +19,11 @@ together [] = 0
 together (n ∷ ns) = n + together ns
 
 -- a run of pieces of such lengths, each with an output of its own that has room, over the same memories; before, between and
--- behind them the panel may ask, and any call may be refused (admission and listing are handed no state: they may come anywhere)
+-- behind them the panel may ask, and any call may be refuses (admission and listing are handed no state: they may come anywhere)
 pub data Pieces (ram rom : List ℤ) : List Call → List ℕ → Engine → Type 0 where
   none : {e : Engine} → Pieces ram rom [] [] e
   asks : {xs : List Call} {ns : List ℕ} {e : Engine} (slot : ℕ) → Pieces ram rom xs ns e → Pieces ram rom (Ask slot ∷ xs) ns e
-  refused : {xs : List Call} {ns : List ℕ} {e : Engine} (x : Call) → (does x e .status ≡ 0 → ⊥) → Pieces ram rom xs ns e
+  refuses : {xs : List Call} {ns : List ℕ} {e : Engine} (x : Call) → (does x e .status ≡ 0 → ⊥) → Pieces ram rom xs ns e
       → Pieces ram rom (x ∷ xs) ns e
   piece : {xs : List Call} {ns : List ℕ} {e : Engine} (n : ℕ) (out : List Float) → 2 * n ≤ length out
       → Pieces ram rom xs ns (next (Render (ahead e n) ram rom out) e)
@@ -33,7 +33,7 @@ pub data Pieces (ram rom : List ℤ) : List Call → List ℕ → Engine → Typ
 abbrev pub AllDone : {ram rom : List ℤ} {xs : List Call} {ns : List ℕ} {e : Engine} → Pieces ram rom xs ns e → Type 0
 AllDone none = Unit {0}
 AllDone (asks slot p) = AllDone p
-AllDone (refused x h p) = AllDone p
+AllDone (refuses x h p) = AllDone p
 AllDone {ram} {rom} {e = e} (piece n out room p) =
     (does (Render (ahead e n) ram rom out) e .status ≡ 0) × (does (Render (ahead e n) ram rom out) e .count ≡ 0) × AllDone p
 

@@ -2,10 +2,10 @@
 use Prim.Native.Nat.{ℕ, _≤_, _<_, _+_, _*_}
 use mathlib.Core.Bool.{true, false, cond, Bool}
 use mathlib.Core.Path.{_≡_}
-use mathlib.Core.List.{List, [], _∷_, _++_}
+use mathlib.Core.List.{List, [], _∷_}
 use lib.IntN.{ℤ, pos, negsuc}
 use lib.Dec.{eqb, ltb}
-use lib.ListN.{length, getD, drop, take}
+use lib.ListN.{length, getD, drop}
 use lib.Count.{ones}
 use lib.Ieee.{Float}
 use Rattle.arith.specs.Lists.{countIf}
@@ -13,7 +13,7 @@ use Rattle.voice.specs.Release.{release}
 use Rattle.state.specs.declared.Engine.{Engine}
 use Rattle.state.specs.Slots.{slotAt, slotsOf, ofChannel, withVoice}
 use Rattle.events.specs.Keys.{heldKey, pedalDown, mark, pedalHeld}
-use Rattle.promises.specs.Calls.{NoteOff, does, next, voiceIn, NoteOn, Control, Call, run, Program, Bend, Render, Ask, among, history, framesRun, begun, channelOf, startsIn, framesOf, written, told}
+use Rattle.promises.specs.Calls.{NoteOff, does, next, voiceIn, NoteOn, Control, Call, run, Program, Bend, Render, Ask, among, history, framesRun, begun, channelOf, startsIn, framesOf, written}
 use Rattle.state.specs.Quiet.{fresh}
 use Rattle.voice.specs.Stages.{released}
 use Rattle.promises.specs.Age.{older, Ordered, startedLast}
@@ -28,7 +28,6 @@ use Rattle.arith.specs.Holds.{heldTo}
 use Rattle.arith.specs.Floats.{Over}
 use Rattle.arith.specs.Within.{Within}
 use Rattle.engine.specs.Rendering.{distance, leftSum, rightSum}
-use Rattle.voice.specs.Panel.{slotParts}
 
 -- ---- 1. A note-off reaches all held voices of its channel and key
 

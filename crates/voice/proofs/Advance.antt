@@ -72,7 +72,7 @@ spent-past Sustain e = refl
 spent-past (Release a t) e = refl
 
 -- a frame spent releases nothing
-spent-released : (s : Stage) → released (spent s) ≡ released s
+pub spent-released : (s : Stage) → released (spent s) ≡ released s
 spent-released (Delay left) = refl
 spent-released (Attack t) = refl
 spent-released (Hold t) = refl

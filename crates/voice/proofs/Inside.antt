@@ -16,6 +16,7 @@ use Rattle.voice.specs.Motion.{folds, span, folded, settled, ended}
 use Rattle.voice.specs.Reading.{sample, behind}
 use Rattle.voice.proofs.MotionLaws.{split, fold-lt}
 use Rattle.voice.proofs.FramesLaws.{folds-loop}
+use Rattle.voice.proofs.Advance.{not-both}
 use Rattle.voice.specs.Changes.{withMoved, sounds, free}
 use Rattle.voice.specs.declared.Slot.{Slot}
 use Rattle.voice.specs.Stages.{entered, dead, waiting, spent}
@@ -65,16 +66,19 @@ inside-reads w v s h = record { first = at; second = by (folds v s) refl }
         behind-it f (eqb (i + 1) (v .loopto))
         (λ (e : f ≡ true). let l = folds-loop v s (q ∙ e) in omega (arith, h .loop s (q ∙ e), h .window))
 
--- moved and not ended, it lies in its window
-settled-in : (v : Voice) (g : Stage) (p : ℕ) → (folds v g ≡ true → v .loopto ≤ span v) → ended v g p ≡ false → settled v g p < span v * 16777216
+-- moved and not ended, it lies in its window, and before the loop's end where it folds
+pub settled-in : (v : Voice) (g : Stage) (p : ℕ) → (folds v g ≡ true → v .loopto ≤ span v) → ended v g p ≡ false
+    → (settled v g p < span v * 16777216) × (folds v g ≡ true → settled v g p < v .loopto * 16777216)
 unfolding settled ended
 settled-in v g p h = by (folds v g) refl
   where
-    by : (f : Bool) → folds v g ≡ f → (not f && leb (span v * 16777216) p) ≡ false → cond f (folded v p) p < span v * 16777216
+    by : (f : Bool) → folds v g ≡ f → (not f && leb (span v * 16777216) p) ≡ false
+        → (cond f (folded v p) p < span v * 16777216) × (f ≡ true → cond f (folded v p) p < v .loopto * 16777216)
     by true q e =
         let l = folds-loop v g q in
-        omega (arith, h q, fold-lt (v .loopfrom * 16777216) (v .loopto * 16777216) p (omega arith))
-    by false q e = leb-false _ _ e
+        let z = fold-lt (v .loopfrom * 16777216) (v .loopto * 16777216) p (omega arith) in
+        (omega (arith, h q, z), λ t. z)
+    by false q e = (leb-false _ _ e, λ t. not-both false t refl)
 
 -- only the place moves in it
 moved-in : (w : List ℤ) (v : Voice) (x : Stage) (p : ℕ) → Inside w v → p < span v * 16777216 → Inside w (withMoved v x p (v .marked))
@@ -97,7 +101,7 @@ frame-inside st l w s h = by (s .sounding) (dead v g) (waiting g) (ended v g (v 
     by true true c d e = h
     by true false true d e = moved-in w v (spent g) (v .place) h (h .place)
     by true false false true e = h
-    by true false false false e = moved-in w v (spent g) _ h (settled-in v g (v .place + st) (h .loop g) e)
+    by true false false false e = moved-in w v (spent g) _ h (settled-in v g (v .place + st) (h .loop g) e .0)
     by false b c d e = h
 
 -- and so do n frames

@@ -50,16 +50,3 @@ levelsOf is.Hold = []
 levelsOf (is.Decay x) = x ∷ []
 levelsOf (is.Sustain x) = x ∷ []
 levelsOf (is.Release x) = x ∷ []
-
--- a slot's level in 2^-24 of full, where its stage has one: the attack's level, else the envelope's gain
-abbrev pub stageParts : Voice → Stage → List ℕ
-stageParts v (Delay left) = []
-stageParts v (Attack t) = levelAt (v .attack) t ∷ []
-stageParts v (Hold t) = []
-stageParts v (Decay t) = gainOf (envelope v (Decay t)) ∷ []
-stageParts v Sustain = gainOf (envelope v Sustain) ∷ []
-stageParts v (Release a t) = gainOf (envelope v (Release a t)) ∷ []
-
--- of a slot; a free one has none
-abbrev pub slotParts : Slot → List ℕ
-slotParts s = cond (s .sounding) (stageParts (s .voice) (s .voice .stage)) []
