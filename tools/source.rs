@@ -61,7 +61,7 @@ pub fn files(folder: &str, ending: &str) -> Vec<PathBuf> {
 
 /// Reads a source file of a crate.
 pub fn read_source(krate: &str, path: &Path) -> Source {
-    let text = antt::without_comments(&read(path));
+    let text = without_literals(&antt::without_comments(&read(path)));
     let module = path.file_stem().unwrap_or_default().to_string_lossy().to_string();
     let uses = text.lines().filter_map(antt::use_line).filter(|line| line.path.starts_with("Rattle·")).collect();
     let path_of = |line: &str| line.trim_end_matches(';').split("::").map(str::to_string).collect();
@@ -81,6 +81,30 @@ pub fn read_source(krate: &str, path: &Path) -> Source {
 fn fields(words: &[String], at: usize) -> (String, Vec<String>) {
     let names = words[at + 2..behind(words, at + 2)].iter().filter_map(|word| word.strip_suffix(':'));
     (bare(&words[at + 1]).to_string(), names.map(str::to_string).collect())
+}
+
+/// A text with nothing in its bytes and byte strings, as b'(' and b"(", where a bracket is no bracket.
+fn without_literals(text: &str) -> String {
+    let mut left = String::new();
+    let mut rest = text;
+    while let Some(at) = ["b'", "b\""].iter().filter_map(|quote| rest.find(quote)).min() {
+        let (front, literal) = rest.split_at(at + 2);
+        left += front;
+        rest = literal;
+        let of_name = front[..at].ends_with(|c: char| c.is_alphanumeric() || c == '_');
+        let quote = front.chars().last();
+        let mut escaped = false;
+        let closes = |c: char| {
+            let closes = !escaped && Some(c) == quote;
+            escaped = !escaped && c == '\\';
+            closes
+        };
+        if let Some(end) = literal.find(closes).filter(|_| !of_name) {
+            left += &literal[end..=end];
+            rest = &literal[end + 1..];
+        }
+    }
+    left + rest
 }
 
 /// A name without the lifetimes behind it.
