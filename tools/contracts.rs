@@ -1,6 +1,6 @@
 // Holds the contracts in crates/*/src to what is said of them elsewhere, so that none gets weaker unseen.
 //
-//     rustc --edition 2021 -O -o target/contracts tools/contracts.rs && target/contracts
+//     rustc --edition 2021 -o target/contracts tools/contracts.rs && target/contracts
 //
 // prints a line for each complaint, and then the counts; the status is 1 where there is a complaint. It complains about
 //
@@ -60,26 +60,21 @@ impl Reading<'_> {
     /// The words of a text. `now (b .entry)`, a lent buffer as it came in, is b; `now (b .exit)` is b'.
     fn words(&self, text: &[String]) -> Part {
         let mut words: Part = text.iter().map(|word| self.word(word)).collect();
-        let is = |word: &Word, text: &str| word.text == text;
-        let bound = |word: &Word| self.bound.values().any(|name| *name == word.text.trim_end_matches('\''));
+        let bound = |word: &str| self.bound.values().any(|name| name == word.trim_end_matches('\''));
         let mut at = 0;
         while at < words.len() {
-            let four = &words[at..words.len().min(at + 4)];
-            let moment = four.len() == 4 && is(&four[0], "(") && bound(&four[1]) && is(&four[3], ")");
-            let alone = four.len() >= 3 && is(&four[0], "(") && bound(&four[1]) && is(&four[2], ")");
-            let held = four.len() >= 2 && is(&four[0], "now") && bound(&four[1]) && four[1].text != "answer";
-            let (taken, mark) = match () {
-                _ if moment && is(&four[2], ".entry") => (4, ""),
-                _ if moment && is(&four[2], ".exit") => (4, "'"),
-                _ if alone => (3, ""),
-                _ if held => (2, ""),
+            let texts: Vec<&str> = words[at..].iter().take(4).map(|word| word.text.as_str()).collect();
+            let (taken, name) = match texts[..] {
+                ["(", name, ".entry", ")"] if bound(name) => (4, name.to_string()),
+                ["(", name, ".exit", ")"] if bound(name) => (4, format!("{name}'")),
+                ["(", name, ")", ..] if bound(name) => (3, name.to_string()),
+                ["now", name, ..] if bound(name) && name != "answer" => (2, name.to_string()),
                 _ => {
                     at += 1;
                     continue;
                 }
             };
-            let text = four[1].text.clone() + mark;
-            words.splice(at..at + taken, [Word { text, place: None }]);
+            words.splice(at..at + taken, [Word { text: name, place: None }]);
             // what stands in front may be rewritten now
             at = at.saturating_sub(2);
         }
@@ -144,11 +139,8 @@ fn ensured(tree: &Tree, source: &Source, function: &Function, names: &[String]) 
     for clause in function.contract.iter().filter(|clause| !clause.requires) {
         let lookup = Box::new(tree.names_in_source(source));
         let bound = function.parameters.iter().cloned().zip(names.iter().cloned()).collect();
-        let text: Vec<String> = clause.words[1..clause.words.len() - 1]
-            .iter()
-            .filter(|word| !"⌜⌝".contains(word.as_str()))
-            .cloned()
-            .collect();
+        let mut text = clause.words[1..clause.words.len() - 1].to_vec();
+        text.retain(|word| word != "⌜" && word != "⌝");
         parts.extend(Reading { tree, lookup, bound }.parts(&text)?);
     }
     Some(parts)
@@ -167,28 +159,23 @@ fn equates(part: &Part, subject: &[&str], given: &[String]) -> bool {
     fits && equals && plain && !text.is_empty() && !text.iter().any(|word| given.contains(&word.text))
 }
 
-/// What the contract of a function leaves open: the answer, a buffer, or, where it has neither, all that it does.
+/// What the contract of a function leaves open: a buffer at the exit, the answer, or, where it has neither, all that it
+/// does.
 fn left_open(tree: &Tree, source: &Source, function: &Function) -> Vec<String> {
     let parts = ensured(tree, source, function, &function.parameters).unwrap_or_default();
     let buffers: Vec<String> = function.written.iter().map(|name| format!("{name}'")).collect();
     let given: Vec<String> = buffers.iter().cloned().chain(["answer".to_string()]).collect();
     let says = |subject: &[&str]| parts.iter().any(|part| equates(part, subject, &given));
-    let fields = tree
-        .sources
-        .iter()
-        .filter(|other| other.krate == source.krate)
-        .flat_map(|other| &other.structs)
-        .find(|(name, _)| function.answer.contains(name))
-        .map_or(&[][..], |(_, fields)| fields);
-    let by_field = !fields.is_empty() && fields.iter().all(|field| says(&["answer", &format!(".{field}")]));
-    let mut open = Vec::new();
+    let structs = tree.sources.iter().filter(|other| other.krate == source.krate).flat_map(|other| &other.structs);
+    let by_field = structs
+        .filter(|(name, _)| function.answer.contains(name))
+        .any(|(_, fields)| !fields.is_empty() && fields.iter().all(|field| says(&["answer", &format!(".{field}")])));
+    let left = buffers.iter().filter(|buffer| !says(&[buffer]));
+    let mut open: Vec<String> = left.map(|buffer| buffer.replace('\'', " at the exit")).collect();
     if !function.answer.is_empty() && !says(&["answer"]) && !by_field {
         open.push("the answer".to_string());
     }
-    open.extend(
-        function.written.iter().zip(&buffers).filter(|(_, at_exit)| !says(&[at_exit])).map(|(name, _)| name.clone()),
-    );
-    if function.answer.is_empty() && function.written.is_empty() {
+    if function.answer.is_empty() && buffers.is_empty() {
         open.push("what it does".to_string());
     }
     open

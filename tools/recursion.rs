@@ -1,7 +1,7 @@
 // Looks whether a function in crates/*/src may call itself, directly or through others. The language has recursion (with a
 // measure), and no function pointers, so that the names in front of brackets are all the calls that there are.
 //
-//     rustc --edition 2021 -O -o target/recursion tools/recursion.rs && target/recursion
+//     rustc --edition 2021 -o target/recursion tools/recursion.rs && target/recursion
 //
 // prints the longest chains of calls and the number of functions. The status is 1, with a line for each complaint, where
 // calls lead round in a circle, and where a call leads to no function that this tool can find.
