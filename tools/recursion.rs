@@ -3,7 +3,7 @@
 //
 //     rustc --edition 2021 -o target/recursion tools/recursion.rs && target/recursion
 //
-// prints the longest chains of calls and the number of functions. The status is 1, with a line for each complaint, where
+// prints the number of functions and how long the longest chains of calls are. The status is 1, with a line for each complaint, where
 // calls lead round in a circle, and where a call leads to no function that this tool can find.
 // the tools share these, and each asks for a part of them
 #[allow(dead_code)]
@@ -129,12 +129,12 @@ fn main() -> ExitCode {
     let mut longest = |ids: &[Id]| ids.iter().map(|id| walk.chain(*id)).max_by_key(Vec::len).unwrap_or_default();
     let (chain, host_chain) = (longest(&ids), longest(&host_ids));
     walk.complaints.iter().for_each(|complaint| println!("recursion: {complaint}"));
-    let told = |chain: &[Id]| {
-        let names: Vec<String> = chain.iter().map(|id| walk.calls.label(*id)).collect();
-        format!("{} ({})", chain.len(), names.join(" > "))
+    let ends = |chain: &[Id]| match chain {
+        [first, .., last] => format!("{} ({} to {})", chain.len(), walk.calls.label(*first), walk.calls.label(*last)),
+        _ => chain.len().to_string(),
     };
-    println!("recursion: the longest chain of calls has {}", told(&chain));
-    println!("recursion: the longest from a call that a host may make has {}", told(&host_chain));
-    println!("recursion: {} functions, {} complaints", ids.len(), walk.complaints.len());
+    let (longest, of_host) = (ends(&chain), ends(&host_chain));
+    let (count, complaints) = (ids.len(), walk.complaints.len());
+    println!("recursion: {count} functions, longest chain of calls {longest}, of a host's calls {of_host}; {complaints} complaints");
     ExitCode::from(u8::from(!walk.complaints.is_empty() || ids.is_empty()))
 }
