@@ -30,7 +30,7 @@ pub struct Definition {
     pub lines: usize,
     /// the head of the `module _` block that it stands in, or nothing
     outer: String,
-    pieces: Vec<String>,
+    pub pieces: Vec<String>,
 }
 
 impl Definition {

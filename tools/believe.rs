@@ -6,8 +6,12 @@
 // prints them file by file with their counts, and then a line for each complaint about where definitions stand; the
 // status is 1 where there is one. `--check` prints totals and complaints alone, `--totals` the totals alone, `--names`
 // the files of definitions that have no source file of their name, each with the reason.
+// the tools share these, and each asks for a part of them
+#[allow(dead_code)]
 mod antt;
+#[allow(dead_code)]
 mod source;
+#[allow(dead_code)]
 mod tree;
 
 use antt::{Place, Target};

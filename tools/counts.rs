@@ -4,9 +4,10 @@
 //
 // prints each as a line `KEY VALUE`. `--check README.md` complains, with status 1, where a sentence or a row of the
 // table of crates has another number or is not there; `--write README.md` puts the right numbers in.
-// what believe alone asks of these is not used here
+// the tools share these, and each asks for a part of them
 #[allow(dead_code)]
 mod antt;
+#[allow(dead_code)]
 mod source;
 #[allow(dead_code)]
 mod tree;

@@ -1,23 +1,36 @@
-//! The sources as a reader of contracts needs them: functions with their heads and contracts, types, and `use` lines.
+//! The sources as a reader of contracts needs them: functions with their heads, contracts and bodies, types, and `use`
+//! lines.
 use crate::antt::{self, Use};
 use std::fs;
 use std::path::{Path, PathBuf};
 
-/// A function of the source, with the names of its parameters, the types of its head, and its contract.
+/// A clause of a contract, with its braces: a `requires` or an `ensures`.
+pub struct Clause {
+    pub requires: bool,
+    pub words: Vec<String>,
+}
+
+/// A function of the source, with the names of its parameters, those of them that are lent to be written, the words of
+/// its answer's type, the types of its head, its contract, and the words of its body.
 pub struct Function {
     pub name: String,
     pub public: bool,
     pub parameters: Vec<String>,
+    pub written: Vec<String>,
+    pub answer: Vec<String>,
     pub types: Vec<String>,
-    pub contract: Vec<String>,
+    pub contract: Vec<Clause>,
+    pub body: Vec<String>,
 }
 
-/// A source file: `module` is its name without the ending, `paths` are its `use` lines, and whether each is `pub`.
+/// A source file: `module` is its name without the ending, `structs` has the fields of each, `paths` are its `use` lines,
+/// and whether each is `pub`.
 pub struct Source {
     pub krate: String,
     pub module: String,
     pub functions: Vec<Function>,
     pub types: Vec<String>,
+    pub structs: Vec<(String, Vec<String>)>,
     pub paths: Vec<(bool, Vec<String>)>,
     pub uses: Vec<Use>,
 }
@@ -48,7 +61,7 @@ pub fn files(folder: &str, ending: &str) -> Vec<PathBuf> {
 
 /// Reads a source file of a crate.
 pub fn read_source(krate: &str, path: &Path) -> Source {
-    let text = antt::without_comments(&read(path));
+    let text = without_literals(&antt::without_comments(&read(path)));
     let module = path.file_stem().unwrap_or_default().to_string_lossy().to_string();
     let uses = text.lines().filter_map(antt::use_line).filter(|line| line.path.starts_with("Rattle·")).collect();
     let path_of = |line: &str| line.trim_end_matches(';').split("::").map(str::to_string).collect();
@@ -60,7 +73,38 @@ pub fn read_source(krate: &str, path: &Path) -> Source {
     let words = antt::tokens(&text);
     let named = |pair: &&[String]| pair[0] == "struct" || pair[0] == "enum";
     let types = words.windows(2).filter(named).map(|pair| bare(&pair[1]).to_string()).collect();
-    Source { krate: krate.to_string(), module, functions: functions(&words), types, paths, uses }
+    let structs = (0..words.len()).filter(|&at| words[at] == "struct").map(|at| fields(&words, at)).collect();
+    Source { krate: krate.to_string(), module, functions: functions(&words), types, structs, paths, uses }
+}
+
+/// The name of the struct whose `struct` stands at a place, and its fields.
+fn fields(words: &[String], at: usize) -> (String, Vec<String>) {
+    let names = words[at + 2..behind(words, at + 2)].iter().filter_map(|word| word.strip_suffix(':'));
+    (bare(&words[at + 1]).to_string(), names.map(str::to_string).collect())
+}
+
+/// A text with nothing in its bytes and byte strings, as b'(' and b"(", where a bracket is no bracket.
+fn without_literals(text: &str) -> String {
+    let mut left = String::new();
+    let mut rest = text;
+    while let Some(at) = ["b'", "b\""].iter().filter_map(|quote| rest.find(quote)).min() {
+        let (front, literal) = rest.split_at(at + 2);
+        left += front;
+        rest = literal;
+        let of_name = front[..at].ends_with(|c: char| c.is_alphanumeric() || c == '_');
+        let quote = front.chars().last();
+        let mut escaped = false;
+        let closes = |c: char| {
+            let closes = !escaped && Some(c) == quote;
+            escaped = !escaped && c == '\\';
+            closes
+        };
+        if let Some(end) = literal.find(closes).filter(|_| !of_name) {
+            left += &literal[end..=end];
+            rest = &literal[end + 1..];
+        }
+    }
+    left + rest
 }
 
 /// A name without the lifetimes behind it.
@@ -69,7 +113,7 @@ fn bare(name: &str) -> &str {
 }
 
 /// The place behind the bracket that closes the one at a place.
-fn behind(words: &[String], at: usize) -> usize {
+pub fn behind(words: &[String], at: usize) -> usize {
     let mut depth = 0;
     let closes = |word: &String| {
         depth += i32::from("({[".contains(word.as_str())) - i32::from(")}]".contains(word.as_str()));
@@ -88,23 +132,31 @@ fn functions(words: &[String]) -> Vec<Function> {
 fn function(words: &[String], at: usize) -> Function {
     let open = at + words[at..].iter().position(|word| word == "(").unwrap_or(0);
     let mut end = behind(words, open);
-    let parameters = words[open..end].iter().filter_map(|word| word.strip_suffix(':')).map(str::to_string).collect();
-    let mut types = words[open..end].to_vec();
-    let mut contract = Vec::new();
+    let head = &words[open..end];
+    let named = |word: &String| word.strip_suffix(':').map(str::to_string);
+    let written = head.windows(2).filter(|pair| pair[1] == "&mut").filter_map(|pair| named(&pair[0])).collect();
+    let (mut answer, mut contract) = (Vec::new(), Vec::new());
     while end < words.len() && words[end] != "{" {
         let begins = words[end] == "requires" || words[end] == "ensures";
         let brace = if begins { words[end..].iter().position(|word| word == "{") } else { None };
         let Some(brace) = brace else {
-            types.push(words[end].clone());
+            answer.push(words[end].clone());
             end += 1;
             continue;
         };
         let close = behind(words, end + brace);
-        contract.extend_from_slice(&words[end + brace..close]);
+        contract.push(Clause { requires: words[end] == "requires", words: words[end + brace..close].to_vec() });
         end = close;
     }
-    types.iter_mut().for_each(|word| *word = bare(word).to_string());
-    types.retain(|word| word.starts_with(char::is_uppercase));
-    let public = at > 0 && words[at - 1] == "pub";
-    Function { name: bare(&words[at + 1]).to_string(), public, parameters, types, contract }
+    let types = head.iter().chain(&answer).map(|word| bare(word)).filter(|word| word.starts_with(char::is_uppercase));
+    Function {
+        name: bare(&words[at + 1]).to_string(),
+        public: at > 0 && words[at - 1] == "pub",
+        parameters: head.iter().filter_map(named).collect(),
+        written,
+        types: types.map(str::to_string).collect(),
+        answer,
+        contract,
+        body: words[end..behind(words, end)].to_vec(),
+    }
 }

@@ -267,7 +267,8 @@ impl Tree {
     fn cited_by(&self, source: &Source, function: &Function, lost: &mut Vec<String>) -> Vec<Target> {
         let scope = self.scope(&source.uses, &format!("crates/{}/src/{}.rt", source.krate, source.module), lost);
         let lookup = |name: &str| self.resolve(&scope, name);
-        let mut cited = antt::cited_by(&function.contract, &function.parameters, &lookup);
+        let contract: Vec<String> = function.contract.iter().flat_map(|clause| clause.words.clone()).collect();
+        let mut cited = antt::cited_by(&contract, &function.parameters, &lookup);
         for name in &function.types {
             let brought =
                 source.paths.iter().find(|(_, path)| path.last() == Some(name)).map(|(_, path)| path[0].clone());
@@ -277,8 +278,23 @@ impl Tree {
         cited
     }
 
+    /// Looks names up as they stand in a source file.
+    pub fn names_in_source(&self, source: &Source) -> impl Fn(&str) -> Option<Target> + '_ {
+        let scope = self.scope(&source.uses, "", &mut Vec::new());
+        move |name| self.resolve(&scope, name)
+    }
+
+    /// Looks names up as they stand in a file of definitions.
+    pub fn names_in_specs(&self, file: usize) -> impl Fn(&str) -> Option<Target> + '_ {
+        let mut scope = self.scope(&self.specs[file].uses, "", &mut Vec::new());
+        for (at, definition) in self.specs[file].definitions.iter().enumerate() {
+            scope.own(definition, (file, at));
+        }
+        move |name| self.resolve(&scope, name)
+    }
+
     /// The function that a path of a crate leads to; an empty list for a type, and nothing where it leads nowhere.
-    fn follow(&self, krate: &str, path: &[String]) -> Option<Vec<(&Source, &Function)>> {
+    pub fn follow(&self, krate: &str, path: &[String]) -> Option<Vec<(&Source, &Function)>> {
         let (name, first) = (path.last()?, path.first()?.as_str());
         let inside = self.sources.iter().any(|source| source.krate == krate && source.module == first);
         let (krate, module) = match first {

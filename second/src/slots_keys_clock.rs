@@ -98,12 +98,17 @@ impl Engine {
             return self.note_off(tables, channel, key);
         }
         let started = self.layers_to_start(tables, lent, channel, key, velocity)?;
-        self.cut_classes(channel, &started);
+        self.strike(channel, key, velocity, &started);
+        Ok(started.len() as u32)
+    }
+
+    /// The strike itself, once nothing refuses it: classes are cut, and each layer starts in a slot.
+    pub fn strike(&mut self, channel: u8, key: u8, velocity: u8, started: &[Numbers]) {
+        self.cut_classes(channel, started);
         let first_of_this_note = self.started;
-        for numbers in &started {
+        for numbers in started {
             self.start(channel, key, velocity, *numbers, first_of_this_note);
         }
-        Ok(started.len() as u32)
     }
 
     /// The layers of a strike, or the refusal: 1, 3, 4, 8 in this order.

@@ -29,7 +29,7 @@ abbrev outcome : Answered → List Float → Outcome
 outcome a l = record { answer = a; output = l }
 
 pub calls-determined : D.CallsDetermined
-calls-determined x e o p h k = ap₂ outcome (h .answer ∙ sym (k .answer)) (h .output ∙ sym (k .output))
+calls-determined x e o p h k = ap₂ outcome (h .0 ∙ sym (k .0)) (h .1 ∙ sym (k .1))
 
 pub panel-determined : D.PanelDetermined
 panel-determined slot e = equation Shown (StateBoard.ask slot e)
@@ -70,7 +70,7 @@ abbrev step : Listed → ℕ → Step
 step l p = record { listed = l; place = p }
 
 pub step-from-determined : D.StepFromDetermined
-step-from-determined bank at a b h k = ap₂ step (h .listed ∙ sym (k .listed)) (h .place ∙ sym (k .place))
+step-from-determined bank at a b h k = ap₂ step (h .0 ∙ sym (k .0)) (h .1 ∙ sym (k .1))
 
 -- ---- records
 pub window-determined : D.WindowDetermined

@@ -1,4 +1,5 @@
--- Voices and runs of calls drawn by chance, with what a second program says of them; each is computed here by the definitions.
+-- Voices and runs of calls drawn by chance, with what the second program says of them; each is computed here by the definitions.
+-- Made by: (cd second && cargo build --release --offline) && second/target/release/second make crates
 use Prim.Native.Nat.{ℕ, _+_, _*_}
 use mathlib.Core.List.{List, [], _∷_}
 use lib.IntN.{ℤ, pos, negℤ}

@@ -1,4 +1,4 @@
--- Any two outcomes that a contract allows are one: the answer, the state and all of the output.
+-- Any two outcomes that a contract allows are one: the answer, the state and all of the output. A contract stands behind `λ` as in the source; tools/contracts compares it with the functions that `contract of` names.
 use mathlib.Core.Path.{_≡_}
 use mathlib.Core.List.{List}
 use lib.Ieee.{Float}
@@ -27,6 +27,10 @@ use Rattle.state.specs.Quiet as StateQuiet
 abbrev pub Settles : (A : Type 0) → (A → Type 0) → Type 0
 Settles A allows = (a b : A) → allows a → allows b → a ≡ b
 
+-- the same for a borrowed part: what any two hold is one (where it lies is not said: docs/CONTRACTS.md, "Exceptions")
+abbrev pub SettlesNow : (A : Type 0) → (RefT A → Type 0) → Type 0
+SettlesNow A allows = (a b : RefT A) → allows a → allows b → now a ≡ now b
+
 -- ---- engine: the calls that hand the state on
 
 -- what a call of note_on, note_off, control_change, program_change, pitch_bend or render leaves: number, count and state, and the lent output
@@ -34,85 +38,94 @@ pub record Outcome : Type 0 where
   pub answer : Answered
   pub output : List Float
 
--- their contracts: the answer is that of the definition, and so is all of the output
-pub record Allowed (x : Call) (e : Engine) (o : Outcome) : Type 0 where
-  pub answer : o .answer ≡ does x e
-  pub output : o .output ≡ written x e
-
--- any two outcomes of a call are one, refused or done
+-- any two outcomes of a call are one, refused or done: the answer is that of the definition, and so is all of the output
+-- contract of events::note_on(e, bank, ram, rom, channel, key, velocity), as NoteOn bank ram rom channel key velocity
+-- contract of events::note_off(e, channel, key), as NoteOff channel key
+-- contract of events::control_change(e, channel, control, value), as Control channel control value
+-- contract of events::program_change(e, channel, program), as Program channel program
+-- contract of events::pitch_bend(e, channel, bend), as Bend channel bend
+-- contract of engine::render(e, ram, rom, out, to), as Render to ram rom out
 abbrev pub CallsDetermined : Type 0
-CallsDetermined = (x : Call) (e : Engine) → Settles Outcome (Allowed x e)
+CallsDetermined = (x : Call) (e : Engine) → Settles Outcome (λ o. (o .answer ≡ does x e) × (o .output ≡ written x e))
 
--- ---- engine: the others, which touch no state
+-- ---- state and engine: the others, which touch no state
 
--- panel: what the slot is in, or the refusal
+-- what the slot is in, or the refusal
+-- contract of state::panel(e, slot)
 abbrev pub PanelDetermined : Type 0
 PanelDetermined = (slot : ℕ) (e : Engine) → Settles Shown (λ r. r ≡ StateBoard.ask slot e)
 
--- voice_count: how many voices sound
+-- how many voices sound
+-- contract of state::voice_count(e)
 abbrev pub VoiceCountDetermined : Type 0
 VoiceCountDetermined = (e : Engine) → Settles ℕ (λ r. r ≡ StateBoard.voiceCount e)
 
--- fresh: the state at the beginning
+-- the state at the beginning
+-- contract of state::fresh()
 abbrev pub FreshDetermined : Type 0
 FreshDetermined = Settles Engine (λ r. r ≡ StateQuiet.fresh)
 
--- admit, and with the same contract bank's admission_number and reader's opens: 01's number for a bank
+-- 01's number for a bank
+-- contract of engine::admit(bank)
+-- contract of bank::admission_number(bank)
+-- contract of reader::opens(bank)
 abbrev pub AdmitDetermined : Type 0
 AdmitDetermined = (bank : List ℕ) → Settles ℕ (λ r. r ≡ faultNumber (faultOf bank))
 
--- list, and with the same contract bank's listed_at: what stands at a place of the listing
+-- what stands at a place of the listing
+-- contract of engine::list(bank, place)
+-- contract of bank::listed_at(bank, place)
 abbrev pub ListDetermined : Type 0
 ListDetermined = (bank : List ℕ) (place : ℕ) → Settles Listed (λ r. r ≡ listed bank place)
 
 -- ---- bank
 
--- admission: the first fault of the first kind, or none
+-- the first fault of the first kind, or none
+-- contract of bank::admission(bank)
 abbrev pub AdmissionDetermined : Type 0
 AdmissionDetermined = (bank : List ℕ) → Settles Fault (λ r. r ≡ faultOf bank)
 
--- number_of: 01's number for a fault
+-- 01's number for a fault
+-- contract of bank::number_of(f)
 abbrev pub NumberOfDetermined : Type 0
 NumberOfDetermined = (f : Fault) → Settles ℕ (λ r. r ≡ faultNumber f)
 
--- admitted: whether the number is 0
+-- whether the number is 0
+-- contract of bank::admitted(bank)
 abbrev pub AdmittedDetermined : Type 0
 AdmittedDetermined = (bank : List ℕ) → Settles Bool (λ r. r ≡ admitted bank)
 
 -- ---- reader
 
--- open: 01's number, and the reader at record 0 over the very slice that was lent
+-- 01's number, and the reader at record 0 over the very slice that was lent
+-- contract of reader::open(bank)
 abbrev pub OpenDetermined : Type 0
 OpenDetermined = (bank : RefT (List ℕ)) → Settles Opened (λ r. r ≡ openedOf bank)
 
--- next: what stands at the reader's place, and the reader behind it, over the same slice
+-- what stands at the reader's place, and the reader behind it, over the same slice
+-- contract of reader::next(r)
 abbrev pub NextDetermined : Type 0
 NextDetermined = (r : Reader) → Settles Taken (λ n. n ≡ nextOf r)
 
--- nth: what the k-th next from opening gives
+-- what the k-th next from opening gives
+-- contract of reader::nth(bank, k)
 abbrev pub NthDetermined : Type 0
 NthDetermined = (bank : List ℕ) (k : ℕ) → Settles Listed (λ r. r ≡ nthListed bank k)
 
--- the contract of step_from: what stands at a place, and the place of the next
-pub record AllowedStep (bank : List ℕ) (at : ℕ) (r : Step) : Type 0 where
-  pub listed : r .listed ≡ listed bank at
-  pub place : r .place ≡ further bank at
-
--- step_from: the work of a next, on slice and number
+-- the work of a next, on slice and number: what stands at a place, and the place of the next
+-- contract of reader::step_from(bank, at)
 abbrev pub StepFromDetermined : Type 0
-StepFromDetermined = (bank : List ℕ) (at : ℕ) → Settles Step (AllowedStep bank at)
+StepFromDetermined =
+    (bank : List ℕ) (at : ℕ) → Settles Step (λ r. (r .listed ≡ listed bank at) × (r .place ≡ further bank at))
 
 -- ---- records
 
--- the contract of window_of: the samples of the part that it hands back
-abbrev pub AllowedWindow : List ℤ → List ℤ → Bool → ℕ → ℕ → RefT (List ℤ) → Type 0
-AllowedWindow ram rom in-rom start end r = now r ≡ partOf (cond in-rom rom ram) start end
-
--- any two windows have the same length and the same samples; of a borrowed part the contract does not say where it lies (docs/CONTRACTS.md, "Exceptions")
+-- the length and the samples of the part that it hands back
+-- contract of records::window_of(ram, rom, in-rom, start, end)
 abbrev pub WindowDetermined : Type 0
 WindowDetermined =
-    (ram rom : List ℤ) (in-rom : Bool) (start end : ℕ) (a b : RefT (List ℤ))
-    → AllowedWindow ram rom in-rom start end a → AllowedWindow ram rom in-rom start end b → now a ≡ now b
+    (ram rom : List ℤ) (in-rom : Bool) (start end : ℕ)
+    → SettlesNow (List ℤ) (λ r. now r ≡ partOf (cond in-rom rom ram) start end)
 
 -- ---- any public function
 

@@ -1,4 +1,5 @@
--- Examples: what a small voice gives in some frames, or where it stands after them, in numbers; each is checked by computing.
+-- Examples: what a small voice gives in some frames, or where it stands after them, in numbers of the second program; each is checked by computing.
+-- Made by: (cd second && cargo build --release --offline) && second/target/release/second make crates
 use mathlib.Core.List.{List, [], _∷_}
 use lib.IntN.{ℤ, pos, negℤ}
 use Prim.Native.Nat.{ℕ}
@@ -62,33 +63,32 @@ heard n s = heardAt (step channel (s .voice)) (loss channel (s .voice)) window n
 -- delay, attack, hold, decay, sustain in a loop
 looping :
     heard 9 (sounds (bell 1 4 1 3 1 4 2 (pos 700)))
-    ≡ pos 0 ∷ pos 0 ∷ pos 0 ∷ pos 0 ∷ pos 475989 ∷ pos 713983 ∷ negℤ (pos 2222490) ∷ negℤ (pos 3333735) ∷ pos 1416908 ∷ pos 2125363
-    ∷ negℤ (pos 3311924) ∷ negℤ (pos 4967885) ∷ pos 118287 ∷ pos 177430 ∷ negℤ (pos 155678) ∷ negℤ (pos 233516) ∷ pos 65989 ∷ pos 98984 ∷ []
-unfolding heardAt afterAt frameAt living readAndMoved goOn loud reading behind gained leftOf rightOf gainOf cbOf loss step pitchTotal bendCents stepOf folds fold settled ended levelAt decayAt releaseAt fromDelay fromAttack fromHold fromDecay
+    ≡ pos 0 ∷ pos 0 ∷ pos 0 ∷ pos 0 ∷ pos 475989 ∷ pos 713983 ∷ negℤ (pos 2222490) ∷ negℤ (pos 3333735) ∷ pos 1416908 ∷ pos 2125363 ∷ negℤ (pos 3311924) ∷ negℤ (pos 4967885) ∷ pos 118287 ∷ pos 177430 ∷ negℤ (pos 155678) ∷ negℤ (pos 233516) ∷ pos 65989 ∷ pos 98984 ∷ []
+unfolding heardAt afterAt after frame frameAt living readAndMoved goOn loud reading behind gained leftOf rightOf gainOf cbOf loss step pitchTotal bendCents stepOf folds fold settled ended levelAt decayAt releaseAt fromDelay fromAttack fromHold fromDecay release leastCb above
 looping = refl
 
 -- released in attack, free at the third frame of its release
 letting :
     heard 4 (sounds (release (after channel window 2 (sounds (bell 1 4 1 3 1 4 2 (pos 700))) .voice)))
     ≡ pos 707486 ∷ pos 1061230 ∷ negℤ (pos 5224) ∷ negℤ (pos 7835) ∷ pos 0 ∷ pos 0 ∷ pos 0 ∷ pos 0 ∷ []
-unfolding heardAt after afterAt frame frameAt living readAndMoved goOn loud reading behind gained leftOf rightOf gainOf cbOf loss step pitchTotal bendCents stepOf folds fold settled ended levelAt decayAt releaseAt fromDelay fromAttack fromHold fromDecay release leastCb above
+unfolding heardAt afterAt after frame frameAt living readAndMoved goOn loud reading behind gained leftOf rightOf gainOf cbOf loss step pitchTotal bendCents stepOf folds fold settled ended levelAt decayAt releaseAt fromDelay fromAttack fromHold fromDecay release leastCb above
 letting = refl
 
 -- no loop: freed at its end, and silent from there
 ending :
     heard 6 (sounds (bell 0 4 0 0 0 0 2 (pos 700)))
     ≡ pos 4844 ∷ pos 7267 ∷ pos 67564 ∷ pos 101346 ∷ negℤ (pos 157737) ∷ negℤ (pos 236605) ∷ pos 30208 ∷ pos 45313 ∷ pos 0 ∷ pos 0 ∷ pos 0 ∷ pos 0 ∷ []
-unfolding heardAt after afterAt frame frameAt living readAndMoved goOn loud reading behind gained leftOf rightOf gainOf cbOf loss step pitchTotal bendCents stepOf folds fold settled ended levelAt decayAt releaseAt fromDelay fromAttack fromHold fromDecay
+unfolding heardAt afterAt after frame frameAt living readAndMoved goOn loud reading behind gained leftOf rightOf gainOf cbOf loss step pitchTotal bendCents stepOf folds fold settled ended levelAt decayAt releaseAt fromDelay fromAttack fromHold fromDecay release leastCb above
 ending = refl
 
 -- a loop of two samples and a step of sixteen
 folding : after channel window 3 (sounds (bell 1 3 0 0 0 0 2 (pos 4800))) .voice .place ≡ 33554432
-unfolding after frame frameAt living readAndMoved goOn loud reading behind gained leftOf rightOf gainOf cbOf loss step pitchTotal bendCents stepOf folds fold settled ended levelAt decayAt releaseAt fromDelay fromAttack fromHold fromDecay
+unfolding heardAt afterAt after frame frameAt living readAndMoved goOn loud reading behind gained leftOf rightOf gainOf cbOf loss step pitchTotal bendCents stepOf folds fold settled ended levelAt decayAt releaseAt fromDelay fromAttack fromHold fromDecay release leastCb above
 folding = refl
 
 -- mode 3 folds until it is released, and then runs to its end
 mode3 :
     heard 3 (sounds (release (after channel window 3 (sounds (bell 3 4 0 0 0 4 5 (pos 700))) .voice)))
     ≡ pos 67041 ∷ pos 100561 ∷ negℤ (pos 15671) ∷ negℤ (pos 23506) ∷ pos 304 ∷ pos 456 ∷ []
-unfolding heardAt after afterAt frame frameAt living readAndMoved goOn loud reading behind gained leftOf rightOf gainOf cbOf loss step pitchTotal bendCents stepOf folds fold settled ended levelAt decayAt releaseAt fromDelay fromAttack fromHold fromDecay release leastCb above
+unfolding heardAt afterAt after frame frameAt living readAndMoved goOn loud reading behind gained leftOf rightOf gainOf cbOf loss step pitchTotal bendCents stepOf folds fold settled ended levelAt decayAt releaseAt fromDelay fromAttack fromHold fromDecay release leastCb above
 mode3 = refl

@@ -1,4 +1,5 @@
-//! The maker of the stored cases and their traces; the same bytes on each run.
+//! The maker of the stored cases and their traces, and of the examples that the prover computes; the same bytes on each
+//! run.
 //!
 //! What the cases must reach, and the functions that write the cases for it:
 //!
@@ -29,6 +30,7 @@
 //!   listing_cases; faults of two kinds, and several of one kind: fault_cases
 //! - how many voices sound (u): count_cases
 //! - the numbers of each layer's voice (h): strike_cases; values of the tables: number_lines
+//! - what the prover computes by the definitions: proof_examples, over the voices and runs of drawn
 
 mod admission;
 mod bad_cases;
@@ -36,12 +38,14 @@ pub mod bank_builder;
 pub mod chance;
 pub mod chance_cases;
 mod count_cases;
+mod drawn;
 mod fault_cases;
 mod key_cases;
 mod layer_cases;
 mod listing_cases;
 mod number_lines;
 mod numbers_of_table;
+mod proof_examples;
 pub mod script;
 mod strike_cases;
 mod value_cases;
@@ -53,7 +57,7 @@ use std::fs;
 use std::io;
 use std::path::Path;
 
-/// Writes drive/ and numbers/ into the directory.
+/// Writes drive/, numbers/ and the examples of promises/ and voice/ into the directory.
 pub fn write_all(directory: &Path) -> io::Result<()> {
     let script = all_cases();
     write_case(&directory.join("drive"), "stdin", "stdout", &script.bytes)?;
@@ -62,7 +66,9 @@ pub fn write_all(directory: &Path) -> io::Result<()> {
         write_case(&directory.join("drive/bad"), &case, &trace, &bytes)?;
     }
     let numbers = number_lines::lines();
-    write_file(&directory.join("numbers/stdout"), numbers.as_bytes())
+    write_file(&directory.join("numbers/stdout"), numbers.as_bytes())?;
+    write_file(&directory.join("promises/proofs/Runs.antt"), proof_examples::runs().as_bytes())?;
+    write_file(&directory.join("voice/proofs/Examples.antt"), proof_examples::examples().as_bytes())
 }
 
 /// A case and the trace that playing it gives.
