@@ -19,7 +19,7 @@ together [] = 0
 together (n ∷ ns) = n + together ns
 
 -- a run of pieces of such lengths, each with an output of its own that has room, over the same memories; before, between and
--- behind them the panel may ask, and any call may be refuses (admission and listing are handed no state: they may come anywhere)
+-- behind them the panel may ask, and any call may be refused (admission and listing are handed no state: they may come anywhere)
 pub data Pieces (ram rom : List ℤ) : List Call → List ℕ → Engine → Type 0 where
   none : {e : Engine} → Pieces ram rom [] [] e
   asks : {xs : List Call} {ns : List ℕ} {e : Engine} (slot : ℕ) → Pieces ram rom xs ns e → Pieces ram rom (Ask slot ∷ xs) ns e
