@@ -1,4 +1,5 @@
 pub mod Age
+pub mod AgeLaws
 pub mod Banks
 pub mod Cuts
 pub mod Demand1
