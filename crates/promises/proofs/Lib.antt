@@ -11,6 +11,7 @@ pub mod EachSlot
 pub mod Frames
 pub mod Kept
 pub mod Night
+pub mod NightExample
 pub mod Output
 pub mod Panel
 pub mod Runs

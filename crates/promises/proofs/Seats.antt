@@ -589,7 +589,7 @@ struck-is b ram rom c k v e n = by (pastTwo c k v) (eqb v 0) refl (eqb number 0)
     by false false p false m r h = absurd (eqb-false m 0 r h)
 
 -- the voices that it starts
-begun-is : (b : List ℕ) (ram rom : List ℤ) (c k v : ℕ) (e : Engine) → (v ≡ 0 → ⊥) → does (Calls.NoteOn b ram rom c k v) e .status ≡ 0
+pub begun-is : (b : List ℕ) (ram rom : List ℤ) (c k v : ℕ) (e : Engine) → (v ≡ 0 → ⊥) → does (Calls.NoteOn b ram rom c k v) e .status ≡ 0
     → begun (Calls.NoteOn b ram rom c k v) e ≡ layerVoices (bankFrom b) c k v e
 begun-is b ram rom c k v e n h = rw (eq-eqb (does (Calls.NoteOn b ram rom c k v) e .status) 0 h, ne-eqb v 0 n) refl
 
