@@ -128,11 +128,15 @@ unfolding fresh
 fresh-older i j li lj d = up-older i j 0 32 (omega arith) (omega arith) (omega arith) (omega arith) d
 
 -- start by start from the fresh order on
-pub order-age : OrderIsAge
-order-age xs = (
+run-aged : (xs : List Call) → OfAge (history xs fresh) (run xs fresh .order)
+run-aged xs = (
   ordered-run xs,
   λ i j li lj d. run-older i j li lj d xs fresh fresh-ordered ∙ ap (startedLast (history xs fresh) i j) (fresh-older i j li lj d),
 )
+
+-- after any run
+pub order-age : OrderIsAge
+order-age xs = run-aged xs
 
 -- ---- inside a call
 
@@ -151,13 +155,13 @@ start-aged past v x h =
           ∙ sym (last-append past (s ∷ []) i j (ltb i j)),
     )
 
-layers-aged : (past : List ℕ) (vs : List Voice) (x : Started) → OfAge past (x .engine .order) → AgedLayers past vs x
-layers-aged past [] x h = tt
-layers-aged past (v ∷ vs) x h = (h, layers-aged (past ++ (seat (x .engine) (x .mine) ∷ [])) vs (start v x) (start-aged past v x h))
-
--- freeing rivals moves no slot in the order
+-- layer by layer; freeing the rivals moves no slot in the order
 pub layers-age : LayersAge
 unfolding cleared
 layers-age xs x =
-    layers-aged (history xs fresh) (begun x (run xs fresh)) (record { engine = cleared (channelOf x) (begun x (run xs fresh)) (run xs fresh); mine = 0 })
-    (order-age xs)
+    layers (history xs fresh) (begun x (run xs fresh)) (record { engine = cleared (channelOf x) (begun x (run xs fresh)) (run xs fresh); mine = 0 })
+    (run-aged xs)
+  where
+    layers : (past : List ℕ) (vs : List Voice) (y : Started) → OfAge past (y .engine .order) → AgedLayers past vs y
+    layers past [] y h = tt
+    layers past (v ∷ vs) y h = (h, layers (past ++ (seat (y .engine) (y .mine) ∷ [])) vs (start v y) (start-aged past v y h))

@@ -386,7 +386,7 @@ key-released c k b xs e hc hk h q marks up i on p r =
     let y = run xs e in
     let down = honest-run xs e marks i on in
     let n : voiceIn i y .marked ≡ true → ⊥ = λ m. never (sym up ∙ subst (λ (d : ℕ). pedalDown y d ≡ true) p (down m)) in
-    let-off c k (slotAt y i) on p r (key-left c k b xs e hc hk h q i) n
+    let-off c k (slotAt y i) on p r (gone-run c k hc hk xs e b h q i) n
 
 -- ---- the October night
 

@@ -19,12 +19,13 @@ use Rattle.state.specs.Answers.{done}
 use Rattle.state.specs.declared.Answered.{Answered}
 use Rattle.voice.specs.Changes.{blank, withStage}
 use Rattle.promises.proofs.Seats.{begun-is}
+use Rattle.promises.proofs.EachSlot.{never}
 use Rattle.promises.proofs.Output.{cuts}
-use Rattle.promises.proofs.Night.{october, free-in-time, night-ends}
+use Rattle.promises.proofs.Night.{key-left, october, free-in-time, night-ends}
 use Rattle.state.specs.Quiet.{freshChannel, upFrom, fresh}
 use Rattle.events.specs.Keys.{heldKey}
 use Rattle.promises.specs.Calls.{Call, NoteOn, NoteOff, Render, does, run, begun, startsIn, next, history, framesRun, voiceIn, seats, among}
-use Rattle.promises.specs.Night.{Piece, ends, left, right, Overlap, quiet, more, struckAfter, NoPedal, AllReleased, longest, longestRelease}
+use Rattle.promises.specs.Night.{Piece, ends, left, right, Overlap, quiet, more, struckAfter, NotHeld, NoPedal, AllReleased, longest, longestRelease}
 use Rattle.promises.proofs.Demand3Example.{bell, ram, struckBell}
 use Rattle.curves.specs.Levels as CurvesLevels
 use Rattle.curves.specs.Times as CurvesTimes
@@ -138,6 +139,16 @@ bell-overlaps =
       release = refl;
       frames = refl;
     }
+
+-- the frames of the longest release are 8,000 timecents
+pub longest-frames : CurvesTimes.frames (pos 8000) (pos 8000) ≡ 4480280
+unfolding CurvesTimes.frames CurvesTimes.framesUp
+longest-frames = refl
+
+-- from a state that holds two voices of a key: its note-off leaves none held
+pub bell-left : NotHeld 0 60 (run (NoteOff 0 60 ∷ []) (run twice fresh))
+unfolding struckAfter
+bell-left = key-left 0 60 true (NoteOff 0 60 ∷ []) (run twice fresh) (omega arith) (omega arith) (λ z. absurd (never (sym z))) refl
 
 -- so the night is one of those that the theorems speak of: both voices are released,
 pub bell-released : AllReleased (run night fresh)
