@@ -279,24 +279,24 @@ marked-is : (c : ℕ) (s : Slot) → s .sounding ≡ true → s .voice .channel 
 unfolding pedalHeld ofChannel
 marked-is c s a b d = rw (a, eq-eqb (s .voice .channel) c b, d) refl
 
-honest-call : (x : Call) (e : Engine) → MarksUnderPedal e → MarksUnderPedal (next x e)
-honest-call x e h i on m =
+marks-call : (x : Call) (e : Engine) → MarksUnderPedal e → MarksUnderPedal (next x e)
+marks-call x e h i on m =
     let c = voiceIn i (next x e) .channel in
     stays-down c e (was-down x e h i on m) x
     (λ l. never (sym (ap (λ (y : Call). pedalHeld c (slotAt (next y e) i)) (l .is) ∙ lifts c (l .value) e (l .range) (l .low) .none i)
     ∙ marked-is c (slotAt (next x e) i) on refl m))
 
-honest-run : (xs : List Call) (e : Engine) → MarksUnderPedal e → MarksUnderPedal (run xs e)
+marks-run : (xs : List Call) (e : Engine) → MarksUnderPedal e → MarksUnderPedal (run xs e)
 unfolding run
-honest-run [] e h = h
-honest-run (x ∷ xs) e h = honest-run xs (next x e) (honest-call x e h)
+marks-run [] e h = h
+marks-run (x ∷ xs) e h = marks-run xs (next x e) (marks-call x e h)
 
 fresh-marks : MarksUnderPedal fresh
 fresh-marks i on m = absurd (never (sym (fresh-free i) ∙ on))
 
 -- it is so at first, and no call breaks it
 pub no-mark : NoMarkWithoutPedal
-no-mark xs = honest-run xs fresh fresh-marks
+no-mark xs = marks-run xs fresh fresh-marks
 
 -- ---- one key
 
@@ -384,7 +384,7 @@ let-off c k s on p q h n = by (released (s .voice .stage)) refl (s .voice .marke
 pub key-released : KeyIsReleased
 key-released c k b xs e hc hk h q marks up i on p r =
     let y = run xs e in
-    let down = honest-run xs e marks i on in
+    let down = marks-run xs e marks i on in
     let n : voiceIn i y .marked ≡ true → ⊥ = λ m. never (sym up ∙ subst (λ (d : ℕ). pedalDown y d ≡ true) p (down m)) in
     let-off c k (slotAt y i) on p r (gone-run c k hc hk xs e b h q i) n
 

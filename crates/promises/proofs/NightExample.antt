@@ -30,9 +30,6 @@ use Rattle.promises.proofs.Demand3Example.{bell, ram, struckBell}
 use Rattle.curves.specs.Levels as CurvesLevels
 use Rattle.curves.specs.Times as CurvesTimes
 use Rattle.curves.specs.Pitch as CurvesPitch
-use Rattle.curves.specs.Internal.Pitch as CurvesInternalPitch
-use Rattle.curves.proofs.Tables as CurvesTables
-use Rattle.records.specs.Internal.Amounts as RecordsInternalAmounts
 use Rattle.arith.specs.Bytes as ArithBytes
 use Rattle.records.specs.Chunks as RecordsChunks
 use Rattle.records.specs.Looking as RecordsLooking
@@ -49,22 +46,16 @@ use Rattle.bank.specs.Links as BankLinks
 use Rattle.bank.specs.Rates as BankRates
 use Rattle.bank.specs.Bounds as BankBounds
 use Rattle.layers.specs.LayerSearch as LayersLayerSearch
-use Rattle.layers.proofs.LayerSearchLaws as LayersLayerSearchLaws
-use Rattle.layers.specs.Internal.LayerSearch as LayersInternalLayerSearch
 use Rattle.layers.specs.Ranges as LayersRanges
 use Rattle.totals.specs.Values as TotalsValues
 use Rattle.totals.specs.Settings as TotalsSettings
 use Rattle.layers.specs.Voicing as LayersVoicing
-use Rattle.layers.specs.Internal.Voicing as LayersInternalVoicing
 use Rattle.voice.specs.Frames as VoiceFrames
 use Rattle.voice.specs.Motion as VoiceMotion
 use Rattle.voice.specs.Release as VoiceRelease
-use Rattle.voice.specs.Internal.Frames as VoiceInternalFrames
 use Rattle.voice.specs.Stages as VoiceStages
-use Rattle.events.specs.Bends as EventsBends
 use Rattle.events.specs.Keys as EventsKeys
 use Rattle.state.specs.Slots as StateSlots
-use Rattle.events.specs.Controls as EventsControls
 use Rattle.events.specs.Striking as EventsStriking
 use Rattle.events.specs.Starting as EventsStarting
 use Rattle.engine.specs.Rendering as EngineRendering
@@ -127,7 +118,7 @@ pub record Overlapping : Type 0 where
   pub frames : framesRun morning (run night fresh) ≡ 44
 
 pub bell-overlaps : Overlapping
-unfolding CurvesLevels.gainOf CurvesLevels.cbOf CurvesLevels.above CurvesLevels.leastCb CurvesTimes.framesUp CurvesTimes.frames CurvesPitch.bendCents CurvesPitch.stepOf CurvesInternalPitch.stepAt CurvesTables.allLe RecordsInternalAmounts.pouredFrom RecordsInternalAmounts.poured ArithBytes.u8At ArithBytes.u16At ArithBytes.u32At ArithBytes.i8At ArithBytes.i16At RecordsChunks.chunkAt RecordsChunks.nameAt RecordsChunks.bytesIn RecordsChunks.body RecordsChunks.records RecordsLooking.first RecordsLooking.last RecordsSides.presets RecordsSides.instruments RecordsSides.partsOf RecordsSides.bagOf RecordsSides.genOf RecordsSides.modOf RecordsSides.operator RecordsSides.amount RecordsSides.signed RecordsHeaders.programOf RecordsHeaders.bankOf ArithHolds.between ArithHolds.betweenZ ArithFloors.modZ ArithHolds.word32 RecordsWindows.shifted RecordsWindows.placeMoved RecordsWindows.startOf RecordsWindows.endOf RecordsWindows.loopStartOf RecordsWindows.loopEndOf RecordsWindows.modeOf RecordsWindows.loops RecordsWindows.goodPlaces RecordsWindows.goodWindow RecordsHeaders.rateOf RecordsHeaders.romOf RecordsZones.zoneCount RecordsZones.genCount RecordsZones.has RecordsZones.closingOf RecordsZones.zoneAt RecordsZones.globalOf RecordsZones.lastOf RecordsZones.amountIn RecordsZones.value RecordsZones.zoneBelow RecordsZones.firstZone BankAdmission.longFault BankFraming.badChunk BankFraming.chunkFault BankFraming.badRecords BankFraming.recordsFault BankIndexes.fallsAt BankIndexes.endsWrong BankIndexes.badAt BankIndexes.badHead BankIndexes.badBag BankIndexes.headFault BankIndexes.bagFault BankIndexes.indexFault BankLinks.badNumber BankLinks.zoneLinkAt BankLinks.linkFault BankLinks.numberFault BankRates.namesSample BankRates.badRate BankRates.rateFault BankBounds.badWindow BankBounds.windowFault BankAdmission.faultOf BankAdmission.admitted LayersLayerSearch.isPreset LayersLayerSearch.presetFor LayersLayerSearch.picked LayersLayerSearch.chosen LayersLayerSearch.under LayersLayerSearch.allUnder LayersLayerSearch.layersBelow LayersLayerSearch.layersOf LayersLayerSearchLaws.layerCount LayersInternalLayerSearch.upTo33 LayersInternalLayerSearch.searched LayersLayerSearch.layerOf LayersRanges.rangeAt LayersRanges.inside LayersRanges.hasAs LayersRanges.keyRange LayersRanges.velocityRange LayersRanges.matches TotalsValues.instrumentOnly TotalsValues.defaultOf TotalsValues.heldTotal TotalsValues.totalOf TotalsValues.total TotalsSettings.ifMidi TotalsSettings.keyOf TotalsSettings.rootOf TotalsSettings.pitchOf TotalsSettings.keyedTime TotalsSettings.softness TotalsSettings.attenuationOf TotalsSettings.playMode LayersVoicing.voiceBy LayersVoicing.voiceOf LayersVoicing.voicesOf LayersVoicing.hasPreset LayersVoicing.struckVoices LayersInternalVoicing.struckOf VoiceFrames.goOn VoiceFrames.loud VoiceFrames.readAndMoved VoiceFrames.living VoiceFrames.frameAt VoiceFrames.frame VoiceMotion.pitchTotal VoiceMotion.step VoiceMotion.folds VoiceMotion.fold VoiceMotion.settled VoiceMotion.ended VoiceRelease.release VoiceFrames.after VoiceInternalFrames.heard VoiceInternalFrames.afterAt VoiceInternalFrames.heardAt VoiceStages.levelAt VoiceStages.decayAt VoiceStages.releaseAt VoiceStages.fromDecay VoiceStages.fromHold VoiceStages.fromAttack VoiceStages.fromDelay EventsBends.pitchBend EventsKeys.pedalHeld StateSlots.cut EventsControls.pedal EventsControls.silence EventsControls.controlled EventsControls.controlChange EventsStriking.bankFrom StateSlots.ofChannel EventsKeys.held EventsKeys.heldKey EventsKeys.letOff EventsKeys.off EventsKeys.offKey EventsKeys.noteOff EventsStriking.channelBank EventsStarting.anyPast EventsStarting.classIn EventsStarting.rival EventsStarting.start EventsStarting.startAll EventsStarting.cleared EventsStarting.struck EventsStriking.noteOnNumber EventsStriking.noteOn EngineRendering.distance EngineRendering.window EngineRendering.lacking EngineRendering.renderNumber EngineRendering.played EngineRendering.render StateSeats.lowestFree StateSeats.claim StateSeats.leastBy StateSeats.taken StateSeats.seat StateSeats.without StateSeats.renewed StateSeats.startIn StateSlots.paired StateSlots.wordOf StateQuiet.fresh run framesRun seats among longest
+unfolding CurvesLevels.gainOf CurvesLevels.cbOf CurvesLevels.above CurvesLevels.leastCb CurvesTimes.framesUp CurvesTimes.frames CurvesPitch.bendCents CurvesPitch.stepOf ArithBytes.u8At ArithBytes.u16At ArithBytes.u32At ArithBytes.i8At ArithBytes.i16At RecordsChunks.chunkAt RecordsChunks.nameAt RecordsChunks.bytesIn RecordsChunks.body RecordsChunks.records RecordsLooking.first RecordsLooking.last RecordsSides.presets RecordsSides.instruments RecordsSides.partsOf RecordsSides.bagOf RecordsSides.genOf RecordsSides.modOf RecordsSides.operator RecordsSides.amount RecordsSides.signed RecordsHeaders.programOf RecordsHeaders.bankOf ArithHolds.between ArithHolds.betweenZ ArithFloors.modZ ArithHolds.word32 RecordsWindows.shifted RecordsWindows.placeMoved RecordsWindows.startOf RecordsWindows.endOf RecordsWindows.loopStartOf RecordsWindows.loopEndOf RecordsWindows.modeOf RecordsWindows.loops RecordsWindows.goodPlaces RecordsWindows.goodWindow RecordsHeaders.rateOf RecordsHeaders.romOf RecordsZones.zoneCount RecordsZones.genCount RecordsZones.has RecordsZones.closingOf RecordsZones.zoneAt RecordsZones.globalOf RecordsZones.lastOf RecordsZones.amountIn RecordsZones.value RecordsZones.zoneBelow RecordsZones.firstZone BankAdmission.longFault BankFraming.badChunk BankFraming.chunkFault BankFraming.badRecords BankFraming.recordsFault BankIndexes.fallsAt BankIndexes.endsWrong BankIndexes.badAt BankIndexes.badHead BankIndexes.badBag BankIndexes.headFault BankIndexes.bagFault BankIndexes.indexFault BankLinks.badNumber BankLinks.zoneLinkAt BankLinks.linkFault BankLinks.numberFault BankRates.namesSample BankRates.badRate BankRates.rateFault BankBounds.badWindow BankBounds.windowFault BankAdmission.faultOf BankAdmission.admitted LayersLayerSearch.isPreset LayersLayerSearch.presetFor LayersLayerSearch.picked LayersLayerSearch.chosen LayersLayerSearch.under LayersLayerSearch.allUnder LayersLayerSearch.layersBelow LayersLayerSearch.layersOf LayersLayerSearch.layerOf LayersRanges.rangeAt LayersRanges.inside LayersRanges.hasAs LayersRanges.keyRange LayersRanges.velocityRange LayersRanges.matches TotalsValues.instrumentOnly TotalsValues.defaultOf TotalsValues.heldTotal TotalsValues.totalOf TotalsValues.total TotalsSettings.ifMidi TotalsSettings.keyOf TotalsSettings.rootOf TotalsSettings.pitchOf TotalsSettings.keyedTime TotalsSettings.softness TotalsSettings.attenuationOf TotalsSettings.playMode LayersVoicing.voiceBy LayersVoicing.voiceOf LayersVoicing.voicesOf LayersVoicing.hasPreset LayersVoicing.struckVoices VoiceFrames.goOn VoiceFrames.loud VoiceFrames.readAndMoved VoiceFrames.living VoiceFrames.frameAt VoiceFrames.frame VoiceMotion.pitchTotal VoiceMotion.step VoiceMotion.folds VoiceMotion.fold VoiceMotion.settled VoiceMotion.ended VoiceRelease.release VoiceFrames.after VoiceStages.levelAt VoiceStages.decayAt VoiceStages.releaseAt VoiceStages.fromDecay VoiceStages.fromHold VoiceStages.fromAttack VoiceStages.fromDelay StateSlots.cut EventsStriking.bankFrom StateSlots.ofChannel EventsKeys.held EventsKeys.heldKey EventsKeys.letOff EventsKeys.off EventsKeys.offKey EventsKeys.noteOff EventsStriking.channelBank EventsStarting.anyPast EventsStarting.classIn EventsStarting.rival EventsStarting.start EventsStarting.startAll EventsStarting.cleared EventsStarting.struck EventsStriking.noteOnNumber EventsStriking.noteOn EngineRendering.distance EngineRendering.window EngineRendering.lacking EngineRendering.renderNumber EngineRendering.played EngineRendering.render StateSeats.lowestFree StateSeats.claim StateSeats.leastBy StateSeats.taken StateSeats.seat StateSeats.without StateSeats.renewed StateSeats.startIn StateSlots.paired StateSlots.wordOf StateQuiet.fresh run framesRun seats among longest
 bell-overlaps =
     record {
       two-held = refl;
@@ -223,7 +214,7 @@ record Cast : Type 0 where
   layers : LayersVoicing.struckVoices peal 0 0 0 60 100 ≡ replicate 11 layer
 
 cast : Cast
-unfolding CurvesLevels.gainOf CurvesLevels.cbOf CurvesLevels.above CurvesLevels.leastCb CurvesTimes.framesUp CurvesTimes.frames CurvesPitch.bendCents CurvesPitch.stepOf CurvesInternalPitch.stepAt CurvesTables.allLe RecordsInternalAmounts.pouredFrom RecordsInternalAmounts.poured ArithBytes.u8At ArithBytes.u16At ArithBytes.u32At ArithBytes.i8At ArithBytes.i16At RecordsChunks.chunkAt RecordsChunks.nameAt RecordsChunks.bytesIn RecordsChunks.body RecordsChunks.records RecordsLooking.first RecordsLooking.last RecordsSides.presets RecordsSides.instruments RecordsSides.partsOf RecordsSides.bagOf RecordsSides.genOf RecordsSides.modOf RecordsSides.operator RecordsSides.amount RecordsSides.signed RecordsHeaders.programOf RecordsHeaders.bankOf ArithHolds.between ArithHolds.betweenZ ArithFloors.modZ ArithHolds.word32 RecordsWindows.shifted RecordsWindows.placeMoved RecordsWindows.startOf RecordsWindows.endOf RecordsWindows.loopStartOf RecordsWindows.loopEndOf RecordsWindows.modeOf RecordsWindows.loops RecordsWindows.goodPlaces RecordsWindows.goodWindow RecordsHeaders.rateOf RecordsHeaders.romOf RecordsZones.zoneCount RecordsZones.genCount RecordsZones.has RecordsZones.closingOf RecordsZones.zoneAt RecordsZones.globalOf RecordsZones.lastOf RecordsZones.amountIn RecordsZones.value RecordsZones.zoneBelow RecordsZones.firstZone BankAdmission.longFault BankFraming.badChunk BankFraming.chunkFault BankFraming.badRecords BankFraming.recordsFault BankIndexes.fallsAt BankIndexes.endsWrong BankIndexes.badAt BankIndexes.badHead BankIndexes.badBag BankIndexes.headFault BankIndexes.bagFault BankIndexes.indexFault BankLinks.badNumber BankLinks.zoneLinkAt BankLinks.linkFault BankLinks.numberFault BankRates.namesSample BankRates.badRate BankRates.rateFault BankBounds.badWindow BankBounds.windowFault BankAdmission.faultOf BankAdmission.admitted LayersLayerSearch.isPreset LayersLayerSearch.presetFor LayersLayerSearch.picked LayersLayerSearch.chosen LayersLayerSearch.under LayersLayerSearch.allUnder LayersLayerSearch.layersBelow LayersLayerSearch.layersOf LayersLayerSearchLaws.layerCount LayersInternalLayerSearch.upTo33 LayersInternalLayerSearch.searched LayersLayerSearch.layerOf LayersRanges.rangeAt LayersRanges.inside LayersRanges.hasAs LayersRanges.keyRange LayersRanges.velocityRange LayersRanges.matches TotalsValues.instrumentOnly TotalsValues.defaultOf TotalsValues.heldTotal TotalsValues.totalOf TotalsValues.total TotalsSettings.ifMidi TotalsSettings.keyOf TotalsSettings.rootOf TotalsSettings.pitchOf TotalsSettings.keyedTime TotalsSettings.softness TotalsSettings.attenuationOf TotalsSettings.playMode LayersVoicing.voiceBy LayersVoicing.voiceOf LayersVoicing.voicesOf LayersVoicing.hasPreset LayersVoicing.struckVoices LayersInternalVoicing.struckOf
+unfolding CurvesLevels.gainOf CurvesLevels.cbOf CurvesLevels.above CurvesLevels.leastCb CurvesTimes.framesUp CurvesTimes.frames CurvesPitch.bendCents CurvesPitch.stepOf ArithBytes.u8At ArithBytes.u16At ArithBytes.u32At ArithBytes.i8At ArithBytes.i16At RecordsChunks.chunkAt RecordsChunks.nameAt RecordsChunks.bytesIn RecordsChunks.body RecordsChunks.records RecordsLooking.first RecordsLooking.last RecordsSides.presets RecordsSides.instruments RecordsSides.partsOf RecordsSides.bagOf RecordsSides.genOf RecordsSides.modOf RecordsSides.operator RecordsSides.amount RecordsSides.signed RecordsHeaders.programOf RecordsHeaders.bankOf ArithHolds.between ArithHolds.betweenZ ArithFloors.modZ ArithHolds.word32 RecordsWindows.shifted RecordsWindows.placeMoved RecordsWindows.startOf RecordsWindows.endOf RecordsWindows.loopStartOf RecordsWindows.loopEndOf RecordsWindows.modeOf RecordsWindows.loops RecordsWindows.goodPlaces RecordsWindows.goodWindow RecordsHeaders.rateOf RecordsHeaders.romOf RecordsZones.zoneCount RecordsZones.genCount RecordsZones.has RecordsZones.closingOf RecordsZones.zoneAt RecordsZones.globalOf RecordsZones.lastOf RecordsZones.amountIn RecordsZones.value RecordsZones.zoneBelow RecordsZones.firstZone BankAdmission.longFault BankFraming.badChunk BankFraming.chunkFault BankFraming.badRecords BankFraming.recordsFault BankIndexes.fallsAt BankIndexes.endsWrong BankIndexes.badAt BankIndexes.badHead BankIndexes.badBag BankIndexes.headFault BankIndexes.bagFault BankIndexes.indexFault BankLinks.badNumber BankLinks.zoneLinkAt BankLinks.linkFault BankLinks.numberFault BankRates.namesSample BankRates.badRate BankRates.rateFault BankBounds.badWindow BankBounds.windowFault BankAdmission.faultOf BankAdmission.admitted LayersLayerSearch.isPreset LayersLayerSearch.presetFor LayersLayerSearch.picked LayersLayerSearch.chosen LayersLayerSearch.under LayersLayerSearch.allUnder LayersLayerSearch.layersBelow LayersLayerSearch.layersOf LayersLayerSearch.layerOf LayersRanges.rangeAt LayersRanges.inside LayersRanges.hasAs LayersRanges.keyRange LayersRanges.velocityRange LayersRanges.matches TotalsValues.instrumentOnly TotalsValues.defaultOf TotalsValues.heldTotal TotalsValues.totalOf TotalsValues.total TotalsSettings.ifMidi TotalsSettings.keyOf TotalsSettings.rootOf TotalsSettings.pitchOf TotalsSettings.keyedTime TotalsSettings.softness TotalsSettings.attenuationOf TotalsSettings.playMode LayersVoicing.voiceBy LayersVoicing.voiceOf LayersVoicing.voicesOf LayersVoicing.hasPreset LayersVoicing.struckVoices
 cast = record { admitted = refl; preset = refl; layers = refl }
 
 -- it rings 11 layers in any state whose channel 0 is as at first

@@ -45,8 +45,8 @@ struckAfter c k b (x ∷ xs) = struckAfter c k (cond (strikes c k x) true (cond 
 abbrev pub NotHeld : ℕ → ℕ → Engine → Type 0
 NotHeld c k e = (i : ℕ) → heldKey c k (slotAt e i) ≡ false
 
--- calls that leave the key behind the last time that they strike it: after them none of its voices is held, whatever was held
--- before (b is true) or if none was (b is false)
+-- after calls whose last strike of the key is followed by one that leaves it, no voice of it is held. Where b is true the state
+-- before may hold anything, and the calls have to leave the key; where b is false it holds no voice of the key
 abbrev pub KeyIsLeft : Type 0
 KeyIsLeft =
     (c k : ℕ) (b : Bool) (xs : List Call) (e : Engine) → c ≤ 15 → k ≤ 127 → (b ≡ false → NotHeld c k e)
@@ -57,7 +57,7 @@ abbrev pub MarksUnderPedal : Engine → Type 0
 MarksUnderPedal e =
     (i : ℕ) → slotAt e i .sounding ≡ true → voiceIn i e .marked ≡ true → pedalDown e (voiceIn i e .channel) ≡ true
 
--- if then the pedal is up, every voice of the key that still sounds is released
+-- and if then the pedal is up, every voice of the key that still sounds is released
 abbrev pub KeyIsReleased : Type 0
 KeyIsReleased =
     (c k : ℕ) (b : Bool) (xs : List Call) (e : Engine) → c ≤ 15 → k ≤ 127 → (b ≡ false → NotHeld c k e)
