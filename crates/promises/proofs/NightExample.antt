@@ -1,4 +1,4 @@
--- Nights that meet the conditions of `Night.antt`, computed: a piece run twice over itself, and a night in which voices are taken.
+-- Nights that meet the conditions of `Night.antt`, computed: a piece run twice over itself, a night in which voices are taken; and a render that is cut.
 use Prim.Native.Nat.{ℕ, _≤_, zero, suc, _+_, _*_}
 use mathlib.Core.List.{List, [], _∷_, _++_}
 use mathlib.Core.Bool.{Bool, true, false, cond}
