@@ -1,200 +1,167 @@
--- Moving a slot behind all others keeps the order an order, and makes it the newest.
-use Prim.Native.Nat.{ℕ, _<_, _+_, _≤_, suc, zero, _%_}
-use mathlib.Core.Bool.{Bool, true, false, cond}
-use mathlib.Core.List.{List, [], _∷_, _++_, map}
-use lib.Dec.{eqb}
+-- Age: `order` is the order of starting, after any run and before each layer of a call.
+use Prim.Native.Nat.{ℕ, _<_, _≤_, suc, zero, _+_}
 use mathlib.Core.Path.{_≡_, refl, sym, ap, _∙_}
+use mathlib.Core.Bool.{true, Bool, false, cond}
+use mathlib.Core.List.{List, _∷_, [], _++_}
+use mathlib.Core.Logic.{⊎-elim}
+use lib.Dec.{eqb, ltb}
+use lib.ListN.{length}
+use lib.IntN.{ℤ}
 use native.Mathlib.Omega.{arith}
-use native.Mathlib.Nat.{zero-add, suc-inj, suc-ne-zero, mod-eq-of-lt}
-use borrow.Author.Tests.{eqb-true, eqb-false, ne-eqb, eq-eqb}
-use lib.ListN.{length, take, length-append}
-use Rattle.state.specs.Seats.{without, renewed}
-use Rattle.promises.specs.Age.{Slots, Ordered, older}
-use Rattle.arith.specs.Lists.{countIf}
+use borrow.Author.Tests.{eqb-false, eqb-true, lt-ltb, le-ltb}
+use Rattle.voice.specs.declared.Voice.{Voice}
+use Rattle.state.specs.declared.Engine.{Engine}
+use Rattle.state.specs.declared.Answered.{Answered}
+use Rattle.state.specs.Seats.{seat}
+use Rattle.state.specs.Slots.{withClock}
+use Rattle.state.specs.Quiet.{upFrom, fresh}
+use Rattle.state.specs.Channels.{channelAt, withChannel}
+use Rattle.state.specs.Answers.{done, refused, answer, pastTwo, pastOne, pastBend}
+use Rattle.events.specs.Keys.{offKey, off, noteOff}
+use Rattle.events.specs.Controls.{pedal, silence, controlled, controlChange}
+use Rattle.events.specs.Programs.{withProgram, programChange}
+use Rattle.events.specs.Bends.{withBend, pitchBend}
+use Rattle.events.specs.Starting.{Started, start, startAll, cleared, struck}
+use Rattle.events.specs.Striking.{layerVoices, noteOnNumber, noteOn, bankFrom}
+use Rattle.engine.specs.Rendering.{distance, played, renderNumber, render}
+use Rattle.promises.specs.Calls.{Call, seats, begun, run, next, startsIn, history, channelOf}
+use Rattle.promises.specs.Age.{older, Ordered, startedLast, OfAge, OrderIsAge, AgedLayers, LayersAge}
+use Rattle.promises.proofs.AgeLaws.{renewed-ordered, renewed-older}
+use Rattle.promises.proofs.EachSlot.{either, answerAt, seatsAt}
+use Rattle.promises.proofs.Kept.{call-keeps}
+use Rattle.promises.proofs.Seats.{split, start-order, seat-slot, ordered-lasts, ordered-run, fresh-ordered}
+use Rattle.promises.specs.Calls as Calls
 
--- ---- without its first x, and with x at its end
+last-append : (xs ys : List ℕ) (i j : ℕ) (b : Bool) → startedLast (xs ++ ys) i j b ≡ startedLast ys i j (startedLast xs i j b)
+unfolding startedLast
+last-append [] ys i j b = refl
+last-append (x ∷ xs) ys i j b = last-append xs ys i j (cond (eqb x j) true (cond (eqb x i) false b))
 
-without-slots : (x : ℕ) (o : List ℕ) → Slots o → Slots (without x o)
-unfolding without
-without-slots x [] h = tt
-without-slots x (y ∷ o) h = by (eqb y x) (without-slots x o (h .1))
+told : (e : Engine) (n : ℕ) (a : Answered) → a .engine .order ≡ e .order → answer n e a .engine .order ≡ e .order
+told e n a k = either (λ (x : Answered). x .engine .order ≡ e .order) (eqb n 0) a (refused n e) k refl
+
+control-order : (c n v : ℕ) (e : Engine) → controlled c n v e .order ≡ e .order
+unfolding controlled pedal silence off
+control-order c n v e =
+    either P (eqb n 0) _ _ refl
+    (either P (eqb n 7) _ _ refl
+    (either P (eqb n 11) _ _ refl
+    (either P (eqb n 64) _ _ (either P (ltb v 64) _ _ refl refl)
+    (either P (eqb n 120) _ _ refl
+    (either P (eqb n 123) _ _ refl refl)))))
   where
-    by : (b : Bool) → Slots (without x o) → Slots (cond b o (y ∷ without x o))
-    by true r = h .1
-    by false r = (h .0, r)
+    P : Engine → Type 0
+    P y = y .order ≡ e .order
 
-snoc-slots : (x : ℕ) (o : List ℕ) → x < 32 → Slots o → Slots (o ++ (x ∷ []))
-snoc-slots x [] l h = (l, tt)
-snoc-slots x (y ∷ o) l h = (h .0, snoc-slots x o l (h .1))
+module _ (i j : ℕ) (li : i < 32) (lj : j < 32) (apart : i ≡ j → ⊥) where
+  layers-older : (vs : List Voice) (x : Started) → Ordered (x .engine .order)
+      → older (startAll vs x .engine .order) i j ≡ startedLast (seats vs x) i j (older (x .engine .order) i j)
+  unfolding startAll seats startedLast
+  layers-older [] x h = refl
+  layers-older (v ∷ vs) x h =
+      let s = seat (x .engine) (x .mine) in
+      let l = seat-slot (x .engine) (x .mine) h in
+      let o = start-order v x h in
+      layers-older vs (start v x) (rw o (renewed-ordered s (x .engine .order) l h))
+      ∙ ap (startedLast (seats vs (start v x)) i j) (ap (λ (q : List ℕ). older q i j) o ∙ renewed-older i j apart s (x .engine .order) l li lj h)
 
-snoc-count : (i x : ℕ) (o : List ℕ) → countIf (eqb i) (o ++ (x ∷ [])) ≡ countIf (eqb i) o + cond (eqb i x) 1 0
-snoc-count i x [] = omega arith
-snoc-count i x (y ∷ o) = omega (arith, snoc-count i x o)
+  note-on-older : (b : List ℕ) (ram rom : List ℤ) (c k v : ℕ) (e : Engine) → Ordered (e .order)
+      → older (next (Calls.NoteOn b ram rom c k v) e .order) i j ≡ startedLast (startsIn (Calls.NoteOn b ram rom c k v) e) i j (older (e .order) i j)
+  unfolding noteOn offKey off struck cleared seats startedLast
+  note-on-older b ram rom c k v e h = by (pastTwo c k v) (eqb v 0) (eqb number 0) number refl
+    where
+      vs : List Voice
+      vs = layerVoices (bankFrom b) c k v e
 
--- x stands in it: one less
-without-count : (i x : ℕ) (o : List ℕ) → 1 ≤ countIf (eqb x) o → countIf (eqb i) (without x o) + cond (eqb i x) 1 0 ≡ countIf (eqb i) o
-unfolding without
-without-count i x [] h = absurd (no h)
+      number : ℕ
+      number = noteOnNumber (bankFrom b) ram rom c k v e
+
+      by : (t z q : Bool) (n : ℕ) → eqb n 0 ≡ q
+          → older (answerAt c k vs e t z q n .engine .order) i j ≡ startedLast (seatsAt c k vs e t z q n) i j (older (e .order) i j)
+      by true z q n r = refl
+      by false true q n r = refl
+      by false false true n r = layers-older vs (record { engine = cleared c vs e; mine = 0 }) h
+      by false false false n r = rw r refl
+
+  -- the other calls leave the order as it is
+  call-older : (x : Call) (e : Engine) → Ordered (e .order) → older (next x e .order) i j ≡ startedLast (startsIn x e) i j (older (e .order) i j)
+  unfolding noteOff offKey off controlChange programChange pitchBend render played seats startedLast
+  call-older (Calls.NoteOn b ram rom c k v) e h = note-on-older b ram rom c k v e h
+  call-older (Calls.NoteOff c k) e h = ap (λ (o : List ℕ). older o i j) (told e (cond (pastOne c k) 2 0) (offKey c k e) refl)
+  call-older (Calls.Control c n v) e h = ap (λ (o : List ℕ). older o i j) (told e (cond (pastTwo c n v) 2 0) (done 0 (controlled c n v e)) (control-order c n v e))
+  call-older (Calls.Program c p) e h = ap (λ (o : List ℕ). older o i j) (told e (cond (pastOne c p) 2 0) (done 0 (withChannel e c (withProgram (channelAt e c) p))) refl)
+  call-older (Calls.Bend c b) e h = ap (λ (o : List ℕ). older o i j) (told e (cond (pastBend c b) 2 0) (done 0 (withChannel e c (withBend (channelAt e c) b))) refl)
+  call-older (Calls.Render to ram rom out) e h =
+      ap (λ (o : List ℕ). older o i j) (told e (renderNumber to ram rom (length out) e) (done 0 (withClock (played ram rom (distance e to) e) to)) refl)
+  call-older (Calls.Ask s) e h = refl
+
+  run-older : (xs : List Call) (e : Engine) → Ordered (e .order) → older (run xs e .order) i j ≡ startedLast (history xs e) i j (older (e .order) i j)
+  unfolding run history startedLast
+  run-older [] e h = refl
+  run-older (x ∷ xs) e h =
+      run-older xs (next x e) (call-keeps (λ (y : Engine). Ordered (y .order)) ordered-lasts x e h)
+      ∙ ap (startedLast (history xs (next x e)) i j) (call-older x e h)
+      ∙ sym (last-append (startsIn x e) (history xs (next x e)) i j (older (e .order) i j))
+
+-- the fresh order is by number
+up-older : (i j a n : ℕ) → a ≤ i → a ≤ j → i < a + n → j < a + n → (i ≡ j → ⊥) → older (upFrom a n) i j ≡ ltb i j
+unfolding older
+up-older i j a zero hi hj ki kj d = absurd (no hi ki)
   where
-    no : 1 ≤ 0 → ⊥
-    no h = omega arith
-without-count i x (y ∷ o) h = by (eqb y x) refl (without-count i x o)
+    no : a ≤ i → i < a + 0 → ⊥
+    no h k = omega arith
+up-older i j a (suc n) hi hj ki kj d = by (eqb a i) refl (eqb a j) refl (up-older i j (a + 1) n)
   where
-    by : (b : Bool) → eqb y x ≡ b → (1 ≤ countIf (eqb x) o → countIf (eqb i) (without x o) + cond (eqb i x) 1 0 ≡ countIf (eqb i) o)
-        → countIf (eqb i) (cond b o (y ∷ without x o)) + cond (eqb i x) 1 0 ≡ cond (eqb i y) 1 0 + countIf (eqb i) o
-    by true e r = ap (λ (z : ℕ). countIf (eqb i) o + cond (eqb i z) 1 0) (sym (eqb-true y x e)) ∙ omega arith
-    by false e r =
-        let n : eqb x y ≡ false = ne-eqb x y (λ q. eqb-false y x e (sym q)) in
-        let k : 1 ≤ countIf (eqb x) o = rw (n, zero-add) at h in
-        omega (arith, r k)
+    over : (k : ℕ) → a ≤ k → (a ≡ k → ⊥) → a + 1 ≤ k
+    over k h m = ⊎-elim (λ l. omega arith) (λ l. absurd (m l)) (split a k h)
 
-without-length : (x : ℕ) (o : List ℕ) → 1 ≤ countIf (eqb x) o → length (without x o) + 1 ≡ length o
-unfolding without
-without-length x [] h = absurd (no h)
+    by : (p : Bool) → eqb a i ≡ p → (q : Bool) → eqb a j ≡ q
+        → (a + 1 ≤ i → a + 1 ≤ j → i < a + 1 + n → j < a + 1 + n → (i ≡ j → ⊥) → older (upFrom (a + 1) n) i j ≡ ltb i j)
+        → cond p true (cond q false (older (upFrom (a + 1) n) i j)) ≡ ltb i j
+    by true e true f r = absurd (d (sym (eqb-true a i e) ∙ eqb-true a j f))
+    by true e false f r = sym (lt-ltb i j (omega (arith, eqb-true a i e, over j hj (eqb-false a j f))))
+    by false e true f r = sym (le-ltb i j (omega (arith, eqb-true a j f)))
+    by false e false f r = r (over i hi (eqb-false a i e)) (over j hj (eqb-false a j f)) (omega arith) (omega arith) d
+
+fresh-older : (i j : ℕ) → i < 32 → j < 32 → (i ≡ j → ⊥) → older (fresh .order) i j ≡ ltb i j
+unfolding fresh
+fresh-older i j li lj d = up-older i j 0 32 (omega arith) (omega arith) (omega arith) (omega arith) d
+
+-- start by start from the fresh order on
+run-aged : (xs : List Call) → OfAge (history xs fresh) (run xs fresh .order)
+run-aged xs = (
+  ordered-run xs,
+  λ i j li lj d. run-older i j li lj d xs fresh fresh-ordered ∙ ap (startedLast (history xs fresh) i j) (fresh-older i j li lj d),
+)
+
+-- after any run
+pub order-age : OrderIsAge
+order-age xs = run-aged xs
+
+-- ---- inside a call
+
+-- one layer more is one start more
+start-aged : (past : List ℕ) (v : Voice) (x : Started) → OfAge past (x .engine .order)
+    → OfAge (past ++ (seat (x .engine) (x .mine) ∷ [])) (start v x .engine .order)
+unfolding startedLast
+start-aged past v x h =
+    let s = seat (x .engine) (x .mine) in
+    let l = seat-slot (x .engine) (x .mine) (h .0) in
+    let o = start-order v x (h .0) in (
+      rw o (renewed-ordered s (x .engine .order) l (h .0)),
+      λ i j li lj d.
+          ap (λ (q : List ℕ). older q i j) o ∙ renewed-older i j d s (x .engine .order) l li lj (h .0)
+          ∙ ap (λ (b : Bool). cond (eqb s j) true (cond (eqb s i) false b)) (h .1 i j li lj d)
+          ∙ sym (last-append past (s ∷ []) i j (ltb i j)),
+    )
+
+-- layer by layer; freeing the rivals moves no slot in the order
+pub layers-age : LayersAge
+unfolding cleared
+layers-age xs x =
+    layers (history xs fresh) (begun x (run xs fresh)) (record { engine = cleared (channelOf x) (begun x (run xs fresh)) (run xs fresh); mine = 0 })
+    (run-aged xs)
   where
-    no : 1 ≤ 0 → ⊥
-    no h = omega arith
-without-length x (y ∷ o) h = by (eqb y x) refl (without-length x o)
-  where
-    by : (b : Bool) → eqb y x ≡ b → (1 ≤ countIf (eqb x) o → length (without x o) + 1 ≡ length o) → length (cond b o (y ∷ without x o)) + 1 ≡ suc (length o)
-    by true e r = omega arith
-    by false e r =
-        let n : eqb x y ≡ false = ne-eqb x y (λ q. eqb-false y x e (sym q)) in
-        let k : 1 ≤ countIf (eqb x) o = rw (n, zero-add) at h in
-        omega (arith, r k)
-
-whole : (n : ℕ) (o : List ℕ) → length o ≡ n → take n o ≡ o
-whole zero [] e = refl
-whole (suc n) [] e = refl
-whole zero (y ∷ o) e = absurd (suc-ne-zero (length o) e)
-whole (suc n) (y ∷ o) e = ap (_∷_ y) (whole n o (suc-inj e))
-
--- an order whose slot x is renewed is the list without x, and x behind it
-pub renewed-is : (x : ℕ) (o : List ℕ) → x < 32 → Ordered o → renewed x o ≡ without x o ++ (x ∷ [])
-unfolding renewed
-renewed-is x o l h =
-    let q = without-length x o (omega (arith, h .once x l)) in
-    whole 32 (without x o ++ (x ∷ [])) (simp length-append (omega (arith, h .length)))
-
--- an order stays an order
-pub renewed-ordered : (x : ℕ) (o : List ℕ) → x < 32 → Ordered o → Ordered (renewed x o)
-renewed-ordered x o l h =
-    let q = h .once x l in
-    rw (renewed-is x o l h) (record {
-      length = simp length-append (omega (arith, h .length, without-length x o (omega arith)));
-      slots = snoc-slots x (without x o) l (without-slots x o (h .slots));
-      once = λ i k. snoc-count i x (without x o) ∙ without-count i x o (omega arith) ∙ h .once i k;
-    })
-
--- ---- entries are slots
-
--- so reading them as slots changes nothing
-pub order-slots : (o : List ℕ) → Slots o → map (λ (i : ℕ). i % 32) o ≡ o
-order-slots [] h = refl
-order-slots (x ∷ o) h = rw (mod-eq-of-lt (h .0)) (ap (_∷_ x) (order-slots o (h .1)))
-
--- ---- who is older
-
-module _ (i j : ℕ) (apart : i ≡ j → ⊥) where
-  -- i and j stand in it: so does one of them before the other
-  snoc-older : (x : ℕ) (o : List ℕ) → 1 ≤ countIf (eqb i) o + countIf (eqb j) o → older (o ++ (x ∷ [])) i j ≡ older o i j
-  unfolding older
-  snoc-older x [] h = absurd (no h)
-    where
-      no : 1 ≤ 0 + 0 → ⊥
-      no h = omega arith
-  snoc-older x (y ∷ o) h = by (eqb y i) refl (eqb y j) refl (snoc-older x o)
-    where
-      by : (a : Bool) → eqb y i ≡ a → (b : Bool) → eqb y j ≡ b → (1 ≤ countIf (eqb i) o + countIf (eqb j) o → older (o ++ (x ∷ [])) i j ≡ older o i j)
-          → cond a true (cond b false (older (o ++ (x ∷ [])) i j)) ≡ cond a true (cond b false (older o i j))
-      by true e b f r = refl
-      by false e true f r = refl
-      by false e false f r =
-          let m : eqb i y ≡ false = ne-eqb i y (λ q. eqb-false y i e (sym q)) in
-          let n : eqb j y ≡ false = ne-eqb j y (λ q. eqb-false y j f (sym q)) in
-          r (omega (arith, rw (m, n) at h))
-
-  -- another slot taken out
-  without-older : (x : ℕ) (o : List ℕ) → eqb x i ≡ false → eqb x j ≡ false → older (without x o) i j ≡ older o i j
-  unfolding older without
-  without-older x [] e f = refl
-  without-older x (y ∷ o) e f = by (eqb y x) refl (without-older x o e f)
-    where
-      by : (b : Bool) → eqb y x ≡ b → older (without x o) i j ≡ older o i j
-          → older (cond b o (y ∷ without x o)) i j ≡ cond (eqb y i) true (cond (eqb y j) false (older o i j))
-      by true q r =
-          let m : eqb y i ≡ false = ap (λ (z : ℕ). eqb z i) (eqb-true y x q) ∙ e in
-          let n : eqb y j ≡ false = ap (λ (z : ℕ). eqb z j) (eqb-true y x q) ∙ f in
-          rw (m, n)
-      by false q r = ap (λ (b : Bool). cond (eqb y i) true (cond (eqb y j) false b)) r
-
-  -- i taken out and put behind: it is the younger, wherever j stands
-  i-last : (o : List ℕ) → countIf (eqb i) o ≡ 0 → 1 ≤ countIf (eqb j) o → older (o ++ (i ∷ [])) i j ≡ false
-  unfolding older
-  i-last [] z h = absurd (no h)
-    where
-      no : 1 ≤ 0 → ⊥
-      no h = omega arith
-  i-last (y ∷ o) z h = by (eqb y i) refl (eqb y j) refl (i-last o)
-    where
-      one : eqb y i ≡ true → ⊥
-      one e = let q : eqb i y ≡ true = eq-eqb i y (sym (eqb-true y i e)) in let w : 1 + countIf (eqb i) o ≡ 0 = rw q at z in omega arith
-
-      by : (a : Bool) → eqb y i ≡ a → (b : Bool) → eqb y j ≡ b → (countIf (eqb i) o ≡ 0 → 1 ≤ countIf (eqb j) o → older (o ++ (i ∷ [])) i j ≡ false)
-          → cond a true (cond b false (older (o ++ (i ∷ [])) i j)) ≡ false
-      by true e b f r = absurd (one e)
-      by false e true f r = refl
-      by false e false f r =
-          let m : eqb i y ≡ false = ne-eqb i y (λ q. eqb-false y i e (sym q)) in
-          let n : eqb j y ≡ false = ne-eqb j y (λ q. eqb-false y j f (sym q)) in
-          r (rw (m, zero-add) at z) (rw (n, zero-add) at h)
-
-  -- j taken out: i stands before it
-  j-last : (o : List ℕ) → countIf (eqb j) o ≡ 0 → 1 ≤ countIf (eqb i) o → older (o ++ (j ∷ [])) i j ≡ true
-  unfolding older
-  j-last [] z h = absurd (no h)
-    where
-      no : 1 ≤ 0 → ⊥
-      no h = omega arith
-  j-last (y ∷ o) z h = by (eqb y i) refl (eqb y j) refl (j-last o)
-    where
-      one : eqb y j ≡ true → ⊥
-      one e = let q : eqb j y ≡ true = eq-eqb j y (sym (eqb-true y j e)) in let w : 1 + countIf (eqb j) o ≡ 0 = rw q at z in omega arith
-
-      by : (a : Bool) → eqb y i ≡ a → (b : Bool) → eqb y j ≡ b → (countIf (eqb j) o ≡ 0 → 1 ≤ countIf (eqb i) o → older (o ++ (j ∷ [])) i j ≡ true)
-          → cond a true (cond b false (older (o ++ (j ∷ [])) i j)) ≡ true
-      by true e b f r = refl
-      by false e true f r = absurd (one f)
-      by false e false f r =
-          let m : eqb i y ≡ false = ne-eqb i y (λ q. eqb-false y i e (sym q)) in
-          let n : eqb j y ≡ false = ne-eqb j y (λ q. eqb-false y j f (sym q)) in
-          r (rw (n, zero-add) at z) (rw (m, zero-add) at h)
-
-  -- slot x renewed
-  pub renewed-older : (x : ℕ) (o : List ℕ) → x < 32 → i < 32 → j < 32 → Ordered o
-      → older (renewed x o) i j ≡ cond (eqb x j) true (cond (eqb x i) false (older o i j))
-  renewed-older x o lx li lj h = ap (λ (l : List ℕ). older l i j) (renewed-is x o lx h) ∙ by (eqb x j) refl (eqb x i) refl
-    where
-      -- how often each stands in the rest
-      rest : (k : ℕ) → k < 32 → countIf (eqb k) (without x o) + cond (eqb k x) 1 0 ≡ 1
-      rest k l = without-count k x o (omega (arith, h .once x lx)) ∙ h .once k l
-
-      yes-rest : (k : ℕ) → k < 32 → eqb x k ≡ true → countIf (eqb k) (without x o) ≡ 0
-      yes-rest k l e =
-          let q : eqb k x ≡ true = eq-eqb k x (sym (eqb-true x k e)) in
-          let w : countIf (eqb k) (without x o) + 1 ≡ 1 = rw q at (rest k l) in
-          omega arith
-
-      no-rest : (k : ℕ) → k < 32 → eqb x k ≡ false → countIf (eqb k) (without x o) ≡ 1
-      no-rest k l e =
-          let q : eqb k x ≡ false = ne-eqb k x (λ p. eqb-false x k e (sym p)) in
-          let w : countIf (eqb k) (without x o) + 0 ≡ 1 = rw q at (rest k l) in
-          omega arith
-
-      by : (a : Bool) → eqb x j ≡ a → (b : Bool) → eqb x i ≡ b → older (without x o ++ (x ∷ [])) i j ≡ cond a true (cond b false (older o i j))
-      by true e true f = absurd (apart (sym (eqb-true x i f) ∙ eqb-true x j e))
-      by true e false f =
-          ap (λ (y : ℕ). older (without x o ++ (y ∷ [])) i j) (eqb-true x j e) ∙ j-last (without x o) (yes-rest j lj e) (omega (arith, no-rest i li f))
-      by false e true f =
-          ap (λ (y : ℕ). older (without x o ++ (y ∷ [])) i j) (eqb-true x i f) ∙ i-last (without x o) (yes-rest i li f) (omega (arith, no-rest j lj e))
-      by false e false f = snoc-older x (without x o) (omega (arith, no-rest i li f)) ∙ without-older x o f e
+    layers : (past : List ℕ) (vs : List Voice) (y : Started) → OfAge past (y .engine .order) → AgedLayers past vs y
+    layers past [] y h = tt
+    layers past (v ∷ vs) y h = (h, layers (past ++ (seat (y .engine) (y .mine) ∷ [])) vs (start v y) (start-aged past v y h))

@@ -65,7 +65,7 @@ use Rattle.state.specs.Seats as StateSeats
 use Rattle.state.specs.Quiet as StateQuiet
 
 -- a bank: one preset, one instrument, one sample of rate 44,100 at key 60, mode 1, loop 0..4, no delay
-abbrev bell : List ℕ
+abbrev pub bell : List ℕ
 bell =
     112 ∷ 104 ∷ 100 ∷ 114 ∷ 76 ∷ 0 ∷ 0 ∷ 0 ∷ 98 ∷ 101 ∷ 108 ∷ 108 ∷ 0 ∷ 0 ∷ 0 ∷ 0 ∷ 0 ∷ 0 ∷ 0 ∷ 0 ∷ 0 ∷ 0 ∷ 0 ∷ 0 ∷ 0 ∷ 0 ∷ 0 ∷ 0 ∷
     0 ∷ 0 ∷ 0 ∷ 0 ∷ 0 ∷ 0 ∷ 0 ∷ 0 ∷ 0 ∷ 0 ∷ 0 ∷ 0 ∷ 0 ∷ 0 ∷ 0 ∷ 0 ∷ 0 ∷ 0 ∷ 69 ∷ 79 ∷ 80 ∷ 0 ∷ 0 ∷ 0 ∷ 0 ∷ 0 ∷ 0 ∷ 0 ∷
@@ -118,7 +118,7 @@ abbrev pub before : List Call
 before = NoteOn bell ram [] 0 60 100 ∷ []
 
 -- the state then
-abbrev struckBell : Engine
+abbrev pub struckBell : Engine
 struckBell =
     record { voices = voice ∷ replicate 31 blank; channels = replicate 16 freshChannel; sounding = 1; order = upFrom 1 31 ++ (0 ∷ []); clock = 0 }
 

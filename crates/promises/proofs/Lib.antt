@@ -1,4 +1,5 @@
 pub mod Age
+pub mod AgeLaws
 pub mod Banks
 pub mod Cuts
 pub mod Demand1
@@ -11,6 +12,7 @@ pub mod Frames
 pub mod Kept
 pub mod Moments
 pub mod Night
+pub mod NightExample
 pub mod Output
 pub mod Panel
 pub mod Runs

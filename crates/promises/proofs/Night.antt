@@ -1,10 +1,11 @@
--- Demand 2: the pedal, and the October night.
-use Prim.Native.Nat.{ℕ, _≤_, _<_, zero, suc}
+-- Demand 2: the pedal, the October night, and its end in silence.
+use Prim.Native.Nat.{ℕ, _≤_, _<_, zero, suc, _+_, _^_}
 use mathlib.Core.Path.{_≡_, refl, ap, _∙_, sym, subst}
 use mathlib.Core.Bool.{false, _&&_, and-false, Bool, true, cond, _||_, not}
 use lib.Dec.{eqb, leb, ltb}
 use mathlib.Core.List.{map, List, [], _∷_}
 use native.Mathlib.Omega.{arith}
+use native.Mathlib.Nat.{le-refl, le-trans, le-max-left, le-max-right, max-le, add-le-add}
 use borrow.Author.Tests.{le-ltb, lt-ltb, ltb-false, eqb-true, ltb-true, le-leb, not-true, eq-eqb}
 use lib.ListN.{getD, set, length}
 use lib.Seq.{getD-set-other}
@@ -12,7 +13,7 @@ use lib.IntN.{ℤ}
 use mathlib.Core.Logic.{_⊎_, ⊎-elim, inl, inr}
 use Rattle.voice.specs.declared.Voice.{Voice}
 use Rattle.voice.specs.Changes.{free, blank, sounds}
-use Rattle.state.specs.Slots.{ofChannel, withVoice, slotsOf, withSlots, slotAt, withClock}
+use Rattle.state.specs.Slots.{ofChannel, withVoice, slotsOf, withSlots, slotAt, withClock, wordOf}
 use Rattle.events.specs.Keys.{pedalHeld, letOff, noteOff, pedalDown, off, offKey, held, heldKey, mark}
 use Rattle.voice.specs.declared.Slot.{Slot}
 use Rattle.voice.specs.Release.{release}
@@ -22,12 +23,13 @@ use Rattle.state.specs.Channels.{channelAt, withChannel, noChannel}
 use Rattle.state.proofs.SlotsLaws.{slot-map}
 use Rattle.events.proofs.KeysLaws.{off-keeps}
 use Rattle.promises.proofs.EachSlot.{letOff-picked, either, and-both, never, What, stands, pedalled, loosed, freed, started, goes, what, held-channel, Among}
-use Rattle.promises.specs.Demand2.{LiftingReleases, VelocityZeroIsNoteOff, NoMarkWithoutPedal, strikes, leaves, struckAfter, Into, ends, left, right, Piece, Overlap, quiet, more, OctoberNight}
+use Rattle.promises.specs.Demand2.{LiftingReleases, VelocityZeroIsNoteOff, NoMarkWithoutPedal}
+use Rattle.promises.specs.Night.{strikes, leaves, struckAfter, NotHeld, KeyIsLeft, MarksUnderPedal, KeyIsReleased, Into, ends, left, right, Piece, Overlap, quiet, more, OctoberNight, FreeInTime, longest, SilentInTime, ReleasesEnd, NoStrike, NightEnds, NightEndsAlways}
 use Rattle.events.specs.Striking.{noteOn, layerVoices, noteOnNumber, bankFrom}
 use Rattle.voice.specs.declared.Channel.{Channel}
 use Rattle.state.specs.Answers.{pastTwo, done, refused, answer, pastOne, pastBend}
 use Rattle.state.proofs.AnswersLaws.{or-no}
-use Rattle.promises.specs.Calls.{Call, next, voiceIn, framesOf, channelOf, run, begun}
+use Rattle.promises.specs.Calls.{Call, next, voiceIn, framesOf, channelOf, run, begun, among, history, framesRun, seats}
 use Rattle.events.specs.Starting.{Started, start, startAll, cleared, struck}
 use Rattle.state.specs.declared.Answered.{Answered}
 use Rattle.events.specs.Programs.{withProgram, programChange}
@@ -39,7 +41,10 @@ use Rattle.voice.specs.Frames.{after}
 use Rattle.promises.proofs.Frames.{after-keeps, after-sounded, late-none, late-after}
 use Rattle.promises.proofs.Banks.{came}
 use Rattle.state.specs.Quiet.{fresh}
-use Rattle.promises.proofs.Voices.{fresh-free, from-fresh}
+use Rattle.promises.proofs.Voices.{fresh-free, from-fresh, run-sounded, run-voice, late-run}
+use Rattle.promises.proofs.Kept.{Sized, sized-lasts, run-keeps}
+use Rattle.promises.proofs.Seats.{sized-run}
+use Rattle.state.proofs.SeatsLaws.{word-back}
 use Rattle.promises.proofs.Demand2.{reaches, gone, free-held}
 use Rattle.promises.specs.Calls as Calls
 
@@ -239,12 +244,8 @@ held-before ch w n c k s h =
 
 -- ---- no voice is marked while its pedal is up
 
--- so it is in a state
-abbrev Honest : Engine → Type 0
-Honest e = (i : ℕ) → slotAt e i .sounding ≡ true → voiceIn i e .marked ≡ true → pedalDown e (voiceIn i e .channel) ≡ true
-
 -- the pedal was down for a voice that is marked after a call
-was-down : (x : Call) (e : Engine) → Honest e → (i : ℕ) → slotAt (next x e) i .sounding ≡ true → voiceIn i (next x e) .marked ≡ true
+was-down : (x : Call) (e : Engine) → MarksUnderPedal e → (i : ℕ) → slotAt (next x e) i .sounding ≡ true → voiceIn i (next x e) .marked ≡ true
     → pedalDown e (voiceIn i (next x e) .channel) ≡ true
 unfolding release
 was-down x e h i on m = by (what x e i)
@@ -278,31 +279,30 @@ marked-is : (c : ℕ) (s : Slot) → s .sounding ≡ true → s .voice .channel 
 unfolding pedalHeld ofChannel
 marked-is c s a b d = rw (a, eq-eqb (s .voice .channel) c b, d) refl
 
-honest-call : (x : Call) (e : Engine) → Honest e → Honest (next x e)
-honest-call x e h i on m =
+marks-call : (x : Call) (e : Engine) → MarksUnderPedal e → MarksUnderPedal (next x e)
+marks-call x e h i on m =
     let c = voiceIn i (next x e) .channel in
     stays-down c e (was-down x e h i on m) x
     (λ l. never (sym (ap (λ (y : Call). pedalHeld c (slotAt (next y e) i)) (l .is) ∙ lifts c (l .value) e (l .range) (l .low) .none i)
     ∙ marked-is c (slotAt (next x e) i) on refl m))
 
-honest-run : (xs : List Call) (e : Engine) → Honest e → Honest (run xs e)
+marks-run : (xs : List Call) (e : Engine) → MarksUnderPedal e → MarksUnderPedal (run xs e)
 unfolding run
-honest-run [] e h = h
-honest-run (x ∷ xs) e h = honest-run xs (next x e) (honest-call x e h)
+marks-run [] e h = h
+marks-run (x ∷ xs) e h = marks-run xs (next x e) (marks-call x e h)
+
+fresh-marks : MarksUnderPedal fresh
+fresh-marks i on m = absurd (never (sym (fresh-free i) ∙ on))
 
 -- it is so at first, and no call breaks it
 pub no-mark : NoMarkWithoutPedal
-no-mark xs = honest-run xs fresh (λ i on m. absurd (never (sym (fresh-free i) ∙ on)))
+no-mark xs = marks-run xs fresh fresh-marks
 
--- ---- the October night
+-- ---- one key
 
 module _ (c k : ℕ) where
-  -- no slot is held by the key
-  abbrev Gone : Engine → Type 0
-  Gone e = (i : ℕ) → heldKey c k (slotAt e i) ≡ false
-
   -- a call that does not strike the key
-  gone-call : (x : Call) (e : Engine) → strikes c k x ≡ false → Gone e → Gone (next x e)
+  gone-call : (x : Call) (e : Engine) → strikes c k x ≡ false → NotHeld c k e → NotHeld c k (next x e)
   gone-call x e n h i = by (what x e i)
     where
       s : Slot
@@ -330,10 +330,10 @@ module _ (c k : ℕ) where
       by (goes ram rom a) = at (slotAfter ram rom e (framesOf x e) s) a (on ram rom (framesOf x e) (heldKey c k (slotAfter ram rom e (framesOf x e) s)) refl)
 
   -- a call that leaves it
-  left-call : c ≤ 15 → k ≤ 127 → (x : Call) (e : Engine) → leaves c k x ≡ true → Gone (next x e)
+  left-call : c ≤ 15 → k ≤ 127 → (x : Call) (e : Engine) → leaves c k x ≡ true → NotHeld c k (next x e)
   left-call hc hk (Calls.NoteOn b ram rom ch key v) e l = by (eqb v 0) refl (eqb ch c) refl l
     where
-      by : (z : Bool) → eqb v 0 ≡ z → (y : Bool) → eqb ch c ≡ y → cond z (cond y (eqb key k) false) false ≡ true → Gone (next (Calls.NoteOn b ram rom ch key v) e)
+      by : (z : Bool) → eqb v 0 ≡ z → (y : Bool) → eqb ch c ≡ y → cond z (cond y (eqb key k) false) false ≡ true → NotHeld c k (next (Calls.NoteOn b ram rom ch key v) e)
       by false p y q r i = absurd (never r)
       by true p false q r i = absurd (never r)
       by true p true q r i =
@@ -343,7 +343,7 @@ module _ (c k : ℕ) where
           ∙ ap (λ (a : Answered). heldKey c k (slotAt (a .engine) i)) (zero-off b ram rom c k e hc hk) ∙ reaches c k e hc hk .none i
   left-call hc hk (Calls.NoteOff ch key) e l = by (eqb ch c) refl l
     where
-      by : (y : Bool) → eqb ch c ≡ y → cond y (eqb key k) false ≡ true → Gone (next (Calls.NoteOff ch key) e)
+      by : (y : Bool) → eqb ch c ≡ y → cond y (eqb key k) false ≡ true → NotHeld c k (next (Calls.NoteOff ch key) e)
       by false q r i = absurd (never r)
       by true q r i =
           ap (λ (y : ℕ). heldKey c k (slotAt (next (Calls.NoteOff y key) e) i)) (eqb-true ch c q)
@@ -355,16 +355,40 @@ module _ (c k : ℕ) where
   left-call hc hk (Calls.Ask i) e l = absurd (never l)
 
   -- a run behind whose last strike the key is left
-  gone-run : c ≤ 15 → k ≤ 127 → (xs : List Call) (e : Engine) (b : Bool) → (b ≡ false → Gone e) → struckAfter c k b xs ≡ false → Gone (run xs e)
+  gone-run : c ≤ 15 → k ≤ 127 → (xs : List Call) (e : Engine) (b : Bool) → (b ≡ false → NotHeld c k e) → struckAfter c k b xs ≡ false → NotHeld c k (run xs e)
   unfolding run struckAfter
   gone-run hc hk [] e b h q = h q
   gone-run hc hk (x ∷ xs) e b h q =
       gone-run hc hk xs (next x e) (cond (strikes c k x) true (cond (leaves c k x) false b)) (λ z. by (strikes c k x) refl (leaves c k x) refl z) q
     where
-      by : (s : Bool) → strikes c k x ≡ s → (l : Bool) → leaves c k x ≡ l → cond s true (cond l false b) ≡ false → Gone (next x e)
+      by : (s : Bool) → strikes c k x ≡ s → (l : Bool) → leaves c k x ≡ l → cond s true (cond l false b) ≡ false → NotHeld c k (next x e)
       by true p l r z = absurd (never (sym z))
       by false p true r z = left-call hc hk x e r
       by false p false r z = gone-call x e p (h z)
+
+-- from any state on
+pub key-left : KeyIsLeft
+key-left c k b xs e hc hk h q = gone-run c k hc hk xs e b h q
+
+-- a voice that is neither held nor marked is released
+let-off : (c k : ℕ) (s : Slot) → s .sounding ≡ true → s .voice .channel ≡ c → s .voice .key ≡ k → heldKey c k s ≡ false → (s .voice .marked ≡ true → ⊥)
+    → released (s .voice .stage) ≡ true
+let-off c k s on p q h n = by (released (s .voice .stage)) refl (s .voice .marked) refl
+  where
+    by : (r : Bool) → released (s .voice .stage) ≡ r → (m : Bool) → s .voice .marked ≡ m → r ≡ true
+    by true u m v = refl
+    by false u true v = absurd (n v)
+    by false u false v = absurd (never (sym h ∙ hold-back c k s (record { sounding = on; channel = p; unreleased = u; unmarked = v; key = q })))
+
+-- not held, and not marked either
+pub key-released : KeyIsReleased
+key-released c k b xs e hc hk h q marks up i on p r =
+    let y = run xs e in
+    let down = marks-run xs e marks i on in
+    let n : voiceIn i y .marked ≡ true → ⊥ = λ m. never (sym up ∙ subst (λ (d : ℕ). pedalDown y d ≡ true) p (down m)) in
+    let-off c k (slotAt y i) on p r (gone-run c k hc hk xs e b h q i) n
+
+-- ---- the October night
 
 -- two pieces run into each other are a piece: what is struck is struck by one of them
 mixed : (c k : ℕ) {xs ys zs : List Call} → Into xs ys zs → (a b d : Bool) → (d ≡ true → (a ≡ true) ⊎ (b ≡ true))
@@ -395,25 +419,103 @@ unfolding struckAfter
 overlap-piece quiet c k = refl
 overlap-piece (more p o m) c k = mixed c k m false false false (λ e. absurd (never e)) (p c k) (overlap-piece o c k)
 
--- no key of the night is still held, and no voice is marked
+-- no voice of the fresh state is held
+fresh-left : (c k : ℕ) → NotHeld c k fresh
+fresh-left c k j = by (heldKey c k (slotAt fresh j)) refl
+  where
+    by : (b : Bool) → heldKey c k (slotAt fresh j) ≡ b → b ≡ false
+    by false q = refl
+    by true q = absurd (never (sym (fresh-free j) ∙ holds c k (slotAt fresh j) q .sounding))
+
+-- key by key
 pub october : OctoberNight
 october night o up i on =
-    let e = run night fresh in
-    let v = voiceIn i e in
+    let v = voiceIn i (run night fresh) in
     let r = from-fresh (λ (u : Voice). (u .channel ≤ 15) × (u .key ≤ 127)) (λ u g p m h. h) (λ x y u f. let g = came x y u f in (g .small, g .key)) night i on in
-    let h = gone-run (v .channel) (v .key) (r .0) (r .1) night fresh false (λ z j. none (v .channel) (v .key) j) (overlap-piece o (v .channel) (v .key)) i in
-    by (slotAt e i) on h (released (v .stage)) refl (v .marked) refl (λ m. never (sym (up (v .channel)) ∙ no-mark night i on m))
-  where
-    none : (c k : ℕ) (j : ℕ) → heldKey c k (slotAt fresh j) ≡ false
-    none c k j = by (heldKey c k (slotAt fresh j)) refl
-      where
-        by : (b : Bool) → heldKey c k (slotAt fresh j) ≡ b → b ≡ false
-        by false q = refl
-        by true q = absurd (never (sym (fresh-free j) ∙ holds c k (slotAt fresh j) q .sounding))
+    key-released (v .channel) (v .key) false night fresh (r .0) (r .1) (λ z. fresh-left (v .channel) (v .key)) (overlap-piece o (v .channel) (v .key)) fresh-marks (up (v .channel)) i on refl refl
 
-    by : (s : Slot) → s .sounding ≡ true → heldKey (s .voice .channel) (s .voice .key) s ≡ false → (r : Bool) → released (s .voice .stage) ≡ r
-        → (m : Bool) → s .voice .marked ≡ m → (s .voice .marked ≡ true → ⊥) → released (s .voice .stage) ≡ true
-    by s a h true q m p n = q
-    by s a h false q true p n = absurd (n p)
-    by s a h false q false p n =
-        absurd (never (sym h ∙ hold-back (s .voice .channel) (s .voice .key) s (record { sounding = a; channel = refl; unreleased = q; unmarked = p; key = refl })))
+-- ---- and its end
+
+-- a voice that still sounds is released for as many frames as were rendered, and its release is shorter
+pub free-in-time : FreeInTime
+free-in-time i xs e h none n = by (slotAt (run xs e) i .sounding) refl
+  where
+    over : (f t r o : ℕ) → o + 1 ≤ f → 0 + f ≤ t → (0 < 0 + f → t ≤ r) → r ≡ o → ⊥
+    over f t r o a b c d = let g : t ≤ r = c (omega arith) in omega arith
+
+    by : (b : Bool) → slotAt (run xs e) i .sounding ≡ b → b ≡ false
+    by false q = refl
+    by true q =
+        let k = late-run xs e i 0 none q (late-none (voiceIn i e) h) in
+        let r = run-voice (λ (v : Voice). v .release ≡ voiceIn i e .release) (λ v g p m j. j) xs e i none q refl in
+        absurd (over (framesRun xs e) (k .t) (voiceIn i (run xs e) .release) (voiceIn i e .release) n (k .spent) (k .young) r)
+
+nowhere : (i : ℕ) → among i [] ≡ false
+unfolding among
+nowhere i = refl
+
+-- a slot that sounds has a release that is at most the longest
+long : (ss : List Slot) (i : ℕ) → getD ss i (free blank) .sounding ≡ true → getD ss i (free blank) .voice .release ≤ longest ss
+unfolding longest
+long [] i on = absurd (never on)
+long (s ∷ ss) zero on = rw on (le-max-left (s .voice .release) (longest ss))
+long (s ∷ ss) (suc i) on = le-trans (long ss i on) (le-max-right (cond (s .sounding) (s .voice .release) 0) (longest ss))
+
+-- and the longest is at most what all are
+long-most : (n : ℕ) (ss : List Slot) → ((i : ℕ) → getD ss i (free blank) .sounding ≡ true → getD ss i (free blank) .voice .release ≤ n) → longest ss ≤ n
+unfolding longest
+long-most n [] h = omega arith
+long-most n (s ∷ ss) h = max-le (by (s .sounding) refl) (long-most n ss (λ i. h (suc i)))
+  where
+    by : (b : Bool) → s .sounding ≡ b → cond b (s .voice .release) 0 ≤ n
+    by true q = h 0 q
+    by false q = omega arith
+
+-- no slot sounds: the word is 0
+quiet-word : (ss : List Slot) → ((i : ℕ) → getD ss i (free blank) .sounding ≡ false) → wordOf ss ≡ 0
+unfolding wordOf
+quiet-word [] h = refl
+quiet-word (s ∷ ss) h = rw (h 0, quiet-word ss (λ i. h (suc i))) refl
+
+-- slot by slot
+pub silent-in-time : SilentInTime
+silent-in-time before xs all none enough =
+    let e = run before fresh in
+    let y = run xs e in
+    let z = run-keeps Sized sized-lasts xs e (sized-run before) in
+    let w : y .sounding < 2 ^ length (y .voices) = subst (λ (n : ℕ). y .sounding < 2 ^ n) (sym (z .voices)) (z .word) in
+    sym (word-back (y .sounding) (y .voices) w) ∙ quiet-word (slotsOf y) (λ i. by i (slotAt y i .sounding) refl)
+  where
+    by : (i : ℕ) (b : Bool) → slotAt (run xs (run before fresh)) i .sounding ≡ b → slotAt (run xs (run before fresh)) i .sounding ≡ false
+    by i false q = q
+    by i true q =
+        let e = run before fresh in
+        let never-starts : among i (history xs e) ≡ false = ap (among i) none ∙ nowhere i in
+        let on = run-sounded xs e i never-starts q in
+        free-in-time i xs e (all i on) never-starts (le-trans (add-le-add (long (slotsOf e) i on) (le-refl 1)) enough)
+
+-- every voice has been started by a call
+pub releases-end : ReleasesEnd
+releases-end xs =
+    long-most 4480280 (slotsOf (run xs fresh))
+    (from-fresh (λ (v : Voice). v .release ≤ 4480280) (λ u g p m h. h) (λ x e u f. came x e u f .made .release) xs)
+
+-- a call that strikes no key starts no voice
+no-strike : (xs : List Call) (e : Engine) → NoStrike xs → history xs e ≡ []
+unfolding history seats
+no-strike [] e h = refl
+no-strike (x ∷ xs) e h = rw (empty (begun x e) (λ u f. never (sym (h .0 (u .channel) (u .key)) ∙ came x e u f .struck))) (no-strike xs (next x e) (h .1))
+  where
+    empty : (vs : List Voice) → ((u : Voice) → Among u vs → ⊥) → vs ≡ []
+    empty [] n = refl
+    empty (v ∷ vs) n = absurd (n v (inl refl))
+
+-- after the night all are released
+pub night-ends : NightEnds
+night-ends night morning o up none enough =
+    silent-in-time night morning (october night o up) (no-strike morning (run night fresh) none) enough
+
+-- with the longest release that there is
+pub night-ends-always : NightEndsAlways
+night-ends-always night morning o up none enough =
+    night-ends night morning o up none (le-trans (add-le-add (releases-end night) (le-refl 1)) enough)

@@ -1,32 +1,32 @@
--- Demand 2: the slots that layers take are those of the rule; `order` is the order of starting.
+-- Demand 2: the slots that layers take are those of the rule.
 use Prim.Native.Nat.{ℕ, _<_, _≤_, suc, zero, _+_, _%_, _^_}
 use mathlib.Core.Path.{_≡_, refl, sym, ap, _∙_, subst}
 use mathlib.Core.Bool.{true, Bool, false, cond, _||_}
-use mathlib.Core.List.{List, _∷_, [], map, _++_}
+use mathlib.Core.List.{List, _∷_, [], map}
 use mathlib.Core.Logic.{_⊎_, inl, inr, ⊎-elim}
 use lib.Dec.{eqb, ltb}
 use native.Mathlib.Omega.{arith}
-use borrow.Author.Tests.{ltb-true, ltb-false, eqb-false, eq-eqb, ne-eqb, eqb-true, lt-ltb, le-ltb}
+use borrow.Author.Tests.{ltb-true, ltb-false, eqb-false, eq-eqb, ne-eqb, eqb-true}
 use native.Mathlib.Nat.{zero-add, le-of-suc-le-suc, not-suc-le-zero, zero-div}
 use lib.ListN.{length, getD, set}
 use lib.Seq.{getD-set-same}
 use lib.IntN.{ℤ}
-use Rattle.promises.specs.Age.{older, Slots, Ordered, startedLast}
+use Rattle.promises.specs.Age.{older, Slots, Ordered}
 use Rattle.arith.specs.Lists.{countIf}
 use Rattle.state.specs.Seats.{leastBy, lowestFree, claim, orderOf, taken, seat, startIn, renewed}
 use Rattle.voice.specs.declared.Slot.{Slot}
 use Rattle.voice.specs.Changes.{blank, free, sounds}
-use Rattle.promises.proofs.EachSlot.{never, start-there, layered, cut-picked, cut-left, Among, either, answerAt, seatsAt}
+use Rattle.promises.proofs.EachSlot.{never, start-there, layered, cut-picked, cut-left, Among}
 use Rattle.state.specs.Quiet.{upFrom, fresh}
 use Rattle.arith.specs.Words.{bit}
-use Rattle.state.specs.Slots.{slotAt, slotsOf, withSlots, cut, withClock}
+use Rattle.state.specs.Slots.{slotAt, slotsOf, withSlots, cut}
 use Rattle.events.specs.Starting.{Started, start, startAll, cleared, rival, struck}
-use Rattle.promises.specs.Calls.{voiceIn, seats, among, does, begun, Call, run, next, startsIn, history}
-use Rattle.promises.proofs.Kept.{Sized, slots-32, sized-lasts, Lasting, run-keeps, fresh-sized, call-keeps}
+use Rattle.promises.specs.Calls.{voiceIn, seats, among, does, begun, Call, run, next}
+use Rattle.promises.proofs.Kept.{Sized, slots-32, sized-lasts, Lasting, run-keeps, fresh-sized}
 use Rattle.state.specs.declared.Engine.{Engine}
 use Rattle.voice.specs.Stages.{released}
-use Rattle.promises.specs.Demand2.{Sooner, let-go, softer, aged, RightSeat, RightSeats, distinct, LayersByTheRule, OrderIsAge}
-use Rattle.promises.proofs.Age.{order-slots, renewed-ordered, renewed-older}
+use Rattle.promises.specs.Demand2.{Sooner, let-go, softer, aged, RightSeat, RightSeats, distinct, LayersByTheRule}
+use Rattle.promises.proofs.AgeLaws.{order-slots, renewed-ordered}
 use Rattle.voice.specs.declared.Voice.{Voice}
 use Rattle.state.proofs.SlotsLaws.{slots-back, slot-map}
 use Rattle.arith.proofs.WordsLaws.{insert}
@@ -34,15 +34,10 @@ use Rattle.events.proofs.StartingLaws.{rival-free}
 use Rattle.promises.proofs.Voices.{Everyone, from-fresh}
 use Rattle.events.specs.Striking.{layerVoices, noteOnNumber, noteOn, bankFrom}
 use Rattle.state.specs.declared.Answered.{Answered}
-use Rattle.state.specs.Answers.{done, refused, answer, pastTwo, pastOne, pastBend}
-use Rattle.events.specs.Keys.{offKey, off, noteOff}
+use Rattle.state.specs.Answers.{done, refused, answer, pastTwo}
+use Rattle.events.specs.Keys.{offKey}
 use Rattle.promises.proofs.Banks.{came}
 use Rattle.promises.proofs.Demand1.{note-on-numbers}
-use Rattle.events.specs.Controls.{pedal, silence, controlled, controlChange}
-use Rattle.state.specs.Channels.{channelAt, withChannel}
-use Rattle.events.specs.Programs.{withProgram, programChange}
-use Rattle.events.specs.Bends.{withBend, pitchBend}
-use Rattle.engine.specs.Rendering.{distance, played, renderNumber, render}
 use Rattle.promises.specs.Calls as Calls
 
 -- ---- the least of a list, the first where several are
@@ -60,7 +55,7 @@ pub record Least (f : ℕ → ℕ) (b : ℕ) (xs : List ℕ) (r : ℕ) : Type 0 
   pub slot : b < 32 → Slots xs → r < 32
 
 -- less or as much
-split : (m n : ℕ) → m ≤ n → (m < n) ⊎ (m ≡ n)
+pub split : (m n : ℕ) → m ≤ n → (m < n) ⊎ (m ≡ n)
 split m n h = by (ltb m n) refl
   where
     by : (b : Bool) → ltb m n ≡ b → (m < n) ⊎ (m ≡ n)
@@ -425,7 +420,7 @@ start-slot v x h l =
     ap (λ (ss : List Slot). getD ss i (free blank)) (slots-back (set (slotsOf (x .engine)) i (sounds v)))
     ∙ getD-set-same (slotsOf (x .engine)) i (sounds v) (free blank) (omega arith)
 
-start-order : (v : Voice) (x : Started) → Ordered (x .engine .order) → start v x .engine .order ≡ renewed (seat (x .engine) (x .mine)) (x .engine .order)
+pub start-order : (v : Voice) (x : Started) → Ordered (x .engine .order) → start v x .engine .order ≡ renewed (seat (x .engine) (x .mine)) (x .engine .order)
 unfolding start startIn
 start-order v x h = ap (renewed (seat (x .engine) (x .mine))) (order-slots (x .engine .order) (h .slots))
 
@@ -594,7 +589,7 @@ struck-is b ram rom c k v e n = by (pastTwo c k v) (eqb v 0) refl (eqb number 0)
     by false false p false m r h = absurd (eqb-false m 0 r h)
 
 -- the voices that it starts
-begun-is : (b : List ℕ) (ram rom : List ℤ) (c k v : ℕ) (e : Engine) → (v ≡ 0 → ⊥) → does (Calls.NoteOn b ram rom c k v) e .status ≡ 0
+pub begun-is : (b : List ℕ) (ram rom : List ℤ) (c k v : ℕ) (e : Engine) → (v ≡ 0 → ⊥) → does (Calls.NoteOn b ram rom c k v) e .status ≡ 0
     → begun (Calls.NoteOn b ram rom c k v) e ≡ layerVoices (bankFrom b) c k v e
 begun-is b ram rom c k v e n h = rw (eq-eqb (does (Calls.NoteOn b ram rom c k v) e .status) 0 h, ne-eqb v 0 n) refl
 
@@ -604,7 +599,7 @@ soft-all [] h = tt
 soft-all (v ∷ vs) h = (h v (inl refl), soft-all vs (λ u a. h u (inr a)))
 
 -- a seat is a slot, whatever was started before
-seat-slot : (e : Engine) (m : ℕ) → Ordered (e .order) → seat e m < 32
+pub seat-slot : (e : Engine) (m : ℕ) → Ordered (e .order) → seat e m < 32
 unfolding seat taken
 seat-slot e m h = by (ltb (lowestFree (slotsOf e)) 32) refl
   where
@@ -662,107 +657,3 @@ by-the-rule xs b ram rom c k v p h =
   where
     some : v ≡ 0 → ⊥
     some q = omega arith
-
--- ---- the order of starting
-
-last-append : (xs ys : List ℕ) (i j : ℕ) (b : Bool) → startedLast (xs ++ ys) i j b ≡ startedLast ys i j (startedLast xs i j b)
-unfolding startedLast
-last-append [] ys i j b = refl
-last-append (x ∷ xs) ys i j b = last-append xs ys i j (cond (eqb x j) true (cond (eqb x i) false b))
-
-told : (e : Engine) (n : ℕ) (a : Answered) → a .engine .order ≡ e .order → answer n e a .engine .order ≡ e .order
-told e n a k = either (λ (x : Answered). x .engine .order ≡ e .order) (eqb n 0) a (refused n e) k refl
-
-control-order : (c n v : ℕ) (e : Engine) → controlled c n v e .order ≡ e .order
-unfolding controlled pedal silence off
-control-order c n v e =
-    either P (eqb n 0) _ _ refl
-    (either P (eqb n 7) _ _ refl
-    (either P (eqb n 11) _ _ refl
-    (either P (eqb n 64) _ _ (either P (ltb v 64) _ _ refl refl)
-    (either P (eqb n 120) _ _ refl
-    (either P (eqb n 123) _ _ refl refl)))))
-  where
-    P : Engine → Type 0
-    P y = y .order ≡ e .order
-
-module _ (i j : ℕ) (li : i < 32) (lj : j < 32) (apart : i ≡ j → ⊥) where
-  layers-older : (vs : List Voice) (x : Started) → Ordered (x .engine .order)
-      → older (startAll vs x .engine .order) i j ≡ startedLast (seats vs x) i j (older (x .engine .order) i j)
-  unfolding startAll seats startedLast
-  layers-older [] x h = refl
-  layers-older (v ∷ vs) x h =
-      let s = seat (x .engine) (x .mine) in
-      let l = seat-slot (x .engine) (x .mine) h in
-      let o = start-order v x h in
-      layers-older vs (start v x) (rw o (renewed-ordered s (x .engine .order) l h))
-      ∙ ap (startedLast (seats vs (start v x)) i j) (ap (λ (q : List ℕ). older q i j) o ∙ renewed-older i j apart s (x .engine .order) l li lj h)
-
-  note-on-older : (b : List ℕ) (ram rom : List ℤ) (c k v : ℕ) (e : Engine) → Ordered (e .order)
-      → older (next (Calls.NoteOn b ram rom c k v) e .order) i j ≡ startedLast (startsIn (Calls.NoteOn b ram rom c k v) e) i j (older (e .order) i j)
-  unfolding noteOn offKey off struck cleared seats startedLast
-  note-on-older b ram rom c k v e h = by (pastTwo c k v) (eqb v 0) (eqb number 0) number refl
-    where
-      vs : List Voice
-      vs = layerVoices (bankFrom b) c k v e
-
-      number : ℕ
-      number = noteOnNumber (bankFrom b) ram rom c k v e
-
-      by : (t z q : Bool) (n : ℕ) → eqb n 0 ≡ q
-          → older (answerAt c k vs e t z q n .engine .order) i j ≡ startedLast (seatsAt c k vs e t z q n) i j (older (e .order) i j)
-      by true z q n r = refl
-      by false true q n r = refl
-      by false false true n r = layers-older vs (record { engine = cleared c vs e; mine = 0 }) h
-      by false false false n r = rw r refl
-
-  -- the other calls leave the order as it is
-  call-older : (x : Call) (e : Engine) → Ordered (e .order) → older (next x e .order) i j ≡ startedLast (startsIn x e) i j (older (e .order) i j)
-  unfolding noteOff offKey off controlChange programChange pitchBend render played seats startedLast
-  call-older (Calls.NoteOn b ram rom c k v) e h = note-on-older b ram rom c k v e h
-  call-older (Calls.NoteOff c k) e h = ap (λ (o : List ℕ). older o i j) (told e (cond (pastOne c k) 2 0) (offKey c k e) refl)
-  call-older (Calls.Control c n v) e h = ap (λ (o : List ℕ). older o i j) (told e (cond (pastTwo c n v) 2 0) (done 0 (controlled c n v e)) (control-order c n v e))
-  call-older (Calls.Program c p) e h = ap (λ (o : List ℕ). older o i j) (told e (cond (pastOne c p) 2 0) (done 0 (withChannel e c (withProgram (channelAt e c) p))) refl)
-  call-older (Calls.Bend c b) e h = ap (λ (o : List ℕ). older o i j) (told e (cond (pastBend c b) 2 0) (done 0 (withChannel e c (withBend (channelAt e c) b))) refl)
-  call-older (Calls.Render to ram rom out) e h =
-      ap (λ (o : List ℕ). older o i j) (told e (renderNumber to ram rom (length out) e) (done 0 (withClock (played ram rom (distance e to) e) to)) refl)
-  call-older (Calls.Ask s) e h = refl
-
-  run-older : (xs : List Call) (e : Engine) → Ordered (e .order) → older (run xs e .order) i j ≡ startedLast (history xs e) i j (older (e .order) i j)
-  unfolding run history startedLast
-  run-older [] e h = refl
-  run-older (x ∷ xs) e h =
-      run-older xs (next x e) (call-keeps (λ (y : Engine). Ordered (y .order)) ordered-lasts x e h)
-      ∙ ap (startedLast (history xs (next x e)) i j) (call-older x e h)
-      ∙ sym (last-append (startsIn x e) (history xs (next x e)) i j (older (e .order) i j))
-
--- the fresh order is by number
-up-older : (i j a n : ℕ) → a ≤ i → a ≤ j → i < a + n → j < a + n → (i ≡ j → ⊥) → older (upFrom a n) i j ≡ ltb i j
-unfolding older
-up-older i j a zero hi hj ki kj d = absurd (no hi ki)
-  where
-    no : a ≤ i → i < a + 0 → ⊥
-    no h k = omega arith
-up-older i j a (suc n) hi hj ki kj d = by (eqb a i) refl (eqb a j) refl (up-older i j (a + 1) n)
-  where
-    over : (k : ℕ) → a ≤ k → (a ≡ k → ⊥) → a + 1 ≤ k
-    over k h m = ⊎-elim (λ l. omega arith) (λ l. absurd (m l)) (split a k h)
-
-    by : (p : Bool) → eqb a i ≡ p → (q : Bool) → eqb a j ≡ q
-        → (a + 1 ≤ i → a + 1 ≤ j → i < a + 1 + n → j < a + 1 + n → (i ≡ j → ⊥) → older (upFrom (a + 1) n) i j ≡ ltb i j)
-        → cond p true (cond q false (older (upFrom (a + 1) n) i j)) ≡ ltb i j
-    by true e true f r = absurd (d (sym (eqb-true a i e) ∙ eqb-true a j f))
-    by true e false f r = sym (lt-ltb i j (omega (arith, eqb-true a i e, over j hj (eqb-false a j f))))
-    by false e true f r = sym (le-ltb i j (omega (arith, eqb-true a j f)))
-    by false e false f r = r (over i hi (eqb-false a i e)) (over j hj (eqb-false a j f)) (omega arith) (omega arith) d
-
-fresh-older : (i j : ℕ) → i < 32 → j < 32 → (i ≡ j → ⊥) → older (fresh .order) i j ≡ ltb i j
-unfolding fresh
-fresh-older i j li lj d = up-older i j 0 32 (omega arith) (omega arith) (omega arith) (omega arith) d
-
--- start by start from the fresh order on
-pub order-age : OrderIsAge
-order-age xs = (
-  ordered-run xs,
-  λ i j li lj d. run-older i j li lj d xs fresh fresh-ordered ∙ ap (startedLast (history xs fresh) i j) (fresh-older i j li lj d),
-)

@@ -45,7 +45,7 @@ use Rattle.promises.specs.States.{NoSecondRelease, OrderUnguarded, NoOrd
 use Rattle.promises.proofs.Banks.{Came, came}
 use Rattle.promises.proofs.Demand1.{render-numbers}
 use Rattle.promises.proofs.Demand2.{let-go}
-use Rattle.promises.proofs.Age.{order-slots, renewed-is}
+use Rattle.promises.proofs.AgeLaws.{order-slots, renewed-is}
 use Rattle.promises.proofs.EachSlot.{either, never, and-both, held-unreleased}
 use Rattle.promises.proofs.Frames.{after-sounded}
 use Rattle.promises.proofs.Kept.{layers}

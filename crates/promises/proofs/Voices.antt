@@ -1,5 +1,5 @@
 -- What every call keeps of the voices: what no movement changes, and that no slot begins to sound but by a start.
-use Prim.Native.Nat.{ℕ, zero, suc, _+_, _≤_, _<_}
+use Prim.Native.Nat.{ℕ, zero, suc, _+_}
 use mathlib.Core.Bool.{Bool, true, false, _||_}
 use mathlib.Core.Path.{_≡_, sym, ap, _∙_, subst, refl}
 use mathlib.Core.List.{List, [], _∷_, _++_}
@@ -23,10 +23,9 @@ use Rattle.state.specs.Channels.{channelAt}
 use Rattle.events.specs.Keys.{mark}
 use Rattle.engine.specs.Rendering.{window, slotAfter}
 use Rattle.promises.proofs.EachSlot.{Among, What, stands, pedalled, loosed, freed, started, goes, never, what, held-unreleased}
-use Rattle.promises.proofs.Frames.{after-keeps, after-sounded, Late, late-after, late-none}
+use Rattle.promises.proofs.Frames.{after-keeps, after-sounded, Late, late-after}
 use Rattle.state.specs.Quiet.{fresh}
 use Rattle.state.proofs.AnswersLaws.{or-no}
-use Rattle.promises.specs.Demand2.{FreeInTime}
 
 -- a property that stage, place and mark do not touch
 abbrev pub Fixed : (Voice → Type 0) → Type 0
@@ -174,7 +173,7 @@ late-call x e i f none on k = by (what x e i)
         subst (λ (y : Slot). Late (f + framesOf x e) (y .voice)) (sym a)
         (late-after (channelAt e (s .voice .channel)) (window ram rom (s .voice)) f (framesOf x e) s k (sym (ap (λ (y : Slot). y .sounding) a) ∙ on))
 
-late-run : (xs : List Call) (e : Engine) (i f : ℕ) → among i (history xs e) ≡ false → slotAt (run xs e) i .sounding ≡ true
+pub late-run : (xs : List Call) (e : Engine) (i f : ℕ) → among i (history xs e) ≡ false → slotAt (run xs e) i .sounding ≡ true
     → Late f (voiceIn i e) → Late (f + framesRun xs e) (voiceIn i (run xs e))
 unfolding run history framesRun
 late-run [] e i f none on k = rw add-zero k
@@ -183,17 +182,3 @@ late-run (x ∷ xs) e i f none on k =
     let q : f + framesOf x e + framesRun xs (next x e) ≡ f + (framesOf x e + framesRun xs (next x e)) = omega arith in
     subst (λ (m : ℕ). Late m (voiceIn i (run xs (next x e)))) q
     (late-run xs (next x e) i (f + framesOf x e) (p .1) on (late-call x e i f (p .0) (run-sounded xs (next x e) i (p .1) on) k))
-
--- a voice that still sounds is released for as many frames as were rendered, and its release is shorter
-pub free-in-time : FreeInTime
-free-in-time i xs e h none n = by (slotAt (run xs e) i .sounding) refl
-  where
-    over : (f t r o : ℕ) → o + 1 ≤ f → 0 + f ≤ t → (0 < 0 + f → t ≤ r) → r ≡ o → ⊥
-    over f t r o a b c d = let g : t ≤ r = c (omega arith) in omega arith
-
-    by : (b : Bool) → slotAt (run xs e) i .sounding ≡ b → b ≡ false
-    by false q = refl
-    by true q =
-        let k = late-run xs e i 0 none q (late-none (voiceIn i e) h) in
-        let r = run-voice (λ (v : Voice). v .release ≡ voiceIn i e .release) (λ v g p m j. j) xs e i none q refl in
-        absurd (over (framesRun xs e) (k .t) (voiceIn i (run xs e) .release) (voiceIn i e .release) n (k .spent) (k .young) r)

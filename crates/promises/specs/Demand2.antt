@@ -4,7 +4,6 @@ use mathlib.Core.Bool.{true, false, cond, Bool}
 use mathlib.Core.Path.{_≡_}
 use mathlib.Core.List.{List, [], _∷_}
 use lib.IntN.{ℤ, pos, negsuc}
-use lib.Dec.{eqb, ltb}
 use lib.ListN.{length, getD, drop}
 use lib.Count.{ones}
 use lib.Ieee.{Float}
@@ -13,10 +12,10 @@ use Rattle.voice.specs.Release.{release}
 use Rattle.state.specs.declared.Engine.{Engine}
 use Rattle.state.specs.Slots.{slotAt, slotsOf, ofChannel, withVoice}
 use Rattle.events.specs.Keys.{heldKey, pedalDown, mark, pedalHeld}
-use Rattle.promises.specs.Calls.{NoteOff, does, next, voiceIn, NoteOn, Control, Call, run, Program, Bend, Render, Ask, among, history, framesRun, begun, channelOf, startsIn, framesOf, written}
+use Rattle.promises.specs.Calls.{NoteOff, does, next, voiceIn, NoteOn, Control, Call, run, Render, among, begun, channelOf, startsIn, framesOf, written}
 use Rattle.state.specs.Quiet.{fresh}
 use Rattle.voice.specs.Stages.{released}
-use Rattle.promises.specs.Age.{older, Ordered, startedLast}
+use Rattle.promises.specs.Age.{older}
 use Rattle.arith.specs.Words.{bit}
 use Rattle.voice.specs.declared.Voice.{Voice}
 use Rattle.state.specs.Seats.{seat}
@@ -71,65 +70,7 @@ NoMarkWithoutPedal =
     (xs : List Call) (i : ℕ) → slotAt (run xs fresh) i .sounding ≡ true → voiceIn i (run xs fresh) .marked ≡ true
     → pedalDown (run xs fresh) (voiceIn i (run xs fresh) .channel) ≡ true
 
--- ---- 3. The October night
-
--- a call that strikes a key: a note-on of another velocity than 0
-abbrev pub strikes : ℕ → ℕ → Call → Bool
-strikes c k (NoteOn b ram rom channel key velocity) = cond (eqb velocity 0) false (cond (eqb channel c) (eqb key k) false)
-strikes c k (NoteOff channel key) = false
-strikes c k (Control channel n value) = false
-strikes c k (Program channel p) = false
-strikes c k (Bend channel b) = false
-strikes c k (Render to ram rom out) = false
-strikes c k (Ask i) = false
-
--- a call that leaves a key: its note-off, or a note-on of velocity 0
-abbrev pub leaves : ℕ → ℕ → Call → Bool
-leaves c k (NoteOn b ram rom channel key velocity) = cond (eqb velocity 0) (cond (eqb channel c) (eqb key k) false) false
-leaves c k (NoteOff channel key) = cond (eqb channel c) (eqb key k) false
-leaves c k (Control channel n value) = false
-leaves c k (Program channel p) = false
-leaves c k (Bend channel b) = false
-leaves c k (Render to ram rom out) = false
-leaves c k (Ask i) = false
-
--- after some calls the key still stands struck: no call that leaves it came behind the last that strikes it; b is so before
-unfoldable pub struckAfter : ℕ → ℕ → Bool → List Call → Bool
-struckAfter c k b [] = b
-struckAfter c k b (x ∷ xs) = struckAfter c k (cond (strikes c k x) true (cond (leaves c k x) false b)) xs
-
--- a piece: any calls that leave each key behind the last time that they strike it
-abbrev pub Piece : List Call → Type 0
-Piece xs = (c k : ℕ) → struckAfter c k false xs ≡ false
-
--- two lists of calls run into each other, each in its own order
-pub data Into : List Call → List Call → List Call → Type 0 where
-  ends : Into [] [] []
-  left : {x : Call} {xs ys zs : List Call} → Into xs ys zs → Into (x ∷ xs) ys (x ∷ zs)
-  right : {y : Call} {xs ys zs : List Call} → Into xs ys zs → Into xs (y ∷ ys) (y ∷ zs)
-
--- pieces, as many as one likes and the same one as often as one likes, that overlap in any way
-pub data Overlap : List Call → Type 0 where
-  quiet : Overlap []
-  more : {xs ys zs : List Call} → Piece xs → Overlap ys → Into xs ys zs → Overlap zs
-
--- after such a night, once no pedal is down, every voice that still sounds is released
-abbrev pub OctoberNight : Type 0
-OctoberNight =
-    (night : List Call) → Overlap night → ((c : ℕ) → pedalDown (run night fresh) c ≡ false)
-    → (i : ℕ) → slotAt (run night fresh) i .sounding ≡ true → released (voiceIn i (run night fresh) .stage) ≡ true
-
--- ---- 4. A released voice is free after at most N + 1 rendered frames, N its release's frames
-
--- no call starts a voice in slot i
-abbrev pub NeverStarts : ℕ → List Call → Engine → Type 0
-NeverStarts i xs e = among i (history xs e) ≡ false
-
--- however they are cut, and whatever else is called, unless another voice is started in its slot
-abbrev pub FreeInTime : Type 0
-FreeInTime =
-    (i : ℕ) (xs : List Call) (e : Engine) → released (voiceIn i e .stage) ≡ true → NeverStarts i xs e
-    → voiceIn i e .release + 1 ≤ framesRun xs e → slotAt (run xs e) i .sounding ≡ false
+-- ---- 3 and 4. The October night and its end: `Night.antt`
 
 -- ---- 5. Voices started are those of the rule
 
@@ -178,14 +119,7 @@ LayersByTheRule =
     → (does (NoteOn b ram rom c k v) (run xs fresh) .count ≡ length (begun (NoteOn b ram rom c k v) (run xs fresh)))
     × Struck (NoteOn b ram rom c k v) (run xs fresh)
 
--- ---- 6. `order` holds each slot once and is the order of starting, without end
-
--- after any run: each slot stands once, and before the slots that were started later (at first, before those of higher number)
-abbrev pub OrderIsAge : Type 0
-OrderIsAge =
-    (xs : List Call) → Ordered (run xs fresh .order)
-    × ((i j : ℕ) → i < 32 → j < 32 → (i ≡ j → ⊥)
-    → older (run xs fresh .order) i j ≡ startedLast (history xs fresh) i j (ltb i j))
+-- ---- 6. The order of age: `Age.antt`
 
 -- ---- 7. The word's ones are the voices
 

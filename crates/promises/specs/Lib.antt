@@ -2,6 +2,7 @@ pub mod Calls
 pub mod Moments
 pub mod Demand1
 pub mod Age
+pub mod Night
 pub mod Demand2
 pub mod Cuts
 pub mod Panel
