@@ -22,7 +22,7 @@ use Rattle.events.specs.Controls.{controlled, controlChange, pedal, silence}
 use Rattle.events.specs.Programs.{programChange}
 use Rattle.promises.proofs.EachSlot.{and-both, letOff-picked, cut-picked, cut-left}
 use Rattle.promises.proofs.Demand2.{off-done, gone}
-use Rattle.promises.specs.Controls.{ControlsSetOne, BendSetsOne, PedalRaised, OthersDoNothing, AllSoundOff, AllNotesOff, AllNotesOffAlways, keysOff}
+use Rattle.promises.specs.Controls.{ControlsSetOne, BendSetsOne, OthersDoNothing, AllSoundOff, AllNotesOff, AllNotesOffAlways, keysOff}
 use Rattle.state.specs.Answers.{done}
 use Rattle.state.proofs.AnswersLaws.{or-no}
 use Rattle.promises.specs.Calls.{run}
@@ -46,25 +46,6 @@ sets-one channel value e h k =
 pub bend-sets : BendSetsOne
 unfolding pitchBend
 bend-sets channel bend e h k = simp (le-ltb 15 channel h, le-ltb 16383 bend k)
-
--- past the tests it is `pedal`
-pedal-is : (channel value : ℕ) (e : Engine) → channel ≤ 15 → value ≤ 127 → controlChange channel 64 value e ≡ record { status = 0; count = 0; engine = pedal channel value e }
-unfolding controlChange controlled
-pedal-is channel value e h k = simp (le-ltb 15 channel h, le-ltb 127 value k)
-
--- the slots apart, a lifted pedal is that of its channel
-pub raised : PedalRaised
-unfolding pedal
-raised channel value e h k =
-    let low : value ≤ 127 = omega arith in
-    let d = pedal-is channel value e h low in
-    let up = lt-ltb value 64 k in
-    record {
-      done = d ∙ sym (ap (λ (a : Answered). record { status = 0; count = 0; engine = a .engine }) d);
-      channels = ap (λ (a : Answered). a .engine .channels) d ∙ simp up;
-      order = ap (λ (a : Answered). a .engine .order) d ∙ simp up;
-      clock = ap (λ (a : Answered). a .engine .clock) d ∙ simp up;
-    }
 
 -- no test of a control's number holds
 pub nothing-done : OthersDoNothing

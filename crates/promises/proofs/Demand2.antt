@@ -18,7 +18,8 @@ use Rattle.state.proofs.SlotsLaws.{slot-map}
 use Rattle.events.proofs.KeysLaws.{off-keeps}
 use Rattle.state.specs.declared.Answered.{Answered}
 use Rattle.promises.proofs.EachSlot.{letOff-picked}
-use Rattle.promises.specs.Demand2.{NoteOffReachesAll}
+use Rattle.promises.specs.Demand2.{NoteOffReachesAll, VelocityZeroIsNoteOff}
+use Rattle.events.specs.Striking.{noteOn}
 
 -- within its ranges it is done
 pub off-done : (channel key : ℕ) (e : Engine) → channel ≤ 15 → key ≤ 127 → noteOff channel key e ≡ offKey channel key e
@@ -72,3 +73,8 @@ reaches channel key e h k =
     no : (down : Bool) (s : Slot) (b : Bool) → heldKey channel key s ≡ b → heldKey channel key (letOff down (heldKey channel key) s) ≡ false
     no down s true t = ap (heldKey channel key) (letOff-picked down (heldKey channel key) s t) ∙ gone channel key s down
     no down s false t = ap (heldKey channel key) (off-keeps down (heldKey channel key) s t) ∙ t
+
+-- velocity 0 is tested before the bank is looked at
+pub zero-off : VelocityZeroIsNoteOff
+unfolding noteOn noteOff
+zero-off b ram rom channel key e h k = simp (le-ltb 15 channel h, le-ltb 127 key k)

@@ -15,6 +15,7 @@ pub mod Night
 pub mod NightExample
 pub mod Output
 pub mod Panel
+pub mod Pedal
 pub mod Runs
 pub mod Seats
 pub mod States

@@ -1,41 +1,31 @@
--- Demand 2: the pedal, the October night, and its end in silence.
+-- Demand 2: the October night, and its end in silence.
 use Prim.Native.Nat.{ℕ, _≤_, _<_, zero, suc, _+_, _^_}
 use mathlib.Core.Path.{_≡_, refl, ap, _∙_, sym, subst}
-use mathlib.Core.Bool.{false, _&&_, and-false, Bool, true, cond, _||_, not}
-use lib.Dec.{eqb, leb, ltb}
-use mathlib.Core.List.{map, List, [], _∷_}
+use mathlib.Core.Bool.{false, _&&_, Bool, true, cond, not}
+use lib.Dec.{eqb}
+use mathlib.Core.List.{List, [], _∷_}
 use native.Mathlib.Omega.{arith}
 use native.Mathlib.Nat.{le-refl, le-trans, le-max-left, le-max-right, max-le, add-le-add}
-use borrow.Author.Tests.{le-ltb, lt-ltb, ltb-false, eqb-true, ltb-true, le-leb, not-true, eq-eqb}
-use lib.ListN.{getD, set, length}
-use lib.Seq.{getD-set-other}
+use borrow.Author.Tests.{eqb-true, not-true, eq-eqb}
+use lib.ListN.{getD, length}
 use lib.IntN.{ℤ}
 use mathlib.Core.Logic.{_⊎_, ⊎-elim, inl, inr}
 use Rattle.voice.specs.declared.Voice.{Voice}
 use Rattle.voice.specs.Changes.{free, blank, sounds}
-use Rattle.state.specs.Slots.{ofChannel, withVoice, slotsOf, withSlots, slotAt, withClock, wordOf}
-use Rattle.events.specs.Keys.{pedalHeld, letOff, noteOff, pedalDown, off, offKey, held, heldKey, mark}
+use Rattle.state.specs.Slots.{ofChannel, withVoice, slotsOf, slotAt, wordOf}
+use Rattle.events.specs.Keys.{pedalDown, held, heldKey, mark}
 use Rattle.voice.specs.declared.Slot.{Slot}
 use Rattle.voice.specs.Release.{release}
-use Rattle.events.specs.Controls.{withPedal, pedal, controlled, controlChange, withStored, withVolume, withExpression, silence}
 use Rattle.state.specs.declared.Engine.{Engine}
-use Rattle.state.specs.Channels.{channelAt, withChannel, noChannel}
-use Rattle.state.proofs.SlotsLaws.{slot-map}
-use Rattle.events.proofs.KeysLaws.{off-keeps}
-use Rattle.promises.proofs.EachSlot.{letOff-picked, either, and-both, never, What, stands, pedalled, loosed, freed, started, goes, what, held-channel, Among}
-use Rattle.promises.specs.Demand2.{LiftingReleases, VelocityZeroIsNoteOff, NoMarkWithoutPedal}
-use Rattle.promises.specs.Night.{strikes, leaves, struckAfter, NotHeld, KeyIsLeft, MarksUnderPedal, KeyIsReleased, Into, ends, left, right, Piece, Overlap, quiet, more, OctoberNight, FreeInTime, longest, SilentInTime, ReleasesEnd, NoStrike, NightEnds, NightEndsAlways}
-use Rattle.events.specs.Striking.{noteOn, layerVoices, noteOnNumber, bankFrom}
+use Rattle.state.specs.Channels.{channelAt}
+use Rattle.promises.proofs.EachSlot.{and-both, never, What, stands, pedalled, loosed, freed, started, goes, what, Among}
+use Rattle.promises.proofs.Pedal.{marks-run, fresh-marks}
+use Rattle.promises.specs.Night.{strikes, leaves, struckAfter, NotHeld, KeyIsLeft, KeyIsReleased, Into, ends, left, right, Piece, Overlap, quiet, more, OctoberNight, FreeInTime, longest, SilentInTime, ReleasesEnd, NoStrike, NightEnds, NightEndsAlways}
 use Rattle.voice.specs.declared.Channel.{Channel}
-use Rattle.state.specs.Answers.{pastTwo, done, refused, answer, pastOne, pastBend}
-use Rattle.state.proofs.AnswersLaws.{or-no}
-use Rattle.promises.specs.Calls.{Call, next, voiceIn, framesOf, channelOf, run, begun, among, history, framesRun, seats}
-use Rattle.events.specs.Starting.{Started, start, startAll, cleared, struck}
+use Rattle.promises.specs.Calls.{Call, next, voiceIn, framesOf, run, begun, among, history, framesRun, seats}
+use Rattle.events.specs.Starting.{struck}
 use Rattle.state.specs.declared.Answered.{Answered}
-use Rattle.events.specs.Programs.{withProgram, programChange}
-use Rattle.events.specs.Bends.{withBend, pitchBend}
-use Rattle.state.specs.Seats.{startIn}
-use Rattle.engine.specs.Rendering.{distance, played, renderNumber, render, window, slotAfter}
+use Rattle.engine.specs.Rendering.{window, slotAfter}
 use Rattle.voice.specs.Stages.{released}
 use Rattle.voice.specs.Frames.{after}
 use Rattle.promises.proofs.Frames.{after-keeps, after-sounded, late-none, late-after}
@@ -45,150 +35,8 @@ use Rattle.promises.proofs.Voices.{fresh-free, from-fresh, run-sounded,
 use Rattle.promises.proofs.Kept.{Sized, sized-lasts, run-keeps}
 use Rattle.promises.proofs.Seats.{sized-run}
 use Rattle.state.proofs.SeatsLaws.{word-back}
-use Rattle.promises.proofs.Demand2.{reaches, gone, free-held}
+use Rattle.promises.proofs.Demand2.{reaches, zero-off, gone, free-held}
 use Rattle.promises.specs.Calls as Calls
-
--- ---- lifting the pedal
-
-free-pedal : (channel : ℕ) (v : Voice) → pedalHeld channel (free v) ≡ false
-unfolding pedalHeld ofChannel
-free-pedal channel v = refl
-
--- what is released is marked no more
-unmarked : (channel : ℕ) (s : Slot) → pedalHeld channel (withVoice s (release (s .voice))) ≡ false
-unfolding pedalHeld ofChannel release
-unmarked channel s = and-false (s .sounding && eqb (s .voice .channel) channel)
-
-lift-is : (channel value : ℕ) (e : Engine) → channel ≤ 15 → value < 64 → controlChange channel 64 value e .engine
-    ≡ withSlots (withChannel e channel (withPedal (channelAt e channel) value)) (map (letOff false (pedalHeld channel)) (slotsOf e))
-unfolding controlChange controlled pedal
-lift-is channel value e h k =
-    let low : value ≤ 127 = omega arith in
-    simp (le-ltb 15 channel h, le-ltb 127 value low, lt-ltb value 64 k)
-
--- slot by slot
-pub lifts : LiftingReleases
-lifts channel value e h k =
-    record {
-      all = λ i t. at i ∙ letOff-picked false (pedalHeld channel) (slotAt e i) t;
-      none = λ i. ap (pedalHeld channel) (at i) ∙ no (slotAt e i) (pedalHeld channel (slotAt e i)) refl;
-      others = λ i t. at i ∙ off-keeps false (pedalHeld channel) (slotAt e i) t;
-    }
-  where
-    at : (i : ℕ) → slotAt (controlChange channel 64 value e .engine) i ≡ letOff false (pedalHeld channel) (slotAt e i)
-    at i =
-        ap (λ (x : Engine). slotAt x i) (lift-is channel value e h k)
-        ∙ slot-map e (withChannel e channel (withPedal (channelAt e channel) value)) (letOff false (pedalHeld channel)) i
-        (off-keeps false (pedalHeld channel) (free blank) (free-pedal channel blank))
-
-    no : (s : Slot) (b : Bool) → pedalHeld channel s ≡ b → pedalHeld channel (letOff false (pedalHeld channel) s) ≡ false
-    no s true t = ap (pedalHeld channel) (letOff-picked false (pedalHeld channel) s t) ∙ unmarked channel s
-    no s false t = ap (pedalHeld channel) (off-keeps false (pedalHeld channel) s t) ∙ t
-
--- velocity 0 is tested before the bank is looked at
-pub zero-off : VelocityZeroIsNoteOff
-unfolding noteOn noteOff
-zero-off b ram rom channel key e h k = simp (le-ltb 15 channel h, le-ltb 127 key k)
-
--- ---- what calls do to a channel's pedal
-
--- a channel set to one with the same pedal
-set-pedal : (cs : List Channel) (c d : ℕ) (x : Channel) → x .pedal ≡ getD cs c noChannel .pedal → getD (set cs c x) d noChannel .pedal ≡ getD cs d noChannel .pedal
-set-pedal [] c d x h = refl
-set-pedal (y ∷ cs) zero zero x h = h
-set-pedal (y ∷ cs) zero (suc d) x h = refl
-set-pedal (y ∷ cs) (suc c) zero x h = refl
-set-pedal (y ∷ cs) (suc c) (suc d) x h = set-pedal cs c d x h
-
--- or to one whose pedal is down
-set-down : (cs : List Channel) (c d : ℕ) (x : Channel) → leb 64 (x .pedal) ≡ true → leb 64 (getD cs d noChannel .pedal) ≡ true → leb 64 (getD (set cs c x) d noChannel .pedal) ≡ true
-set-down [] c d x h k = k
-set-down (y ∷ cs) zero zero x h k = h
-set-down (y ∷ cs) zero (suc d) x h k = k
-set-down (y ∷ cs) (suc c) zero x h k = k
-set-down (y ∷ cs) (suc c) (suc d) x h k = set-down cs c d x h k
-
--- one of two, knowing the test
-when : {A : Type 0} (P : A → Type 0) (b : Bool) (x y : A) → (b ≡ true → P x) → P y → P (cond b x y)
-when P true x y h k = h refl
-when P false x y h k = k
-
-in-fifteen : (c n v : ℕ) → pastTwo c n v ≡ false → c ≤ 15
-in-fifteen c n v q = ltb-false 15 c (or-no (ltb 15 c) (ltb 127 n) (or-no (ltb 15 c || ltb 127 n) (ltb 127 v) q .0) .0)
-
--- a call lifts the pedal of channel d
-pub record Lift (x : Call) (d : ℕ) : Type 0 where
-  pub value : ℕ
-  pub is : x ≡ Calls.Control d 64 value
-  pub range : d ≤ 15
-  pub low : value < 64
-
-module _ (d : ℕ) (e : Engine) (down : pedalDown e d ≡ true) where
-  -- the pedal is still down
-  abbrev Down : Engine → Type 0
-  Down y = pedalDown y d ≡ true
-
-  told : (n : ℕ) (a : Answered) → Down (a .engine) → Down (answer n e a .engine)
-  told n a k = either (λ (x : Answered). Down (x .engine)) (eqb n 0) a (refused n e) k down
-
-  -- starting voices sets no channel
-  layers : (vs : List Voice) (x : Started) → Down (x .engine) → Down (startAll vs x .engine)
-  unfolding startAll start startIn
-  layers [] x h = h
-  layers (v ∷ vs) x h = layers vs (start v x) h
-
-  off-down : (c k : ℕ) → Down (offKey c k e .engine)
-  unfolding offKey off
-  off-down c k = down
-
-  same : (c : ℕ) (x : Channel) → x .pedal ≡ channelAt e c .pedal → Down (withChannel e c x)
-  same c x h = ap (leb 64) (set-pedal (e .channels) c d x h) ∙ down
-
-  pedal-down : (c v : ℕ) → (c ≡ d → v < 64 → ⊥) → Down (pedal c v e)
-  unfolding pedal
-  pedal-down c v h = by (ltb v 64) refl
-    where
-      x : Channel
-      x = withPedal (channelAt e c) v
-
-      by : (b : Bool) → ltb v 64 ≡ b → Down (cond b (withSlots (withChannel e c x) (map (letOff false (pedalHeld c)) (slotsOf e))) (withChannel e c x))
-      by true q = ap (λ (y : Channel). leb 64 (y .pedal)) (getD-set-other (e .channels) c d x noChannel (λ p. h (sym p) (ltb-true v 64 q))) ∙ down
-      by false q = set-down (e .channels) c d x (le-leb 64 v (ltb-false v 64 q)) down
-
-  controls-down : (c n v : ℕ) → (c ≡ d → n ≡ 64 → v < 64 → ⊥) → Down (controlled c n v e)
-  unfolding controlled silence off
-  controls-down c n v h =
-      either Down (eqb n 0) _ _ (same c (withStored (channelAt e c) v) refl)
-      (either Down (eqb n 7) _ _ (same c (withVolume (channelAt e c) v) refl)
-      (either Down (eqb n 11) _ _ (same c (withExpression (channelAt e c) v) refl)
-      (when Down (eqb n 64) _ _ (λ q. pedal-down c v (λ p l. h p (eqb-true n 64 q) l))
-      (either Down (eqb n 120) _ _ down
-      (either Down (eqb n 123) _ _ down down)))))
-
-  -- a pedal that is down stays down, unless the call lifts it
-  stays-down : (x : Call) → (Lift x d → ⊥) → Down (next x e)
-  unfolding noteOn noteOff controlChange programChange pitchBend render struck cleared played
-  stays-down (Calls.NoteOn b ram rom c k v) h =
-      let vs = layerVoices (bankFrom b) c k v e in
-      told (cond (pastTwo c k v) 2 0) _
-      (either (λ (x : Answered). Down (x .engine)) (eqb v 0) _ _ (off-down c k)
-      (told (noteOnNumber (bankFrom b) ram rom c k v e) (done (length vs) (struck c vs e .engine)) (layers vs (record { engine = cleared c vs e; mine = 0 }) down)))
-  stays-down (Calls.NoteOff c k) h = told (cond (pastOne c k) 2 0) (offKey c k e) (off-down c k)
-  stays-down (Calls.Control c n v) h = by (pastTwo c n v) refl
-    where
-      by : (t : Bool) → pastTwo c n v ≡ t → Down (answer (cond t 2 0) e (done 0 (controlled c n v e)) .engine)
-      by true q = down
-      by false q =
-          controls-down c n v (λ p m l. h (record { value = v; is = ap (λ (y : ℕ). Calls.Control y n v) p ∙ ap (λ (y : ℕ). Calls.Control d y v) m; range = subst (λ (y : ℕ). y ≤ 15) p (in-fifteen c n v q); low = l }))
-  stays-down (Calls.Program c p) h =
-      let x = withProgram (channelAt e c) p in
-      told (cond (pastOne c p) 2 0) (done 0 (withChannel e c x)) (same c x refl)
-  stays-down (Calls.Bend c b) h =
-      let x = withBend (channelAt e c) b in
-      told (cond (pastBend c b) 2 0) (done 0 (withChannel e c x)) (same c x refl)
-  stays-down (Calls.Render to ram rom out) h =
-      told (renderNumber to ram rom (length out) e) (done 0 (withClock (played ram rom (distance e to) e) to)) down
-  stays-down (Calls.Ask i) h = down
 
 -- ---- held voices, by their parts
 
@@ -222,10 +70,6 @@ unfolding heldKey held ofChannel
 hold-back c k s h =
     rw (h .sounding, eq-eqb (s .voice .channel) c (h .channel), h .unreleased, h .unmarked, eq-eqb (s .voice .key) k (h .key)) refl
 
-of-channel : (c : ℕ) (s : Slot) → ofChannel c s ≡ true → s .voice .channel ≡ c
-unfolding ofChannel
-of-channel c s h = eqb-true (s .voice .channel) c (and-both (s .sounding) (eqb (s .voice .channel) c) h .1)
-
 -- a slot held after n frames was held before them
 held-before : (ch : Channel) (w : List ℤ) (n c k : ℕ) (s : Slot) → heldKey c k (after ch w n s) ≡ true → heldKey c k s ≡ true
 held-before ch w n c k s h =
@@ -241,62 +85,6 @@ held-before ch w n c k s h =
     by : (b : Bool) → released (s .voice .stage) ≡ b → after ch w n s .sounding ≡ true → released (after ch w n s .voice .stage) ≡ false → b ≡ false
     by false q on u = refl
     by true q on u = let l = late-after ch w 0 n s (late-none (s .voice) q) on in absurd (never (sym u ∙ ap released (l .stage)))
-
--- ---- no voice is marked while its pedal is up
-
--- the pedal was down for a voice that is marked after a call
-was-down : (x : Call) (e : Engine) → MarksUnderPedal e → (i : ℕ) → slotAt (next x e) i .sounding ≡ true → voiceIn i (next x e) .marked ≡ true
-    → pedalDown e (voiceIn i (next x e) .channel) ≡ true
-unfolding release
-was-down x e h i on m = by (what x e i)
-  where
-    s : Slot
-    s = slotAt e i
-
-    at : (t : Slot) → slotAt (next x e) i ≡ t → (t .sounding ≡ true → t .voice .marked ≡ true → pedalDown e (t .voice .channel) ≡ true)
-        → pedalDown e (voiceIn i (next x e) .channel) ≡ true
-    at t a k =
-        subst (λ (y : Slot). pedalDown e (y .voice .channel) ≡ true) (sym a)
-        (k (sym (ap (λ (y : Slot). y .sounding) a) ∙ on) (sym (ap (λ (y : Slot). y .voice .marked) a) ∙ m))
-
-    by : What x e i → pedalDown e (voiceIn i (next x e) .channel) ≡ true
-    by (stands a n) = at s a (h i)
-    by (pedalled a n l d) =
-        at (withVoice s (mark (s .voice))) a
-        (λ o p. subst (λ (c : ℕ). pedalDown e c ≡ true) (sym (of-channel (channelOf x) s (held-channel (channelOf x) s l))) d)
-    by (loosed a n c) = at (withVoice s (release (s .voice))) a (λ o p. absurd (never p))
-    by (freed a n c) = at (free (s .voice)) a (λ o p. absurd (never o))
-    by (started u a n f t) = at (sounds u) a (λ o p. absurd (never (sym (came x e u f .good .unmarked) ∙ p)))
-    by (goes ram rom a) =
-        let ch = channelAt e (s .voice .channel) in
-        let w = window ram rom (s .voice) in
-        let n = framesOf x e in
-        at (slotAfter ram rom e n s) a
-        (λ o p. subst (λ (c : ℕ). pedalDown e c ≡ true) (sym (after-keeps ch w (λ (v : Voice). v .channel ≡ s .voice .channel) (λ v g q r. r) n s refl))
-        (h i (after-sounded ch w n s o) (sym (after-keeps ch w (λ (v : Voice). v .marked ≡ s .voice .marked) (λ v g q r. r) n s refl) ∙ p)))
-
-marked-is : (c : ℕ) (s : Slot) → s .sounding ≡ true → s .voice .channel ≡ c → s .voice .marked ≡ true → pedalHeld c s ≡ true
-unfolding pedalHeld ofChannel
-marked-is c s a b d = rw (a, eq-eqb (s .voice .channel) c b, d) refl
-
-marks-call : (x : Call) (e : Engine) → MarksUnderPedal e → MarksUnderPedal (next x e)
-marks-call x e h i on m =
-    let c = voiceIn i (next x e) .channel in
-    stays-down c e (was-down x e h i on m) x
-    (λ l. never (sym (ap (λ (y : Call). pedalHeld c (slotAt (next y e) i)) (l .is) ∙ lifts c (l .value) e (l .range) (l .low) .none i)
-    ∙ marked-is c (slotAt (next x e) i) on refl m))
-
-marks-run : (xs : List Call) (e : Engine) → MarksUnderPedal e → MarksUnderPedal (run xs e)
-unfolding run
-marks-run [] e h = h
-marks-run (x ∷ xs) e h = marks-run xs (next x e) (marks-call x e h)
-
-fresh-marks : MarksUnderPedal fresh
-fresh-marks i on m = absurd (never (sym (fresh-free i) ∙ on))
-
--- it is so at first, and no call breaks it
-pub no-mark : NoMarkWithoutPedal
-no-mark xs = marks-run xs fresh fresh-marks
 
 -- ---- one key
 

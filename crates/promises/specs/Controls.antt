@@ -1,6 +1,6 @@
 -- Demand 2, controls, program change and pitch bend (01, "Slots, keys and the clock"): what each sets or frees, and that nothing
 -- else moves.
-use Prim.Native.Nat.{ℕ, zero, suc, _≤_, _<_}
+use Prim.Native.Nat.{ℕ, zero, suc, _≤_}
 use mathlib.Core.Bool.{true, false}
 use mathlib.Core.List.{List, [], _∷_}
 use lib.Dec.{eqb}
@@ -22,7 +22,7 @@ use Rattle.promises.specs.Calls.{Call, NoteOff, Control, Program, Bend, 
 abbrev pub Sets : Call → ℕ → (Channel → Channel) → Engine → Type 0
 Sets x channel f e = does x e ≡ done 0 (withChannel e channel (f (channelAt e channel)))
 
--- controls 0, 7 and 11, the pedal put down, and a program change, which takes the stored bank
+-- controls 0, 7 and 11, the pedal put down (`Pedal.antt` has it lifted), and a program change, which takes the stored bank
 pub record SetsOne (channel value : ℕ) (e : Engine) : Type 0 where
   pub stored : Sets (Control channel 0 value) channel (λ (c : Channel). withStored c value) e
   pub volume : Sets (Control channel 7 value) channel (λ (c : Channel). withVolume c value) e
@@ -39,17 +39,6 @@ abbrev pub BendSetsOne : Type 0
 BendSetsOne =
     (channel bend : ℕ) (e : Engine) → channel ≤ 15 → bend ≤ 16383
     → Sets (Bend channel bend) channel (λ (c : Channel). withBend c bend) e
-
--- the pedal lifted: it releases the marked voices (`LiftingReleases`) and sets the pedal of its channel; nothing else moves
-pub record Raised (channel value : ℕ) (e : Engine) : Type 0 where
-  pub done : does (Control channel 64 value) e ≡ done 0 (next (Control channel 64 value) e)
-  pub channels : next (Control channel 64 value) e .channels ≡ withChannel e channel (withPedal (channelAt e channel) value) .channels
-  pub order : next (Control channel 64 value) e .order ≡ e .order
-  pub clock : next (Control channel 64 value) e .clock ≡ e .clock
-
--- that is so in every state, for every value below 64
-abbrev pub PedalRaised : Type 0
-PedalRaised = (channel value : ℕ) (e : Engine) → channel ≤ 15 → value < 64 → Raised channel value e
 
 -- a control that is none of 0, 7, 11, 64, 120 and 123 does nothing
 abbrev pub OthersDoNothing : Type 0

@@ -1,4 +1,5 @@
--- Demand 2: every number is right. The definitions are 01's rules; here stands what a doubter asks of them.
+-- Demand 2: every number is right. The definitions are 01's rules; here stands what a doubter asks of them (and in `Pedal.antt`,
+-- `Controls.antt`, `Night.antt`, `Age.antt`, `Cuts.antt` and `Panel.antt`).
 use Prim.Native.Nat.{ℕ, _≤_, _<_, _+_, _*_}
 use mathlib.Core.Bool.{true, false, cond, Bool}
 use mathlib.Core.Path.{_≡_}
@@ -11,8 +12,8 @@ use Rattle.arith.specs.Lists.{countIf}
 use Rattle.voice.specs.Release.{release}
 use Rattle.state.specs.declared.Engine.{Engine}
 use Rattle.state.specs.Slots.{slotAt, slotsOf, ofChannel, withVoice}
-use Rattle.events.specs.Keys.{heldKey, pedalDown, mark, pedalHeld}
-use Rattle.promises.specs.Calls.{NoteOff, does, next, voiceIn, NoteOn, Control, Call, run, Render, among, begun, channelOf, startsIn, framesOf, written}
+use Rattle.events.specs.Keys.{heldKey, pedalDown, mark}
+use Rattle.promises.specs.Calls.{NoteOff, does, next, voiceIn, NoteOn, Call, run, Render, among, begun, channelOf, startsIn, framesOf, written}
 use Rattle.state.specs.Quiet.{fresh}
 use Rattle.voice.specs.Stages.{released}
 use Rattle.promises.specs.Age.{older}
@@ -50,29 +51,7 @@ VelocityZeroIsNoteOff =
     (b : List ℕ) (ram rom : List ℤ) (channel key : ℕ) (e : Engine) → channel ≤ 15 → key ≤ 127
     → does (NoteOn b ram rom channel key 0) e ≡ does (NoteOff channel key) e
 
--- ---- 2. Under the pedal none is lost
-
--- control 64 below 64: each marked voice of the channel keeps its slot and is released there, none stays marked, every other
--- slot is as it was
-pub record Lifted (channel value : ℕ) (e : Engine) : Type 0 where
-  pub all : (i : ℕ) → pedalHeld channel (slotAt e i) ≡ true
-      → slotAt (next (Control channel 64 value) e) i ≡ withVoice (slotAt e i) (release (voiceIn i e))
-  pub none : (i : ℕ) → pedalHeld channel (slotAt (next (Control channel 64 value) e) i) ≡ false
-  pub others : (i : ℕ) → pedalHeld channel (slotAt e i) ≡ false → slotAt (next (Control channel 64 value) e) i ≡ slotAt e i
-
--- that is so in every state, for every channel and every value below 64
-abbrev pub LiftingReleases : Type 0
-LiftingReleases = (channel value : ℕ) (e : Engine) → channel ≤ 15 → value < 64 → Lifted channel value e
-
--- no voice is marked while its pedal is up, after any run
-abbrev pub NoMarkWithoutPedal : Type 0
-NoMarkWithoutPedal =
-    (xs : List Call) (i : ℕ) → slotAt (run xs fresh) i .sounding ≡ true → voiceIn i (run xs fresh) .marked ≡ true
-    → pedalDown (run xs fresh) (voiceIn i (run xs fresh) .channel) ≡ true
-
--- ---- 3 and 4. The October night and its end: `Night.antt`
-
--- ---- 5. Voices started are those of the rule
+-- ---- 2. Voices started are those of the rule
 
 -- slot i is taken sooner than slot j: released voices first, then lower struck velocity, then older
 pub data Sooner (e : Engine) (i j : ℕ) : Type 0 where
@@ -119,15 +98,13 @@ LayersByTheRule =
     → (does (NoteOn b ram rom c k v) (run xs fresh) .count ≡ length (begun (NoteOn b ram rom c k v) (run xs fresh)))
     × Struck (NoteOn b ram rom c k v) (run xs fresh)
 
--- ---- 6. The order of age: `Age.antt`
-
--- ---- 7. The word's ones are the voices
+-- ---- 3. The word's ones are the voices
 
 -- after any run, as many ones as slots that sound
 abbrev pub OnesAreVoices : Type 0
 OnesAreVoices = (xs : List Call) → ones (run xs fresh .sounding) ≡ countIf (λ (s : Slot). s .sounding) (slotsOf (run xs fresh))
 
--- ---- 8. No call touches another channel
+-- ---- 4. No call touches another channel
 
 -- its voices stand, but where a voice is started in their slot: that is taking
 abbrev pub OtherVoicesStand : Type 0
@@ -139,7 +116,7 @@ OtherVoicesStand =
 abbrev pub OtherChannelsStand : Type 0
 OtherChannelsStand = (x : Call) (e : Engine) (c : ℕ) → (c ≡ channelOf x → ⊥) → channelAt (next x e) c ≡ channelAt e c
 
--- ---- 9. The output
+-- ---- 5. The output
 
 -- a sum of voices, held to -2^23..2^23
 abbrev pub heldSum : ℤ → ℤ

@@ -4,6 +4,7 @@ pub mod Demand1
 pub mod Age
 pub mod Night
 pub mod Demand2
+pub mod Pedal
 pub mod Cuts
 pub mod Panel
 pub mod Controls

@@ -10,6 +10,7 @@ use Rattle.state.specs.declared.Engine.{Engine}
 use Rattle.state.specs.Slots.{slotAt, slotsOf}
 use Rattle.state.specs.Quiet.{fresh}
 use Rattle.events.specs.Keys.{heldKey, pedalDown}
+use Rattle.promises.specs.Pedal.{MarksUnderPedal}
 use Rattle.promises.specs.Calls.{NoteOff, voiceIn, NoteOn, Control, Call, run, Program, Bend, Render, Ask, among, history, framesRun}
 
 -- ---- 1. Keys that are struck and left
@@ -51,11 +52,6 @@ abbrev pub KeyIsLeft : Type 0
 KeyIsLeft =
     (c k : ℕ) (b : Bool) (xs : List Call) (e : Engine) → c ≤ 15 → k ≤ 127 → (b ≡ false → NotHeld c k e)
     → struckAfter c k b xs ≡ false → NotHeld c k (run xs e)
-
--- the pedal of each marked voice is down: so it is after any run (`NoMarkWithoutPedal`)
-abbrev pub MarksUnderPedal : Engine → Type 0
-MarksUnderPedal e =
-    (i : ℕ) → slotAt e i .sounding ≡ true → voiceIn i e .marked ≡ true → pedalDown e (voiceIn i e .channel) ≡ true
 
 -- and if then the pedal is up, every voice of the key that still sounds is released
 abbrev pub KeyIsReleased : Type 0
