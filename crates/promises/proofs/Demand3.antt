@@ -31,8 +31,8 @@ use Rattle.curves.specs.Pitch.{stepOf, lifted, bendCents}
 use Rattle.state.specs.declared.Engine.{Engine}
 use Rattle.state.specs.Channels.{channelAt}
 use Rattle.promises.specs.Calls.{voiceIn, Call, next, run, framesOf, framesRun, startsIn, among}
-use Rattle.promises.specs.Demand3.{centsIn, Stays, Keeps, KeepsAll, stageIn, ReadAtThePlace, Moved, PlaceBetween, PlaceBetweenAlways, PlaceHolds, RatesHold, PlaceHoldsAlways}
-use Rattle.promises.specs.Moments.{Moment, moment, stateAt, inFront, startedAt}
+use Rattle.promises.specs.Demand3.{centsIn, Stays, Keeps, KeepsAll, ReadAtThePlace, Moved, PlaceBetween, PlaceBetweenAlways, PlaceHolds, RatesHold, PlaceHoldsAlways}
+use Rattle.promises.specs.Moments.{Moment, moment, stateAt, inFront, startedAt, stageIn}
 use Rattle.promises.proofs.Moments.{no-frame, slot-at, part-keeps, ramOf, romOf, in-call, front-here, front-later, front-end, front-sounded, front-everyone, started-later, started-first, moment-later}
 use Rattle.promises.proofs.Cuts.{played-cut, after-channel, after-window}
 use Rattle.state.specs.Slots.{withVoice, slotAt}

@@ -8,14 +8,13 @@ use lib.Ieee.{nan}
 use mathlib.Core.Path.{_≡_, refl, sym, ap, _∙_, subst}
 use native.Mathlib.Omega.{arith}
 use borrow.Author.Tests.{eqb-false}
-use Rattle.voice.specs.declared.Stage.the-variants.{Delay, Attack}
+use Rattle.voice.specs.declared.Stage.the-variants.{Delay}
 use Rattle.voice.specs.declared.Voice.{Voice}
-use Rattle.promises.specs.Calls.{Call, NoteOn, NoteOff, Bend, Render, does, run, framesRun, voiceIn, seats, among}
-use Rattle.voice.specs.Changes.{blank, sounds, withMoved}
+use Rattle.promises.specs.Calls.{Call, NoteOn, NoteOff, Bend, Render, run, framesRun, voiceIn, seats, among}
+use Rattle.voice.specs.Changes.{blank}
 use Rattle.state.specs.declared.Engine.{Engine}
 use Rattle.state.specs.Quiet.{freshChannel, upFrom, fresh}
 use Rattle.promises.specs.Demand3.{KeepsAll, Moved}
-use Rattle.promises.specs.States.{slotInto}
 use Rattle.voice.specs.Stages.{past}
 use Rattle.state.specs.Slots.{slotAt}
 use Rattle.promises.proofs.Demand3.{place-always, place-between, keeps-own, keeps-tuned}
@@ -123,7 +122,7 @@ struckBell =
     record { voices = voice ∷ replicate 31 blank; channels = replicate 16 freshChannel; sounding = 1; order = upFrom 1 31 ++ (0 ∷ []); clock = 0 }
 
 -- five frames in two cuts; between them a key is left, another channel is bent, a note-on is refused and another key is struck
-abbrev meanwhile : List Call
+abbrev pub meanwhile : List Call
 meanwhile =
     Render 3 ram [] (replicate 6 nan)
     ∷ NoteOff 0 61
@@ -134,15 +133,12 @@ meanwhile =
     ∷ []
 
 -- what is computed: the state once it is struck; that each call meets the conditions, at a pitch total of 0 cents; the frames;
--- and the place after them, five steps of one sample folded into the loop of four. Of the first render: that it is done, and the
--- slot two frames into it
+-- and the place after them, five steps of one sample folded into the loop of four
 pub record Computed : Type 0 where
   pub struck : run before fresh ≡ struckBell
   pub conditions : KeepsAll 0 (pos 0) meanwhile struckBell
   pub five : framesRun meanwhile struckBell ≡ 5
   pub at-sample-one : voiceIn 0 (run meanwhile struckBell) .place ≡ 16777216
-  pub done : does (Render 3 ram [] (replicate 6 nan)) struckBell .status ≡ 0
-  pub two-frames : slotInto 2 ram [] 0 struckBell ≡ sounds (withMoved voice (Attack 2) 33554432 false)
   -- in front of frame 1, inside the first render, and of frame 4, inside the second
   pub there : slotAt (inFront 1 meanwhile struckBell) 0 .sounding ≡ true
   pub there-past : past (voiceIn 0 (inFront 1 meanwhile struckBell) .stage) ≡ true
@@ -186,8 +182,6 @@ computed =
       there-place = refl;
       later = refl;
       later-place = refl;
-      done = refl;
-      two-frames = refl;
     }
 
 -- so demand 3 speaks of it

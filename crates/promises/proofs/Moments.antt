@@ -5,7 +5,8 @@ use mathlib.Core.Bool.{Bool, true, false, cond, _||_}
 use mathlib.Core.List.{List, [], _∷_}
 use lib.IntN.{ℤ}
 use lib.Dec.{eqb, ltb}
-use borrow.Author.Tests.{le-ltb, lt-ltb, ltb-true, ltb-false}
+use borrow.Author.Tests.{le-ltb, lt-ltb, ltb-true, ltb-false, eqb-true}
+use lib.Ieee.{Float}
 use native.Mathlib.Omega.{arith}
 use Rattle.voice.specs.declared.Voice.{Voice}
 use Rattle.voice.specs.declared.Slot.{Slot}
@@ -20,7 +21,7 @@ use Rattle.state.specs.Slots.{withClock}
 use lib.ListN.{length}
 use Rattle.engine.specs.Rendering.{window, slotAfter, played, render, renderNumber, distance}
 use Rattle.engine.proofs.RenderingLaws.{slot-stays}
-use Rattle.promises.specs.Calls.{Call, next, run, voiceIn, framesOf, framesRun, startsIn, among, seats}
+use Rattle.promises.specs.Calls.{Call, does, next, run, voiceIn, framesOf, framesRun, startsIn, among, seats}
 use Rattle.voice.specs.Frames.{after}
 use Rattle.promises.specs.Moments.{Moment, momentIn, moment, stateAt, inFront, startedAt}
 use Rattle.promises.proofs.Voices.{Fixed, Everyone, call-sounded}
@@ -174,6 +175,46 @@ passed k (x ∷ xs) e = by (passed (k - framesOf x e) xs (next x e)) (ltb k (fra
     by : Passed later (next x e) → (b : Bool) → ltb k (framesOf x e) ≡ b → Passed (cond b (momentIn x k e) later) e
     by rest true q = record { calls = []; reaches = in-call x k e (ltb-true k (framesOf x e) q) .called }
     by rest false q = record { calls = x ∷ rest .calls; reaches = rest .reaches }
+
+-- the render of a frame is done
+pub record DoneAt (m : Moment) : Type 0 where
+  pub to : ℕ
+  pub out : List Float
+  pub done : does (Calls.Render to (m .ram) (m .rom) out) (m .called) .status ≡ 0
+
+-- of a frame of the first call
+done-here : (x : Call) (k : ℕ) (e : Engine) → k < framesOf x e → DoneAt (momentIn x k e)
+done-here (Calls.NoteOn b ram rom c n v) k e h = absurd (no-frame h)
+done-here (Calls.NoteOff c n) k e h = absurd (no-frame h)
+done-here (Calls.Control c n v) k e h = absurd (no-frame h)
+done-here (Calls.Program c p) k e h = absurd (no-frame h)
+done-here (Calls.Bend c b) k e h = absurd (no-frame h)
+done-here (Calls.Render to ram rom out) k e h = record { to = to; out = out; done = by (eqb status 0) refl h }
+  where
+    status : ℕ
+    status = does (Calls.Render to ram rom out) e .status
+
+    by : (b : Bool) → eqb status 0 ≡ b → k < cond b (distance e to) 0 → status ≡ 0
+    by true q g = eqb-true status 0 q
+    by false q g = absurd (no-frame g)
+done-here (Calls.Ask s) k e h = absurd (no-frame h)
+
+-- of each frame of a run
+pub done-at : (k : ℕ) (xs : List Call) (e : Engine) → k < framesRun xs e → DoneAt (moment k xs e)
+unfolding framesRun
+done-at k [] e h = absurd (no-frame h)
+done-at k (x ∷ xs) e h =
+    by (λ (g : k - framesOf x e < framesRun xs (next x e)). done-at (k - framesOf x e) xs (next x e) g) (ltb k (framesOf x e)) refl
+  where
+    by : (k - framesOf x e < framesRun xs (next x e) → DoneAt (moment (k - framesOf x e) xs (next x e))) → (b : Bool) → ltb k (framesOf x e) ≡ b
+        → DoneAt (moment k (x ∷ xs) e)
+    by rest true q =
+        let g = ltb-true k (framesOf x e) q in
+        subst DoneAt (sym (moment-here k x xs e g)) (done-here x k e g)
+    by rest false q =
+        let g = ltb-false k (framesOf x e) q in
+        let r : framesOf x e + (k - framesOf x e) ≡ k = omega arith in
+        subst DoneAt (sym (moment-later (k - framesOf x e) x xs e) ∙ ap (λ (n : ℕ). moment n (x ∷ xs) e) r) (rest (omega arith))
 
 -- so what holds of every sounding voice after any run holds of every sounding voice in front of any frame
 pub front-everyone : (P : Voice → Type 0) → Fixed P → (e : Engine) → ((xs : List Call) → Everyone P (run xs e))

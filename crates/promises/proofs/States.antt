@@ -29,7 +29,7 @@ use Rattle.voice.specs.Sound.{panOf}
 use Rattle.voice.specs.Stages.{levelAt, decayAt, fromDecay, fromHold, fromAttack, fromDelay, entered, dead, waiting, released, spent}
 use Rattle.voice.proofs.FramesLaws.{folds-loop}
 use Rattle.voice.proofs.Advance.{spent-released}
-use Rattle.voice.proofs.Inside.{Inside, Read, Reads, settled-in, after-inside, never-outside}
+use Rattle.voice.proofs.Inside.{Inside, Read, Reads, settled-in, never-outside}
 use Rattle.voice.proofs.MotionLaws.{split}
 use Rattle.state.specs.Quiet.{fresh}
 use Rattle.state.specs.Channels.{channelAt, noChannel}
@@ -39,15 +39,17 @@ use Rattle.state.specs.declared.Engine.{Engine}
 use Rattle.events.specs.Keys.{pedalHeld}
 use Rattle.events.specs.Starting.{cleared}
 use Rattle.engine.specs.Rendering.{window}
-use Rattle.promises.specs.Calls.{Call, Render, does, run, voiceIn}
+use Rattle.promises.specs.Calls.{Call, Render, does, run, voiceIn, framesRun}
 use Rattle.promises.specs.Age.{Ordered}
-use Rattle.promises.specs.States.{NoSecondRelease, OrderUnguarded, NoOrderGuard, amid, InBounds, StatesHold, FramesHold, slotInto, Unguarded, NoGuardActs, NoGuardInFrames, NoZeroChannel, Windowed, NoEmptyWindow, Sample, Behind, ReadsOwn, OnlyItsSamples, secondOf}
+use Rattle.promises.specs.States.{NoSecondRelease, OrderUnguarded, NoOrderGuard, amid, InBounds, StatesHold, FramesHold, Unguarded, NoGuardActs, NoGuardInFrames, NoZeroChannel, Windowed, NoEmptyWindow, Sample, Behind, ReadsOwn, OnlyItsSamples, secondOf}
 use Rattle.promises.proofs.Banks.{Came, came}
 use Rattle.promises.proofs.Demand1.{render-numbers}
 use Rattle.promises.proofs.Demand2.{let-go}
 use Rattle.promises.proofs.AgeLaws.{order-slots, renewed-is}
 use Rattle.promises.proofs.EachSlot.{either, never, and-both, held-unreleased}
-use Rattle.promises.proofs.Frames.{after-sounded}
+use Rattle.promises.specs.Moments.{moment, inFront, stageIn}
+use Rattle.promises.proofs.Moments.{slot-at, part-sounded, part-keeps, passed, done-at}
+use Rattle.promises.proofs.Cuts.{after-window}
 use Rattle.promises.proofs.Kept.{layers}
 use Rattle.promises.proofs.Seats.{ordered-lasts, ordered-run, sized-run}
 use Rattle.promises.proofs.Voices.{Lasts, lasts-from-fresh}
@@ -259,14 +261,21 @@ lasts =
 pub states-hold : StatesHold
 states-hold = lasts-from-fresh InBounds lasts (λ x e u f. starts x u (came x e u f))
 
--- and before each frame of a render
+-- in the state in which the render of a frame is called
+called-holds : (xs : List Call) (i k : ℕ) → slotAt (moment k xs fresh .called) i .sounding ≡ true → InBounds (voiceIn i (moment k xs fresh .called))
+called-holds xs i k =
+    let p = passed k xs fresh in
+    subst (λ (y : Engine). slotAt y i .sounding ≡ true → InBounds (voiceIn i y)) (sym (p .reaches)) (states-hold (p .calls) i)
+
+-- and in front of the frame
 pub frames-hold : FramesHold
-frames-hold xs ram rom i k on =
-    let e = run xs fresh in
-    let s = slotAt e i in
-    let c = channelAt e (s .voice .channel) in
-    let w = window ram rom (s .voice) in
-    plays-on c w k s (states-hold xs i (after-sounded c w k s on))
+frames-hold xs i k on =
+    let m = moment k xs fresh in
+    let s = slotAt (m .called) i in
+    let c = channelAt (m .called) (s .voice .channel) in
+    let w = window (m .ram) (m .rom) (s .voice) in
+    subst (λ (t : Slot). InBounds (t .voice)) (sym (slot-at (m .ram) (m .rom) (m .into) (m .called) i))
+    (plays-on c w (m .into) s (called-holds xs i k (part-sounded (m .ram) (m .rom) (m .into) (m .called) i on)))
 
 -- ---- no guard acts
 
@@ -307,9 +316,9 @@ unguarded v h =
 pub no-guard-acts : NoGuardActs
 no-guard-acts xs i on = unguarded (voiceIn i (run xs fresh)) (states-hold xs i on)
 
--- and before each frame of a render
+-- and in front of each frame
 pub no-guard-in-frames : NoGuardInFrames
-no-guard-in-frames xs ram rom i k on = unguarded (slotInto k ram rom i (run xs fresh) .voice) (frames-hold xs ram rom i k on)
+no-guard-in-frames xs i k on = unguarded (voiceIn i (inFront k xs fresh)) (frames-hold xs i k on)
 
 -- what stands past the end does not matter before it
 any-default : {A : Type 0} (xs : List A) (i : ℕ) (d e : A) → i < length xs → getD xs i d ≡ getD xs i e
@@ -363,10 +372,19 @@ memory-reaches to ram rom out e i ok on =
     ⊎-elim (λ p. absurd (render-numbers to ram rom out e .done .0 ok .2 (record { slot = i; sounds = on; past = p }))) (λ l. l)
     (split (length (memory ram rom v)) (v .end))
 
--- so no window is empty there
+-- so it does in front of each frame of the render
+frame-reaches : (xs : List Call) (i k : ℕ) → k < framesRun xs fresh → slotAt (inFront k xs fresh) i .sounding ≡ true
+    → voiceIn i (inFront k xs fresh) .end ≤ length (memory (moment k xs fresh .ram) (moment k xs fresh .rom) (voiceIn i (inFront k xs fresh)))
+frame-reaches xs i k h on =
+    let m = moment k xs fresh in
+    let d = done-at k xs fresh h in
+    part-keeps (λ (v : Voice). v .end ≤ length (memory (m .ram) (m .rom) v)) (λ v g p b l. l) (m .ram) (m .rom) (m .into) (m .called) i
+    (memory-reaches (d .to) (m .ram) (m .rom) (d .out) (m .called) i (d .done) (part-sounded (m .ram) (m .rom) (m .into) (m .called) i on))
+
+-- and no window is empty there
 pub no-empty-window : NoEmptyWindow
-no-empty-window xs to ram rom out i ok on =
-    whole-window ram rom (voiceIn i (run xs fresh)) (states-hold xs i on) (memory-reaches to ram rom out (run xs fresh) i ok on)
+no-empty-window xs i k h on =
+    whole-window (moment k xs fresh .ram) (moment k xs fresh .rom) (voiceIn i (inFront k xs fresh)) (frames-hold xs i k on) (frame-reaches xs i k h on)
 
 -- ---- a voice reads its own samples
 
@@ -391,44 +409,51 @@ module _ (ram rom : List ℤ) (v : Voice) (h : Windowed ram rom v) (l : v .end �
         is = ap (λ (w : List ℤ). getD w j (pos 0)) (h .part) ∙ getD-take (span v) (drop (v .start) m) j (pos 0) less ∙ getD-drop (v .start) m j (pos 0);
       }
 
-  -- the second number, of a voice u with v's window
-  is-second : (u : Voice) → length (window ram rom v) ≡ span u → InBounds u → Read (window ram rom v) (secondOf u)
-      → Sample ram rom v (secondOf u) ⊎ ((folds u (entered u (u .stage)) ≡ false) × Behind ram rom v (secondOf u))
-  is-second u w b (inl k) = inl (is-sample (secondOf u) k)
-  is-second u w b (inr k) = by (folds u g) refl
+  -- the second number
+  is-second : InBounds v → Read (window ram rom v) (secondOf v)
+      → Sample ram rom v (secondOf v) ⊎ ((folds v (stageIn v) ≡ false) × Behind ram rom v (secondOf v))
+  is-second b (inl k) = inl (is-sample (secondOf v) k)
+  is-second b (inr k) = by (folds v g) refl
     where
       g : Stage
-      g = entered u (u .stage)
+      g = stageIn v
 
-      by : (f : Bool) → folds u g ≡ f → Sample ram rom v (secondOf u) ⊎ ((folds u g ≡ false) × Behind ram rom v (secondOf u))
+      by : (f : Bool) → folds v g ≡ f → Sample ram rom v (secondOf v) ⊎ ((folds v g ≡ false) × Behind ram rom v (secondOf v))
       by false q = inr (q, record { behind = omega (arith, k .0, h .whole, h .some); zero = k .1 })
       by true q =
-          let p = b .folded (folds-before u (u .stage) g (λ r. enters u (u .stage) .1 ∙ r) q) in
-          let at : u .place / 16777216 < u .loopto = div-lt-iff-lt-mul (lit< tt) .1 p in
-          let j : secondOf u < u .loopto = rw q (behind-lt (u .loopfrom) (u .loopto) (u .place / 16777216) (folds-loop u g q) at) in
-          absurd (over (secondOf u) (u .loopto) (span u) j (b .loop-in (folds-mode u g q)) (k .0 ∙ w))
+          let p = b .folded (folds-before v (v .stage) g (λ r. enters v (v .stage) .1 ∙ r) q) in
+          let at : v .place / 16777216 < v .loopto = div-lt-iff-lt-mul (lit< tt) .1 p in
+          let j : secondOf v < v .loopto = rw q (behind-lt (v .loopfrom) (v .loopto) (v .place / 16777216) (folds-loop v g q) at) in
+          absurd (over (secondOf v) (v .loopto) (span v) j (b .loop-in (folds-mode v g q)) (k .0 ∙ h .whole))
         where
           over : (j to n : ℕ) → j < to → to ≤ n → j ≡ n → ⊥
           over j to n x y z = omega arith
 
   -- and so both
-  reads-own : (u : Voice) → InBounds u → length (window ram rom v) ≡ span u → Reads (window ram rom v) u (entered u (u .stage)) → ReadsOwn ram rom v u
-  reads-own u b w r =
-      record { first = is-sample (u .place / 16777216) (r .first); second = is-second u w b (r .second) }
+  reads-own : InBounds v → Reads (window ram rom v) v (stageIn v) → ReadsOwn ram rom v
+  reads-own b r = record { first = is-sample (v .place / 16777216) (r .first); second = is-second b (r .second) }
 
--- what each frame reads
-pub only-its-samples : OnlyItsSamples
-only-its-samples xs to ram rom out i k ok on =
-    let e = run xs fresh in
-    let s = slotAt e i in
+-- what a frame reads, by the window that its render found
+frame-reads : (xs : List Call) (i k : ℕ) → k < framesRun xs fresh → slotAt (inFront k xs fresh) i .sounding ≡ true
+    → Reads (window (moment k xs fresh .ram) (moment k xs fresh .rom) (voiceIn i (inFront k xs fresh))) (voiceIn i (inFront k xs fresh))
+    (stageIn (voiceIn i (inFront k xs fresh)))
+frame-reads xs i k h on =
+    let m = moment k xs fresh in
+    let d = done-at k xs fresh h in
+    let s = slotAt (m .called) i in
     let v = s .voice in
-    let c = channelAt e (v .channel) in
-    let w = window ram rom v in
-    let u = after c w k s .voice in
-    let was = after-sounded c w k s on in
-    let h = states-hold xs i was in
-    let d = no-empty-window xs to ram rom out i ok was in
-    let l = memory-reaches to ram rom out e i ok was in
-    let inside : Inside w v = record { window = d .whole; place = omega (arith, h .place); loop = λ g f. h .loop-in (folds-mode v g f) } in
-    reads-own ram rom v d l u (frames-hold xs ram rom i k on) (after-inside c w k s inside .window)
-    (never-outside c w k s inside (entered u (u .stage)))
+    let c = channelAt (m .called) (v .channel) in
+    let w = window (m .ram) (m .rom) v in
+    let was = part-sounded (m .ram) (m .rom) (m .into) (m .called) i on in
+    let b = called-holds xs i k was in
+    let whole = whole-window (m .ram) (m .rom) v b (memory-reaches (d .to) (m .ram) (m .rom) (d .out) (m .called) i (d .done) was) in
+    let inside : Inside w v = record { window = whole .whole; place = omega (arith, b .place); loop = λ g f. b .loop-in (folds-mode v g f) } in
+    subst (λ (t : Slot). Reads (window (m .ram) (m .rom) (t .voice)) (t .voice) (stageIn (t .voice))) (sym (slot-at (m .ram) (m .rom) (m .into) (m .called) i))
+    (subst (λ (y : List ℤ). Reads y (after c w (m .into) s .voice) (stageIn (after c w (m .into) s .voice))) (sym (after-window (m .ram) (m .rom) c w (m .into) s))
+    (never-outside c w (m .into) s inside (stageIn (after c w (m .into) s .voice))))
+
+-- its own samples
+pub only-its-samples : OnlyItsSamples
+only-its-samples xs i k h on =
+    reads-own (moment k xs fresh .ram) (moment k xs fresh .rom) (voiceIn i (inFront k xs fresh)) (no-empty-window xs i k h on) (frame-reaches xs i k h on)
+    (frames-hold xs i k on) (frame-reads xs i k h on)

@@ -11,12 +11,11 @@ use Rattle.promises.specs.Calls.{voiceIn, Call, next, framesOf, startsIn
 use Rattle.state.specs.Slots.{slotAt}
 use Rattle.curves.specs.Pitch.{stepOf, lifted}
 use Rattle.voice.specs.declared.Voice.{Voice}
-use Rattle.voice.specs.declared.Stage.{Stage}
-use Rattle.voice.specs.Stages.{past, released, entered, dead, envelope}
+use Rattle.voice.specs.Stages.{past, released, dead, envelope}
 use Rattle.voice.specs.Sound.{loss, wholeLoss, gained, shaped, leftOf, rightOf}
 use Rattle.voice.specs.Reading.{reading}
 use Rattle.engine.specs.Rendering.{window}
-use Rattle.promises.specs.Moments.{Moment, stateAt, inFront, startedAt, addsLeft, addsRight}
+use Rattle.promises.specs.Moments.{Moment, stateAt, inFront, startedAt, addsLeft, addsRight, stageIn}
 use Rattle.state.specs.Quiet.{fresh}
 
 -- its pitch total as it stands
@@ -40,10 +39,6 @@ pub record Keeps (i : ℕ) (c : ℤ) (x : Call) (e : Engine) : Type 0 where
 abbrev pub KeepsAll : ℕ → ℤ → List Call → Engine → Type 0
 KeepsAll i c [] e = Unit {0}
 KeepsAll i c (x ∷ xs) e = Keeps i c x e × KeepsAll i c xs (next x e)
-
--- the stage that a voice is in once spent ones are left, as at the start of its frame
-abbrev pub stageIn : Voice → Stage
-stageIn v = entered v (v .stage)
 
 -- u of the frame at a moment, for a voice v of it: its window read at its place, at its gain, and in attack at its level
 abbrev pub amplitude : Moment → Voice → ℤ

@@ -4,6 +4,9 @@ use mathlib.Core.List.{List, [], _∷_}
 use mathlib.Core.Bool.{Bool, false, cond, _||_}
 use lib.IntN.{ℤ}
 use lib.Dec.{eqb, ltb}
+use Rattle.voice.specs.declared.Stage.{Stage}
+use Rattle.voice.specs.declared.Voice.{Voice}
+use Rattle.voice.specs.Stages.{entered}
 use Rattle.state.specs.declared.Engine.{Engine}
 use Rattle.state.specs.Slots.{slotAt}
 use Rattle.engine.specs.Rendering.{played, slotLeft, slotRight}
@@ -57,3 +60,7 @@ addsLeft i m = slotLeft (m .ram) (m .rom) (m .called) (m .into) (slotAt (m .call
 -- and to the right sum
 abbrev pub addsRight : ℕ → Moment → ℤ
 addsRight i m = slotRight (m .ram) (m .rom) (m .called) (m .into) (slotAt (m .called) i)
+
+-- the stage that a voice is in once spent ones are left, as at the start of its frame
+abbrev pub stageIn : Voice → Stage
+stageIn v = entered v (v .stage)

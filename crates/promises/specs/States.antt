@@ -6,17 +6,15 @@ use mathlib.Core.Path.{_≡_}
 use mathlib.Core.List.{List, [], _∷_, _++_}
 use mathlib.Core.Logic.{_⊎_}
 use lib.Dec.{eqb}
-use lib.Ieee.{Float}
 use lib.IntN.{ℤ, pos}
 use lib.ListN.{length, getD, take, drop}
 use Rattle.arith.specs.Within.{Within}
 use Rattle.records.specs.Windows.{loops}
 use Rattle.voice.specs.declared.Channel.{Channel}
-use Rattle.voice.specs.declared.Slot.{Slot}
 use Rattle.voice.specs.declared.Stage.{Stage}
 use Rattle.voice.specs.declared.Stage.the-variants.{Attack}
 use Rattle.voice.specs.declared.Voice.{Voice}
-use Rattle.voice.specs.Stages.{levelAt, entered, released}
+use Rattle.voice.specs.Stages.{levelAt, released}
 use Rattle.voice.specs.Motion.{span, folds}
 use Rattle.voice.specs.Reading.{sample, behind}
 use Rattle.voice.specs.Sound.{panOf}
@@ -28,8 +26,9 @@ use Rattle.state.specs.Slots.{slotAt}
 use Rattle.state.specs.declared.Engine.{Engine}
 use Rattle.events.specs.Keys.{held, pedalHeld}
 use Rattle.events.specs.Starting.{startAll, cleared}
-use Rattle.engine.specs.Rendering.{window, slotAfter}
-use Rattle.promises.specs.Calls.{Call, Render, does, run, voiceIn}
+use Rattle.engine.specs.Rendering.{window}
+use Rattle.promises.specs.Calls.{Call, run, voiceIn, framesRun}
+use Rattle.promises.specs.Moments.{moment, inFront, stageIn}
 
 -- ---- 1. What holds of every voice that sounds
 
@@ -56,19 +55,14 @@ pub record InBounds (v : Voice) : Type 0 where
   -- its rate is 400..50,000
   pub rate : (400 ≤ v .rate) × (v .rate ≤ 50000)
 
--- slot i of a state, k frames into a render
-abbrev pub slotInto : ℕ → List ℤ → List ℤ → ℕ → Engine → Slot
-slotInto k ram rom i e = slotAfter ram rom e k (slotAt e i)
-
 -- after any run, every voice that sounds is in its bounds
 abbrev pub StatesHold : Type 0
 StatesHold = (xs : List Call) (i : ℕ) → slotAt (run xs fresh) i .sounding ≡ true → InBounds (voiceIn i (run xs fresh))
 
--- and so it is before each frame of a render, while it sounds
+-- and so it is in front of each frame of any run, inside a render too
 abbrev pub FramesHold : Type 0
 FramesHold =
-    (xs : List Call) (ram rom : List ℤ) (i k : ℕ) → slotInto k ram rom i (run xs fresh) .sounding ≡ true
-    → InBounds (slotInto k ram rom i (run xs fresh) .voice)
+    (xs : List Call) (i k : ℕ) → slotAt (inFront k xs fresh) i .sounding ≡ true → InBounds (voiceIn i (inFront k xs fresh))
 
 -- ---- 2. So no guard of the definitions acts
 
@@ -77,7 +71,7 @@ pub record Unguarded (v : Voice) : Type 0 where
   -- the least in `levelAt`, where the panel or a release asks for the level
   pub level : (t : ℕ) → v .stage ≡ Attack t → levelAt (v .attack) t ≡ 16777216 * t / v .attack
   -- the same where a frame does, once spent stages are left: there t is below N
-  pub played : (t : ℕ) → entered v (v .stage) ≡ Attack t → (t < v .attack) × (levelAt (v .attack) t ≡ 16777216 * t / v .attack)
+  pub played : (t : ℕ) → stageIn v ≡ Attack t → (t < v .attack) × (levelAt (v .attack) t ≡ 16777216 * t / v .attack)
   -- the test of the loop in `folds`: it folds in mode 1, and in mode 3 until release
   pub folding : (s : Stage) → folds v s ≡ (eqb (v .mode) 1 || eqb (v .mode) 3 && not (released s))
   -- the hold in `panOf`
@@ -87,11 +81,10 @@ pub record Unguarded (v : Voice) : Type 0 where
 abbrev pub NoGuardActs : Type 0
 NoGuardActs = (xs : List Call) (i : ℕ) → slotAt (run xs fresh) i .sounding ≡ true → Unguarded (voiceIn i (run xs fresh))
 
--- and before each frame of a render
+-- and in front of each frame of any run
 abbrev pub NoGuardInFrames : Type 0
 NoGuardInFrames =
-    (xs : List Call) (ram rom : List ℤ) (i k : ℕ) → slotInto k ram rom i (run xs fresh) .sounding ≡ true
-    → Unguarded (slotInto k ram rom i (run xs fresh) .voice)
+    (xs : List Call) (i k : ℕ) → slotAt (inFront k xs fresh) i .sounding ≡ true → Unguarded (voiceIn i (inFront k xs fresh))
 
 -- the zero channel in `channelAt` is never read: whatever else stood past the last channel, the answer is the same for every
 -- channel that a voice (`InBounds`) or a call past its tests can have
@@ -130,12 +123,11 @@ pub record Windowed (ram rom : List ℤ) (v : Voice) : Type 0 where
   pub whole : length (window ram rom v) ≡ span v
   pub some : 0 < span v
 
--- that is so of every voice that sounds where a render is done
+-- that is so of every voice that sounds in a frame of any run, with the memories that the frame's render is lent
 abbrev pub NoEmptyWindow : Type 0
 NoEmptyWindow =
-    (xs : List Call) (to : ℕ) (ram rom : List ℤ) (out : List Float) (i : ℕ)
-    → does (Render to ram rom out) (run xs fresh) .status ≡ 0 → slotAt (run xs fresh) i .sounding ≡ true
-    → Windowed ram rom (voiceIn i (run xs fresh))
+    (xs : List Call) (i k : ℕ) → k < framesRun xs fresh → slotAt (inFront k xs fresh) i .sounding ≡ true
+    → Windowed (moment k xs fresh .ram) (moment k xs fresh .rom) (voiceIn i (inFront k xs fresh))
 
 -- ---- 3. And a voice reads its own samples
 
@@ -150,18 +142,17 @@ pub record Behind (ram rom : List ℤ) (v : Voice) (j : ℕ) : Type 0 where
   pub behind : v .start + j ≡ v .end
   pub zero : sample (window ram rom v) j ≡ pos 0
 
--- the number of the second sample that a frame of voice u reads, once spent stages are left
+-- the number of the second sample that a frame of the voice reads
 abbrev pub secondOf : Voice → ℕ
-secondOf u = behind (folds u (entered u (u .stage))) (u .loopfrom) (u .loopto) (u .place / 16777216)
+secondOf v = behind (folds v (stageIn v)) (v .loopfrom) (v .loopto) (v .place / 16777216)
 
--- what a frame reads of v's window at u's place: a sample, and then a sample or, where it does not fold, the 0 behind the last
-pub record ReadsOwn (ram rom : List ℤ) (v u : Voice) : Type 0 where
-  pub first : Sample ram rom v (u .place / 16777216)
-  pub second : Sample ram rom v (secondOf u) ⊎ ((folds u (entered u (u .stage)) ≡ false) × Behind ram rom v (secondOf u))
+-- what a frame reads at the voice's place: a sample, and then a sample or, where it does not fold, the 0 behind the last
+pub record ReadsOwn (ram rom : List ℤ) (v : Voice) : Type 0 where
+  pub first : Sample ram rom v (v .place / 16777216)
+  pub second : Sample ram rom v (secondOf v) ⊎ ((folds v (stageIn v) ≡ false) × Behind ram rom v (secondOf v))
 
--- so it is in each frame of a render that is done, while the voice sounds
+-- so it is in each frame of any run, while the voice sounds
 abbrev pub OnlyItsSamples : Type 0
 OnlyItsSamples =
-    (xs : List Call) (to : ℕ) (ram rom : List ℤ) (out : List Float) (i k : ℕ)
-    → does (Render to ram rom out) (run xs fresh) .status ≡ 0 → slotInto k ram rom i (run xs fresh) .sounding ≡ true
-    → ReadsOwn ram rom (voiceIn i (run xs fresh)) (slotInto k ram rom i (run xs fresh) .voice)
+    (xs : List Call) (i k : ℕ) → k < framesRun xs fresh → slotAt (inFront k xs fresh) i .sounding ≡ true
+    → ReadsOwn (moment k xs fresh .ram) (moment k xs fresh .rom) (voiceIn i (inFront k xs fresh))
