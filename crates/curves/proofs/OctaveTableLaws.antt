@@ -4,7 +4,9 @@ use mathlib.Core.Bool.{Bool}
 use lib.Dec.{T}
 use mathlib.Core.List.{_++_}
 use lib.ListN.{getD}
-use native.Mathlib.Nat.{pow-le-pow-left}
+use native.Mathlib.Nat.{pow-le-pow-left, le-trans}
+use native.Mathlib.Omega.{arith}
+use lib.Pow.{pow-mono}
 use Rattle.curves.proofs.Tables.{fits, every, join, at, fits-low, fits-high, Largest, largest}
 use Rattle.curves.specs.OctaveTable.{octaves0, octaves1, octaves2, octaves3, octaves4, octaves5, octaves6, octaves7}
 use Rattle.curves.specs.Octave.{octaves}
@@ -75,3 +77,9 @@ octave-high i h = fits-high power (2 ^ (i + 36000)) (getD octaves i 0) (tested i
 pub octave-largest : (i : ℕ) → i < 1200 → Largest (λ (t : ℕ). t ^ 1200 ≤ 2 ^ (i + 36000)) (getD octaves i 0)
 unfolding power
 octave-largest i h = largest power (2 ^ (i + 36000)) (getD octaves i 0) (λ a b l. pow-le-pow-left l 1200) (tested i h)
+
+-- so it never falls
+pub octave-rises : (i j : ℕ) → i ≤ j → j < 1200 → getD octaves i 0 ≤ getD octaves j 0
+octave-rises i j h l =
+    octave-largest j l .most (getD octaves i 0)
+    (le-trans (octave-low i (omega arith)) (pow-mono {i = i + 36000} {j = j + 36000} (omega arith)))

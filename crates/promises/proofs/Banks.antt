@@ -1,13 +1,13 @@
 -- Voices that calls start: what every one of them has, as its bank and its call say.
-use Prim.Native.Nat.{ℕ, _≤_, _<_, _+_, _*_, _^_, _/_, _%_}
-use mathlib.Core.Path.{_≡_, subst, refl, sym, ap, _∙_}
+use Prim.Native.Nat.{ℕ, _≤_, _+_}
+use mathlib.Core.Path.{_≡_, subst, refl, sym}
 use mathlib.Core.Bool.{false, true, Bool, cond}
 use mathlib.Core.List.{List, [], _∷_, map}
 use mathlib.Core.Logic.{inl, inr, ⊎-elim}
-use borrow.Author.Tests.{eqb-true, eqb-false, eq-eqb, ltb-true, ltb-false}
-use lib.Dec.{eqb, ltb}
-use lib.IntN.{ℤ, _+ℤ_, pos, negsuc, natAbs}
-use lib.ListN.{take, getD}
+use borrow.Author.Tests.{eqb-true, eqb-false, eq-eqb}
+use lib.Dec.{eqb}
+use lib.IntN.{ℤ, _+ℤ_}
+use lib.ListN.{take}
 use Rattle.voice.specs.declared.Voice.{Voice}
 use Rattle.voice.specs.Stages.{waiting}
 use Rattle.events.specs.Striking.{Bank, bankFrom, layerVoices}
@@ -28,59 +28,9 @@ use Rattle.layers.proofs.AdmittedVoices.{All, GoodVoice, struck-good}
 use Rattle.promises.specs.Calls.{Call, channelOf, does, begun}
 use Rattle.state.specs.declared.Engine.{Engine}
 use Rattle.promises.proofs.Demand1.{rules-admit, note-on-numbers}
-use native.Mathlib.Omega.{arith}
-use native.Mathlib.Nat.{le-refl, le-trans, mul-le-mul, mul-assoc, mul-comm}
-use lib.Pow.{pow-mono}
-use lib.Signed.{leZ}
-use Rattle.arith.specs.Holds.{heldTo}
-use Rattle.curves.specs.Octave.{octaves}
-use Rattle.curves.specs.Times.{frames, framesUp}
-use Rattle.curves.proofs.OctaveTableLaws.{octave-low, octave-largest}
-use Rattle.curves.proofs.OctaveLaws.{up-le}
-use Rattle.curves.proofs.TimesLaws.{no-frames, some-frames}
+use Rattle.curves.proofs.TimesLaws.{frames-most}
 use Rattle.promises.specs.Night.{strikes}
 use Rattle.promises.specs.Calls as Calls
-
--- ---- the longest release
-
--- the octave table never falls
-rises : (i j : ℕ) → i ≤ j → j < 1200 → getD octaves i 0 ≤ getD octaves j 0
-rises i j h l =
-    octave-largest j l .most (getD octaves i 0)
-    (le-trans (octave-low i (omega arith)) (pow-mono {i = i + 36000} {j = j + 36000} (omega arith)))
-
--- frames for 8,000 timecents at most
-up-most : (c : ℕ) → c ≤ 20000 → framesUp c ≤ 4480280
-unfolding framesUp
-up-most c h = by (ltb (c / 1200) 16) refl
-  where
-    t : ℕ
-    t = getD octaves (c % 1200) 0
-
-    few : (n p : ℕ) → n * p ≤ 111703418470400 → n * 44100 * p / 2 ^ 40 ≤ 4480280
-    few n p h =
-        let q : n * 44100 * p ≡ 44100 * (n * p) = ap (λ (y : ℕ). y * p) (mul-comm n 44100) ∙ mul-assoc 44100 n p in
-        rw q (omega arith)
-
-    by : (b : Bool) → ltb (c / 1200) 16 ≡ b → t * 44100 * 2 ^ (c / 1200) / 2 ^ 40 ≤ 4480280
-    by true q =
-        let l : c / 1200 ≤ 15 = omega (arith, ltb-true (c / 1200) 16 q) in
-        let r : t ≤ getD octaves 1199 0 = rises (c % 1200) 1199 (omega arith) (omega arith) in
-        few t (2 ^ (c / 1200)) (le-trans (mul-le-mul r (pow-mono {i = c / 1200} {j = 15} l)) (omega arith))
-    by false q =
-        let k : c / 1200 ≡ 16 = omega (arith, ltb-false (c / 1200) 16 q) in
-        let r : t ≤ getD octaves 800 0 = rises (c % 1200) 800 (omega arith) (omega arith) in
-        few t (2 ^ (c / 1200)) (rw k (le-trans (mul-le-mul r (le-refl (2 ^ 16))) (omega arith)))
-
--- those of a release
-release-most : (t : ℤ) → frames (pos 8000) t ≤ 4480280
-release-most t = by (leZ t (negsuc 32767)) refl
-  where
-    by : (b : Bool) → leZ t (negsuc 32767) ≡ b → frames (pos 8000) t ≤ 4480280
-    by true q = rw (no-frames (pos 8000) t q) (omega arith)
-    by false q = rw (some-frames (pos 8000) t q) (up-most (natAbs (heldTo (negsuc 11999) (pos 8000) t +ℤ pos 12000)) (up-le 12000 8000 t))
-
--- ---- the voices of a bank
 
 -- a voice as it is made: at place 0, in its delay, its pan held, and with a release of at most so many frames
 pub record Made (u : Voice) : Type 0 where
@@ -97,7 +47,7 @@ pan-held own added = held-within (cond (instrumentOnly 17) own (own +ℤ added))
 -- the voice of a layer is made so
 layer-made : (b : List ℕ) (m : Parts) (l : Layer) (c k v : ℕ) → Made (voiceBy b m l c k v)
 unfolding voiceBy total
-layer-made b m l c k v = record { place = refl; waits = refl; pan = pan-held _ _; release = release-most _ }
+layer-made b m l c k v = record { place = refl; waits = refl; pan = pan-held _ _; release = frames-most _ }
 
 -- and each voice of a preset
 preset-made : (b : List ℕ) (h c k v : ℕ) → All Made (voicesOf b (partsOf b) h c k v)

@@ -31,16 +31,16 @@ use Rattle.curves.specs.Pitch.{stepOf, lifted, bendCents}
 use Rattle.state.specs.declared.Engine.{Engine}
 use Rattle.state.specs.Channels.{channelAt}
 use Rattle.promises.specs.Calls.{voiceIn, Call, next, run, framesOf, framesRun, startsIn, among}
-use Rattle.promises.specs.Demand3.{centsIn, Stays, Keeps, KeepsAll, ReadAtThePlace, Moved, PlaceBetween, PlaceBetweenAlways, PlaceHolds, RatesHold, PlaceHoldsAlways}
+use Rattle.promises.specs.Demand3.{centsIn, Keeps, KeepsAll, ReadAtThePlace, Moved, PlaceBetween, PlaceBetweenAlways, PlaceHolds, RatesHold, PlaceHoldsAlways}
 use Rattle.promises.specs.Moments.{Moment, moment, stateAt, inFront, startedAt, stageIn}
-use Rattle.promises.proofs.Moments.{no-frame, slot-at, part-keeps, ramOf, romOf, in-call, front-here, front-later, front-end, front-sounded, front-everyone, started-later, started-first, moment-later}
+use Rattle.promises.proofs.Moments.{no-frame, slot-at, part-keeps, ramOf, romOf, in-call, front-here, front-later, front-end, front-sounded, started-later, started-first, moment-later}
 use Rattle.promises.proofs.Cuts.{played-cut, after-channel, after-window}
 use Rattle.state.specs.Slots.{withVoice, slotAt}
 use Rattle.engine.specs.Rendering.{window, slotAfter, played}
 use Rattle.promises.proofs.EachSlot.{What, stands, pedalled, loosed, freed, started, goes, never, what}
 use Rattle.curves.proofs.OctaveLaws.{up-le}
 use Rattle.curves.proofs.PitchLaws.{step-right, steps}
-use Rattle.promises.proofs.States.{states-hold}
+use Rattle.promises.proofs.States.{states-hold, frames-hold}
 use Rattle.state.specs.Quiet.{fresh}
 use Rattle.arith.proofs.FloorsLaws.{sub-pos}
 use Rattle.arith.specs.Holds.{heldTo}
@@ -220,33 +220,48 @@ cents-part ram rom n e i =
 cents-later : (i k : ℕ) (x : Call) (xs : List Call) (e : Engine) → centsIn i (inFront (framesOf x e + k) (x ∷ xs) e) ≡ centsIn i (inFront k xs (next x e))
 cents-later i k x xs e = ap (λ (m : Moment). centsIn i (stateAt m)) (moment-later k x xs e)
 
--- from the beginning of a run to the front of frame b: neither ended nor taken, and in each frame the pitch total is c
-record Reaches (i : ℕ) (c : ℤ) (b : ℕ) (xs : List Call) (e : Engine) : Type 0 where
+-- up to frame b the voice in slot i is neither ended nor taken (in front of frames from `first` on), and in each frame from a on
+-- its pitch total is c
+record Unbroken (i : ℕ) (c : ℤ) (first a b : ℕ) (xs : List Call) (e : Engine) : Type 0 where
   frames : b ≤ framesRun xs e
   lives : slotAt (inFront b xs e) i .sounding ≡ true
-  own : (k : ℕ) → k ≤ b → startedAt i k xs e ≡ false
-  tuned : (k : ℕ) → k < b → centsIn i (inFront k xs e) ≡ c
+  own : (k : ℕ) → first ≤ k → k ≤ b → startedAt i k xs e ≡ false
+  tuned : (k : ℕ) → a ≤ k → k < b → centsIn i (inFront k xs e) ≡ c
+
+-- .. from the beginning of a run
+abbrev Reaches : ℕ → ℤ → ℕ → List Call → Engine → Type 0
+Reaches i c b xs e = Unbroken i c 0 0 b xs e
 
 -- so is the rest of the run, where b lies behind its first call
-reaches-rest : (i : ℕ) (c : ℤ) (b : ℕ) (x : Call) (xs : List Call) (e : Engine) → framesOf x e ≤ b → Reaches i c b (x ∷ xs) e → Reaches i c (b - framesOf x e) xs (next x e)
+unbroken-rest : (i : ℕ) (c : ℤ) (first a b : ℕ) (x : Call) (xs : List Call) (e : Engine) → framesOf x e ≤ b → Unbroken i c first a b (x ∷ xs) e
+    → Unbroken i c (first - framesOf x e) (a - framesOf x e) (b - framesOf x e) xs (next x e)
 unfolding framesRun
-reaches-rest i c b x xs e l r =
+unbroken-rest i c first a b x xs e l r =
     let g = r .frames in
     record {
       frames = omega arith;
       lives = subst (λ (y : Engine). slotAt y i .sounding ≡ true) (front-later b x xs e l) (r .lives);
-      own = λ k h. started-later i k x xs e (r .own (framesOf x e + k) (omega arith));
-      tuned = λ k h. sym (cents-later i k x xs e) ∙ r .tuned (framesOf x e + k) (omega arith);
+      own = λ k h j. started-later i k x xs e (r .own (framesOf x e + k) (omega arith) (omega arith));
+      tuned = λ k h j. sym (cents-later i k x xs e) ∙ r .tuned (framesOf x e + k) (omega arith) (omega arith);
     }
+
+-- and from the end of the first call on, where that lies behind `first` and a
+unbroken-from : (i : ℕ) (c : ℤ) (first a b : ℕ) (x : Call) (xs : List Call) (e : Engine) → first ≤ framesOf x e → a ≤ framesOf x e → framesOf x e ≤ b
+    → Unbroken i c first a b (x ∷ xs) e → Reaches i c (b - framesOf x e) xs (next x e)
+unbroken-from i c first a b x xs e f g l r =
+    let p : first - framesOf x e ≡ 0 = omega arith in
+    let q : a - framesOf x e ≡ 0 = omega arith in
+    subst (λ (n : ℕ). Unbroken i c n 0 (b - framesOf x e) xs (next x e)) p
+    (subst (λ (n : ℕ). Unbroken i c (first - framesOf x e) n (b - framesOf x e) xs (next x e)) q (unbroken-rest i c first a b x xs e l r))
 
 -- the first call keeps the voice
 reaches-first : (i : ℕ) (c : ℤ) (b : ℕ) (x : Call) (xs : List Call) (e : Engine) → framesOf x e ≤ b → Reaches i c b (x ∷ xs) e → Keeps i c x e
 reaches-first i c b x xs e l r =
-    let f = reaches-rest i c b x xs e l r in
+    let f = unbroken-from i c 0 0 b x xs e (omega arith) (omega arith) l r in
     record {
-      lives = front-sounded xs (next x e) i (b - framesOf x e) (f .lives) (f .own);
-      own = started-first i x xs e (r .own 0 (omega arith));
-      tuned = λ h. sym (cents-part (ramOf x) (romOf x) 0 e i) ∙ subst (λ (y : Engine). centsIn i y ≡ c) (front-here 0 x xs e h) (r .tuned 0 (omega arith));
+      lives = front-sounded xs (next x e) i (b - framesOf x e) (f .lives) (λ k h. f .own k (omega arith) h);
+      own = started-first i x xs e (r .own 0 (omega arith) (omega arith));
+      tuned = λ h. sym (cents-part (ramOf x) (romOf x) 0 e i) ∙ subst (λ (y : Engine). centsIn i y ≡ c) (front-here 0 x xs e h) (r .tuned 0 (omega arith) (omega arith));
     }
 
 -- the voice has gone on by b frames
@@ -260,7 +275,7 @@ to-frame [] i c e b st on h q r =
     (part-on [] [] 0 e i st on h (λ (n : 0 < 0). absurd (no-frame n)) (r .lives))
 to-frame (x ∷ xs) i c e b st on h q r =
     by (λ (p : past (voiceIn i (next x e) .stage) ≡ true) (l : framesOf x e ≤ b) (s : stepOf (lifted c) (voiceIn i (next x e) .rate) ≡ st).
-    to-frame xs i c (next x e) (b - framesOf x e) st (reaches-first i c b x xs e l r .lives) p s (reaches-rest i c b x xs e l r))
+    to-frame xs i c (next x e) (b - framesOf x e) st (reaches-first i c b x xs e l r .lives) p s (unbroken-from i c 0 0 b x xs e (omega arith) (omega arith) l r))
     (ltb b (framesOf x e)) refl
   where
     Rest : Type 0
@@ -273,7 +288,7 @@ to-frame (x ∷ xs) i c e b st on h q r =
         let l = ltb-true b (framesOf x e) t in
         let f = front-here b x xs e l in
         let n : 0 < b → step (channelAt e (voiceIn i e .channel)) (voiceIn i e) ≡ st =
-        λ g. step-is i c e (sym (cents-part (ramOf x) (romOf x) 0 e i) ∙ subst (λ (y : Engine). centsIn i y ≡ c) (front-here 0 x xs e (omega arith)) (r .tuned 0 g)) ∙ q in
+        λ g. step-is i c e (sym (cents-part (ramOf x) (romOf x) 0 e i) ∙ subst (λ (y : Engine). centsIn i y ≡ c) (front-here 0 x xs e (omega arith)) (r .tuned 0 (omega arith) g)) ∙ q in
         subst (λ (y : Engine). On (voiceIn i e) (voiceIn i y) st b) (sym f)
         (part-on (ramOf x) (romOf x) b e i st on h n (subst (λ (y : Engine). slotAt y i .sounding ≡ true) f (r .lives)))
     by rest false t =
@@ -379,8 +394,8 @@ keeps-reaches xs i c e on m =
     record {
       frames = omega arith;
       lives = ap (λ (s : Slot). s .sounding) (front-end xs e i) ∙ keeps-lives xs i c e on m;
-      own = λ k h. keeps-own xs i c e m k;
-      tuned = λ k h. keeps-tuned xs i c e m k h;
+      own = λ k h j. keeps-own xs i c e m k;
+      tuned = λ k h j. keeps-tuned xs i c e m k j;
     }
 
 -- the run as a whole
@@ -388,7 +403,7 @@ pub place-holds : PlaceHolds
 place-holds i c xs e on h rate n m k =
     let r = keeps-reaches xs i c e on m in
     let o = to-frame xs i c e (framesRun xs e) (stepOf (lifted c) (voiceIn i e .rate)) on h refl r in
-    moved-by i c (framesRun xs e) e (run xs e) (inFront 0 xs e) n (r .tuned 0 n) rate
+    moved-by i c (framesRun xs e) e (run xs e) (inFront 0 xs e) n (r .tuned 0 (omega arith) n) rate
     (subst (λ (s : Slot). On (voiceIn i e) (s .voice) (stepOf (lifted c) (voiceIn i e .rate)) (framesRun xs e)) (front-end xs e i) o) k
 
 -- ---- any two frames
@@ -406,45 +421,28 @@ both-here i c a b st x e l on h t k =
     subst (λ (y : Engine). On (voiceIn i (played (ramOf x) (romOf x) a e)) (voiceIn i y) st (b - a)) (sym q)
     (part-on (ramOf x) (romOf x) (b - a) (played (ramOf x) (romOf x) a e) i st on h (λ g. t) (subst (λ (y : Engine). slotAt y i .sounding ≡ true) q k))
 
--- the conditions for the rest of the run, where both lie behind its first call
-stays-rest : (i : ℕ) (c : ℤ) (a b : ℕ) (x : Call) (xs : List Call) (e : Engine) → framesOf x e ≤ a → a < b → Stays i c a b (x ∷ xs) e
-    → Stays i c (a - framesOf x e) (b - framesOf x e) xs (next x e)
-stays-rest i c a b x xs e l h s =
-    record {
-      lives = subst (λ (y : Engine). slotAt y i .sounding ≡ true) (front-later b x xs e (omega arith)) (s .lives);
-      own = λ k g j. started-later i k x xs e (s .own (framesOf x e + k) (omega arith) (omega arith));
-      tuned = λ k g j. sym (cents-later i k x xs e) ∙ s .tuned (framesOf x e + k) (omega arith) (omega arith);
-    }
-
--- and from the end of the first call, where a lies in it
-stays-from : (i : ℕ) (c : ℤ) (a b : ℕ) (x : Call) (xs : List Call) (e : Engine) → a < framesOf x e → framesOf x e ≤ b → b ≤ framesRun (x ∷ xs) e → Stays i c a b (x ∷ xs) e
-    → Reaches i c (b - framesOf x e) xs (next x e)
-unfolding framesRun
-stays-from i c a b x xs e h l n s =
-    record {
-      frames = omega arith;
-      lives = subst (λ (y : Engine). slotAt y i .sounding ≡ true) (front-later b x xs e l) (s .lives);
-      own = λ k g. started-later i k x xs e (s .own (framesOf x e + k) (omega arith) (omega arith));
-      tuned = λ k g. sym (cents-later i k x xs e) ∙ s .tuned (framesOf x e + k) (omega arith) (omega arith);
-    }
-
 -- the voice has gone on by b - a frames
-between-on : (xs : List Call) (e : Engine) (i a b : ℕ) (c : ℤ) (st : ℕ) → a < b → b ≤ framesRun xs e
+between-on : (xs : List Call) (e : Engine) (i a b : ℕ) (c : ℤ) (st : ℕ) → a < b
     → slotAt (inFront a xs e) i .sounding ≡ true → past (voiceIn i (inFront a xs e) .stage) ≡ true
-    → stepOf (lifted c) (voiceIn i (inFront a xs e) .rate) ≡ st → Stays i c a b xs e
+    → stepOf (lifted c) (voiceIn i (inFront a xs e) .rate) ≡ st → Unbroken i c (suc a) a b xs e
     → On (voiceIn i (inFront a xs e)) (voiceIn i (inFront b xs e)) st (b - a)
 unfolding framesRun
-between-on [] e i a b c st l n on h q s = absurd (no-frame {k = a} (omega arith))
-between-on (x ∷ xs) e i a b c st l n on h q s =
+between-on [] e i a b c st l on h q s = let g = s .frames in absurd (no-frame {k = a} (omega arith))
+between-on (x ∷ xs) e i a b c st l on h q s =
     by (λ (g : framesOf x e ≤ a).
-    between-on xs (next x e) i (a - framesOf x e) (b - framesOf x e) c st (omega arith) (omega arith)
+    between-on xs (next x e) i (a - framesOf x e) (b - framesOf x e) c st (omega arith)
     (subst (λ (y : Engine). slotAt y i .sounding ≡ true) (front-later a x xs e g) on)
     (subst (λ (y : Engine). past (voiceIn i y .stage) ≡ true) (front-later a x xs e g) h)
-    (subst (λ (y : Engine). stepOf (lifted c) (voiceIn i y .rate) ≡ st) (front-later a x xs e g) q) (stays-rest i c a b x xs e g l s))
+    (subst (λ (y : Engine). stepOf (lifted c) (voiceIn i y .rate) ≡ st) (front-later a x xs e g) q) (later g))
     (ltb a (framesOf x e)) refl (ltb b (framesOf x e)) refl
   where
     f : ℕ
     f = framesOf x e
+
+    later : f ≤ a → Unbroken i c (suc (a - f)) (a - f) (b - f) xs (next x e)
+    later g =
+        let n : suc a - f ≡ suc (a - f) = omega arith in
+        subst (λ (m : ℕ). Unbroken i c m (a - f) (b - f) xs (next x e)) n (unbroken-rest i c (suc a) a b x xs e (omega arith) s)
 
     P : ℕ → Engine
     P k = played (ramOf x) (romOf x) k e
@@ -478,9 +476,9 @@ between-on (x ∷ xs) e i a b c st l n on h q s =
     by rest true t false v =
         let g = ltb-true a f t in
         let j = ltb-false b f v in
-        let r = stays-from i c a b x xs e g j n s in
+        let r = unbroken-from i c (suc a) a b x xs e g (omega arith) j s in
         let ends = in-call x a e g .ends i in
-        let live = front-sounded xs (next x e) i (b - f) (r .lives) (r .own) in
+        let live = front-sounded xs (next x e) i (b - f) (r .lives) (λ k h. r .own k (omega arith) h) in
         let o : On (voiceIn i (P a)) (voiceIn i (next x e)) st (f - a) =
         subst (λ (y : Slot). On (voiceIn i (P a)) (y .voice) st (f - a)) (sym ends) (inside f g g (sym (ap (λ (y : Slot). y .sounding) ends) ∙ live)) in
         let p : past (voiceIn i (next x e) .stage) ≡ true = ap (λ (w : Voice). past (w .stage)) (o .is) ∙ o .past in
@@ -496,7 +494,8 @@ between-on (x ∷ xs) e i a b c st l n on h q s =
 pub place-between : PlaceBetween
 place-between xs e i a b c l n on h rate s k =
     moved-by i c (b - a) (inFront a xs e) (inFront b xs e) (inFront a xs e) (omega arith) (s .tuned a (omega arith) l) rate
-    (between-on xs e i a b c (stepOf (lifted c) (voiceIn i (inFront a xs e) .rate)) l n on h refl s) k
+    (between-on xs e i a b c (stepOf (lifted c) (voiceIn i (inFront a xs e) .rate)) l on h refl
+    (record { frames = n; lives = s .lives; own = s .own; tuned = s .tuned })) k
 
 -- it is one of the bounds of every voice that sounds
 pub rates-hold : RatesHold
@@ -509,8 +508,7 @@ place-always before i c xs on h n m k = place-holds i c xs (run before fresh) on
 -- any two frames, from the fresh state
 pub between-always : PlaceBetweenAlways
 between-always xs i a b c l n on h s k =
-    place-between xs fresh i a b c l n on h
-    (front-everyone (λ (v : Voice). (400 ≤ v .rate) × (v .rate ≤ 50000)) (λ v g p m h. h) fresh rates-hold a xs i on) s k
+    place-between xs fresh i a b c l n on h (frames-hold xs i a on .rate) s k
 
 -- ---- what is heard
 

@@ -5,7 +5,7 @@ use mathlib.Core.Bool.{Bool, true, false, cond, _||_}
 use mathlib.Core.List.{List, [], _∷_}
 use lib.IntN.{ℤ}
 use lib.Dec.{eqb, ltb}
-use borrow.Author.Tests.{le-ltb, lt-ltb, ltb-true, ltb-false, eqb-true}
+use borrow.Author.Tests.{le-ltb, lt-ltb, ltb-true, ltb-false}
 use lib.Ieee.{Float}
 use native.Mathlib.Omega.{arith}
 use Rattle.voice.specs.declared.Voice.{Voice}
@@ -24,7 +24,7 @@ use Rattle.engine.proofs.RenderingLaws.{slot-stays}
 use Rattle.promises.specs.Calls.{Call, does, next, run, voiceIn, framesOf, framesRun, startsIn, among, seats}
 use Rattle.voice.specs.Frames.{after}
 use Rattle.promises.specs.Moments.{Moment, momentIn, moment, stateAt, inFront, startedAt}
-use Rattle.promises.proofs.Voices.{Fixed, Everyone, call-sounded}
+use Rattle.promises.proofs.Voices.{Fixed, call-sounded}
 use Rattle.promises.proofs.Frames.{after-keeps, after-sounded}
 use Rattle.promises.specs.Calls as Calls
 
@@ -118,10 +118,17 @@ romOf (Calls.Bend c b) = []
 romOf (Calls.Render to ram rom out) = rom
 romOf (Calls.Ask i) = []
 
--- a frame of the first call: its render is called in the state before it; the state in front of it has k frames of it behind
--- it; and behind them all stand the slots after the call
+-- the render of a frame is done
+pub record DoneAt (m : Moment) : Type 0 where
+  pub to : ℕ
+  pub out : List Float
+  pub done : does (Calls.Render to (m .ram) (m .rom) out) (m .called) .status ≡ 0
+
+-- a frame of the first call: its render is called in the state before it, and is done; the state in front of it has k frames of
+-- it behind it; and behind them all stand the slots after the call
 pub record In (x : Call) (k : ℕ) (e : Engine) : Type 0 where
   pub called : momentIn x k e .called ≡ e
+  pub render : DoneAt (momentIn x k e)
   pub state : stateAt (momentIn x k e) ≡ played (ramOf x) (romOf x) k e
   pub ends : (i : ℕ) → slotAt (next x e) i ≡ slotAt (played (ramOf x) (romOf x) (framesOf x e) e) i
 
@@ -132,7 +139,9 @@ in-call (Calls.NoteOff c n) k e h = absurd (no-frame h)
 in-call (Calls.Control c n v) k e h = absurd (no-frame h)
 in-call (Calls.Program c p) k e h = absurd (no-frame h)
 in-call (Calls.Bend c b) k e h = absurd (no-frame h)
-in-call (Calls.Render to ram rom out) k e h = record { called = refl; state = refl; ends = λ i. by i (eqb (renderNumber to ram rom (length out) e) 0) refl h }
+in-call (Calls.Render to ram rom out) k e h =
+    let a = by (eqb (renderNumber to ram rom (length out) e) 0) refl h in
+    record { called = refl; render = record { to = to; out = out; done = a .0 }; state = refl; ends = a .1 }
   where
     n : ℕ
     n = renderNumber to ram rom (length out) e
@@ -143,10 +152,10 @@ in-call (Calls.Render to ram rom out) k e h = record { called = refl; state = re
     tells : Bool → Answered
     tells b = cond b (done 0 (withClock (played ram rom d e) to)) (refused n e)
 
-    by : (i : ℕ) (b : Bool) → eqb n 0 ≡ b → k < cond (eqb (tells b .status) 0) d 0
-        → slotAt (tells b .engine) i ≡ slotAt (played ram rom (cond (eqb (tells b .status) 0) d 0) e) i
-    by i true q g = refl
-    by i false q g = absurd (no-frame (subst (λ (t : Bool). k < cond t d 0) q g))
+    by : (b : Bool) → eqb n 0 ≡ b → k < cond (eqb (tells b .status) 0) d 0
+        → (tells b .status ≡ 0) × ((i : ℕ) → slotAt (tells b .engine) i ≡ slotAt (played ram rom (cond (eqb (tells b .status) 0) d 0) e) i)
+    by true q g = (refl, λ i. refl)
+    by false q g = absurd (no-frame (subst (λ (t : Bool). k < cond t d 0) q g))
 in-call (Calls.Ask s) k e h = absurd (no-frame h)
 
 -- the state in front of a frame of the first call
@@ -176,30 +185,7 @@ passed k (x ∷ xs) e = by (passed (k - framesOf x e) xs (next x e)) (ltb k (fra
     by rest true q = record { calls = []; reaches = in-call x k e (ltb-true k (framesOf x e) q) .called }
     by rest false q = record { calls = x ∷ rest .calls; reaches = rest .reaches }
 
--- the render of a frame is done
-pub record DoneAt (m : Moment) : Type 0 where
-  pub to : ℕ
-  pub out : List Float
-  pub done : does (Calls.Render to (m .ram) (m .rom) out) (m .called) .status ≡ 0
-
--- of a frame of the first call
-done-here : (x : Call) (k : ℕ) (e : Engine) → k < framesOf x e → DoneAt (momentIn x k e)
-done-here (Calls.NoteOn b ram rom c n v) k e h = absurd (no-frame h)
-done-here (Calls.NoteOff c n) k e h = absurd (no-frame h)
-done-here (Calls.Control c n v) k e h = absurd (no-frame h)
-done-here (Calls.Program c p) k e h = absurd (no-frame h)
-done-here (Calls.Bend c b) k e h = absurd (no-frame h)
-done-here (Calls.Render to ram rom out) k e h = record { to = to; out = out; done = by (eqb status 0) refl h }
-  where
-    status : ℕ
-    status = does (Calls.Render to ram rom out) e .status
-
-    by : (b : Bool) → eqb status 0 ≡ b → k < cond b (distance e to) 0 → status ≡ 0
-    by true q g = eqb-true status 0 q
-    by false q g = absurd (no-frame g)
-done-here (Calls.Ask s) k e h = absurd (no-frame h)
-
--- of each frame of a run
+-- the render of each frame of a run is done
 pub done-at : (k : ℕ) (xs : List Call) (e : Engine) → k < framesRun xs e → DoneAt (moment k xs e)
 unfolding framesRun
 done-at k [] e h = absurd (no-frame h)
@@ -210,21 +196,11 @@ done-at k (x ∷ xs) e h =
         → DoneAt (moment k (x ∷ xs) e)
     by rest true q =
         let g = ltb-true k (framesOf x e) q in
-        subst DoneAt (sym (moment-here k x xs e g)) (done-here x k e g)
+        subst DoneAt (sym (moment-here k x xs e g)) (in-call x k e g .render)
     by rest false q =
         let g = ltb-false k (framesOf x e) q in
         let r : framesOf x e + (k - framesOf x e) ≡ k = omega arith in
         subst DoneAt (sym (moment-later (k - framesOf x e) x xs e) ∙ ap (λ (n : ℕ). moment n (x ∷ xs) e) r) (rest (omega arith))
-
--- so what holds of every sounding voice after any run holds of every sounding voice in front of any frame
-pub front-everyone : (P : Voice → Type 0) → Fixed P → (e : Engine) → ((xs : List Call) → Everyone P (run xs e))
-    → (k : ℕ) (xs : List Call) → Everyone P (inFront k xs e)
-front-everyone P f e h k xs i on =
-    let m = moment k xs e in
-    let p = passed k xs e in
-    part-keeps P f (m .ram) (m .rom) (m .into) (m .called) i
-    (subst (λ (y : Engine). slotAt y i .sounding ≡ true → P (voiceIn i y)) (sym (p .reaches)) (h (p .calls) i)
-    (part-sounded (m .ram) (m .rom) (m .into) (m .called) i on))
 
 -- a slot that sounds in front of frame k, and in which none was started before, sounds at the beginning
 pub front-sounded : (xs : List Call) (e : Engine) (i k : ℕ) → slotAt (inFront k xs e) i .sounding ≡ true

@@ -6,8 +6,8 @@ use mathlib.Core.List.{List, [], _∷_}
 use mathlib.Core.Logic.{_⊎_, inl, inr, ⊎-elim}
 use native.Mathlib.Nat.{not-suc-le-zero, min-eq-left, div-le-of-le-mul, div-lt-iff-lt-mul}
 use native.Mathlib.Omega.{arith}
-use borrow.Author.Tests.{leb-false, le-leb, lt-ltb, le-ltb, eqb-false}
-use lib.Dec.{eqb, ltb, leb, lit<}
+use borrow.Author.Tests.{le-leb, lt-ltb, le-ltb, eqb-false}
+use lib.Dec.{eqb, ltb, lit<}
 use lib.Ieee.{Float}
 use lib.IntN.{ℤ, pos, negsuc}
 use lib.ListN.{length, getD, take, drop, length-drop}
@@ -26,9 +26,9 @@ use Rattle.voice.specs.Motion.{span, folds, folded, settled, ended}
 use Rattle.voice.specs.Reading.{behind}
 use Rattle.voice.specs.Release.{letGo, release}
 use Rattle.voice.specs.Sound.{panOf}
-use Rattle.voice.specs.Stages.{levelAt, decayAt, fromDecay, fromHold, fromAttack, fromDelay, entered, dead, waiting, released, spent}
+use Rattle.voice.specs.Stages.{levelAt, entered, dead, waiting, released, spent}
 use Rattle.voice.proofs.FramesLaws.{folds-loop}
-use Rattle.voice.proofs.Advance.{spent-released}
+use Rattle.voice.proofs.Advance.{Follows, from-decay, from-hold, from-attack, from-delay, spent-released}
 use Rattle.voice.proofs.Inside.{Inside, Read, Reads, settled-in, never-outside}
 use Rattle.voice.proofs.MotionLaws.{split}
 use Rattle.state.specs.Quiet.{fresh}
@@ -46,7 +46,7 @@ use Rattle.promises.proofs.Banks.{Came, came}
 use Rattle.promises.proofs.Demand1.{render-numbers}
 use Rattle.promises.proofs.Demand2.{let-go}
 use Rattle.promises.proofs.AgeLaws.{order-slots, renewed-is}
-use Rattle.promises.proofs.EachSlot.{either, never, and-both, held-unreleased}
+use Rattle.promises.proofs.EachSlot.{never, and-both, held-unreleased}
 use Rattle.promises.specs.Moments.{moment, inFront, stageIn}
 use Rattle.promises.proofs.Moments.{slot-at, part-sounded, part-keeps, passed, done-at}
 use Rattle.promises.proofs.Cuts.{after-window}
@@ -96,32 +96,15 @@ Unspent v (Release a t) = Unit {0}
 abbrev Held : Voice → Stage → Type 0
 Held v s = Unspent v s × (released s ≡ false)
 
-decay-held : (v : Voice) (t : ℕ) → Held v (fromDecay v t)
-unfolding fromDecay
-decay-held v t = either (Held v) (leb (v .sustain) (decayAt (v .decay) (v .sustain) t)) Sustain (Decay t) (tt, refl) (tt, refl)
-
-hold-held : (v : Voice) (t : ℕ) → Held v (fromHold v t)
-unfolding fromHold
-hold-held v t = either (Held v) (leb (v .hold) t) (fromDecay v 0) (Hold t) (decay-held v 0) (tt, refl)
-
-attack-held : (v : Voice) (t : ℕ) → Held v (fromAttack v t)
-unfolding fromAttack
-attack-held v t = by (leb (v .attack) t) refl
-  where
-    by : (b : Bool) → leb (v .attack) t ≡ b → Held v (cond b (fromHold v 0) (Attack t))
-    by true q = hold-held v 0
-    by false q = (leb-false (v .attack) t q, refl)
-
-delay-held : (v : Voice) (left : ℕ) → Held v (fromDelay v left)
-unfolding fromDelay
-delay-held v left = either (Held v) (eqb left 0) (fromAttack v 0) (Delay left) (attack-held v 0) (tt, refl)
+held-follows : (v : Voice) → Follows v (Held v)
+held-follows v = record { attack = λ t l. (l, refl); hold = λ t. (tt, refl); decay = λ t. (tt, refl); sustain = (tt, refl) }
 
 -- once spent stages are left, an attack is not spent; and it is released as before
 enters : (v : Voice) (s : Stage) → Unspent v (entered v s) × (released (entered v s) ≡ released s)
-enters v (Delay left) = delay-held v left
-enters v (Attack t) = attack-held v t
-enters v (Hold t) = hold-held v t
-enters v (Decay t) = decay-held v t
+enters v (Delay left) = from-delay v (Held v) (held-follows v) left (λ q. (tt, refl))
+enters v (Attack t) = from-attack v (Held v) (held-follows v) t
+enters v (Hold t) = from-hold v (Held v) (held-follows v) t
+enters v (Decay t) = from-decay v (Held v) (held-follows v) t
 enters v Sustain = (tt, refl)
 enters v (Release a t) = (tt, refl)
 

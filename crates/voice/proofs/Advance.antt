@@ -1,8 +1,9 @@
 -- Demand 3 for one voice: n frames of a voice that is past its delay and still sounds after them move its place by n steps, folded while it loops.
 use mathlib.Core.Path.{_≡_, refl, subst, sym, _∙_, ap}
 use mathlib.Core.Bool.{false, Bool, true, cond}
-use Prim.Native.Nat.{ℕ, _+_, zero, suc, _*_}
+use Prim.Native.Nat.{ℕ, _+_, zero, suc, _*_, _<_}
 use lib.Dec.{leb, eqb, T}
+use borrow.Author.Tests.{leb-false}
 use mathlib.Core.List.{List}
 use lib.IntN.{ℤ}
 use native.Mathlib.Omega.{arith}
@@ -24,41 +25,67 @@ use Rattle.voice.proofs.Silence.{stays}
 
 -- ---- what leaving spent stages, and a frame spent, keep
 
+-- a property of each stage that may follow a spent one; an attack that is entered is not spent
+pub record Follows (v : Voice) (P : Stage → Type 0) : Type 0 where
+  pub attack : (t : ℕ) → t < v .attack → P (Attack t)
+  pub hold : (t : ℕ) → P (Hold t)
+  pub decay : (t : ℕ) → P (Decay t)
+  pub sustain : P Sustain
+
+module _ (v : Voice) (P : Stage → Type 0) (f : Follows v P) where
+  -- it holds of frame t of decay, or what follows
+  pub from-decay : (t : ℕ) → P (fromDecay v t)
+  unfolding fromDecay
+  from-decay t = by (leb (v .sustain) (decayAt (v .decay) (v .sustain) t))
+    where
+      by : (b : Bool) → P (cond b Sustain (Decay t))
+      by true = f .sustain
+      by false = f .decay t
+
+  -- of hold
+  pub from-hold : (t : ℕ) → P (fromHold v t)
+  unfolding fromHold
+  from-hold t = by (leb (v .hold) t)
+    where
+      by : (b : Bool) → P (cond b (fromDecay v 0) (Hold t))
+      by true = from-decay 0
+      by false = f .hold t
+
+  -- of attack
+  pub from-attack : (t : ℕ) → P (fromAttack v t)
+  unfolding fromAttack
+  from-attack t = by (leb (v .attack) t) refl
+    where
+      by : (b : Bool) → leb (v .attack) t ≡ b → P (cond b (fromHold v 0) (Attack t))
+      by true q = from-hold 0
+      by false q = f .attack t (leb-false (v .attack) t q)
+
+  -- and of a delay that is not spent, or what follows
+  pub from-delay : (left : ℕ) → (eqb left 0 ≡ false → P (Delay left)) → P (fromDelay v left)
+  unfolding fromDelay
+  from-delay left d = by (eqb left 0) refl
+    where
+      by : (b : Bool) → eqb left 0 ≡ b → P (cond b (fromAttack v 0) (Delay left))
+      by true q = from-attack 0
+      by false q = d q
+
+-- nothing is both true and false
+pub not-both : {A : Type 0} (b : Bool) → b ≡ true → b ≡ false → A
+not-both b t f = absurd (subst (λ (x : Bool). T x) (sym t ∙ f) tt)
+
 -- neither in delay nor released
 abbrev Held : Stage → Type 0
 Held s = (waiting s ≡ false) × (released s ≡ false)
 
--- either of two such stages is one
-pick : (b : Bool) (x y : Stage) → Held x → Held y → Held (cond b x y)
-pick true x y h k = h
-pick false x y h k = k
-
--- so is frame t of decay, or what follows
-decay-held : (v : Voice) (t : ℕ) → Held (fromDecay v t)
-unfolding fromDecay
-decay-held v t = pick (leb (v .sustain) (decayAt (v .decay) (v .sustain) t)) Sustain (Decay t) (refl, refl) (refl, refl)
-
--- of hold
-hold-held : (v : Voice) (t : ℕ) → Held (fromHold v t)
-unfolding fromHold
-hold-held v t = pick (leb (v .hold) t) (fromDecay v 0) (Hold t) (decay-held v 0) (refl, refl)
-
--- of attack
-attack-held : (v : Voice) (t : ℕ) → Held (fromAttack v t)
-unfolding fromAttack
-attack-held v t = pick (leb (v .attack) t) (fromHold v 0) (Attack t) (hold-held v 0) (refl, refl)
-
--- and a delay of which no frame is left
-delay-held : (v : Voice) (left : ℕ) → eqb left 0 ≡ true → Held (fromDelay v left)
-unfolding fromDelay
-delay-held v left e = simp e (attack-held v 0)
+held-follows : (v : Voice) → Follows v Held
+held-follows v = record { attack = λ t l. (refl, refl); hold = λ t. (refl, refl); decay = λ t. (refl, refl); sustain = (refl, refl) }
 
 -- past its delay, a voice does not wait; and it is released after as before
 pub enter-past : (v : Voice) (s : Stage) → past s ≡ true → (waiting (entered v s) ≡ false) × (released (entered v s) ≡ released s)
-enter-past v (Delay left) e = delay-held v left e
-enter-past v (Attack t) e = attack-held v t
-enter-past v (Hold t) e = hold-held v t
-enter-past v (Decay t) e = decay-held v t
+enter-past v (Delay left) e = from-delay v Held (held-follows v) left (λ q. not-both (eqb left 0) e q)
+enter-past v (Attack t) e = from-attack v Held (held-follows v) t
+enter-past v (Hold t) e = from-hold v Held (held-follows v) t
+enter-past v (Decay t) e = from-decay v Held (held-follows v) t
 enter-past v Sustain e = (refl, refl)
 enter-past v (Release a t) e = (refl, refl)
 
@@ -94,10 +121,6 @@ pub record Going (v : Voice) (p : ℕ) (s : Slot) : Type 0 where
   pub is : s ≡ sounds (withMoved v stage p (v .marked))
   pub past : past stage ≡ true
   pub same : released stage ≡ released (v .stage)
-
--- nothing is both true and false
-pub not-both : {A : Type 0} (b : Bool) → b ≡ true → b ≡ false → A
-not-both b t f = absurd (subst (λ (x : Bool). T x) (sym t ∙ f) tt)
 
 module _ (st : ℕ) (l : ℤ) (w : List ℤ) where
   -- moved: either it ended, or it sounds at its settled place

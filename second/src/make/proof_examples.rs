@@ -2,7 +2,7 @@
 //! finds: crates/promises/proofs/Runs.antt (voices and runs drawn by chance) and crates/voice/proofs/Examples.antt (a
 //! small bell). The heads, which name what the definitions are called, stand beside this file.
 
-use super::drawn::{Call, Drawn, Row, RUNS, VOICES};
+use super::drawn::{self, Call, Drawn, Row};
 use crate::bank::Window;
 use crate::key_to_layers::Numbers;
 use crate::slots_keys_clock::Engine;
@@ -74,10 +74,10 @@ pub fn runs() -> String {
     let mut text = "-- Voices and runs of calls drawn by chance, with what the second program says of them; each is computed here by the definitions.\n".to_string();
     text += MADE_BY;
     text += include_str!("Runs.head");
-    for (at, drawn) in VOICES.iter().enumerate() {
+    for (at, drawn) in drawn::voices().iter().enumerate() {
         text += &format!("\nvoice{at} :\n{}\n{OF_FRAMES}\nvoice{at} = refl\n", drawn_voice(drawn));
     }
-    for (at, calls) in RUNS.iter().enumerate() {
+    for (at, calls) in drawn::runs().iter().enumerate() {
         text += &format!("\nrun{at} :\n{}\n{OF_RUNS}\nrun{at} = refl\n", drawn_run(calls));
     }
     text
@@ -85,7 +85,7 @@ pub fn runs() -> String {
 
 /// A drawn voice, and the eight frames that are heard of it.
 fn drawn_voice(drawn: &Drawn) -> String {
-    let Drawn { bend, volume, expression, samples, before, .. } = *drawn;
+    let Drawn { bend, volume, expression, ref samples, before, .. } = *drawn;
     let controls = Controls { bend, volume, expression };
     let mut slot = started(drawn.struck, &drawn.row);
     heard(&mut slot, samples, controls, before);
@@ -117,7 +117,7 @@ fn drawn_run(calls: &[Call]) -> String {
     let mut lines = String::new();
     for call in calls {
         let done = match *call {
-            Call::On(channel, key, velocity, layers) => {
+            Call::On(channel, key, velocity, ref layers) => {
                 let started: Vec<Numbers> = layers.iter().map(numbers).collect();
                 engine.strike(channel, key, velocity, &started);
                 let voices = layers.iter().map(|row| voice_record((channel, key, velocity), row));
