@@ -1,8 +1,8 @@
 -- Age: `order` is the order of starting, after any run and before each layer of a call.
 use Prim.Native.Nat.{ℕ, _<_, _≤_, suc, zero, _+_}
-use mathlib.Core.Path.{_≡_, refl, sym, ap, _∙_}
+use mathlib.Core.Path.{subst, _≡_, refl, sym, ap, _∙_}
 use mathlib.Core.Bool.{true, Bool, false, cond}
-use mathlib.Core.List.{List, _∷_, [], _++_}
+use mathlib.Core.List.{List, _∷_, [], _++_, append-nil, append-assoc}
 use mathlib.Core.Logic.{⊎-elim}
 use lib.Dec.{eqb, ltb}
 use lib.ListN.{length}
@@ -25,11 +25,10 @@ use Rattle.events.specs.Starting.{Started, start, startAll, cleared, struck}
 use Rattle.events.specs.Striking.{layerVoices, noteOnNumber, noteOn, bankFrom}
 use Rattle.engine.specs.Rendering.{distance, played, renderNumber, render}
 use Rattle.promises.specs.Calls.{Call, seats, begun, run, next, startsIn, history, channelOf}
-use Rattle.promises.specs.Age.{older, Ordered, startedLast, OfAge, OrderIsAge, AgedLayers, LayersAge}
+use Rattle.promises.specs.Age.{older, startedLast, OfAge, OrderIsAge, AgedLayers, LayersAge}
 use Rattle.promises.proofs.AgeLaws.{renewed-ordered, renewed-older}
 use Rattle.promises.proofs.EachSlot.{either, answerAt, seatsAt}
-use Rattle.promises.proofs.Kept.{call-keeps}
-use Rattle.promises.proofs.Seats.{split, start-order, seat-slot, ordered-lasts, ordered-run, fresh-ordered}
+use Rattle.promises.proofs.Seats.{split, start-order, seat-slot, fresh-ordered}
 use Rattle.promises.specs.Calls as Calls
 
 last-append : (xs ys : List ℕ) (i j : ℕ) (b : Bool) → startedLast (xs ++ ys) i j b ≡ startedLast ys i j (startedLast xs i j b)
@@ -53,55 +52,74 @@ control-order c n v e =
     P : Engine → Type 0
     P y = y .order ≡ e .order
 
-module _ (i j : ℕ) (li : i < 32) (lj : j < 32) (apart : i ≡ j → ⊥) where
-  layers-older : (vs : List Voice) (x : Started) → Ordered (x .engine .order)
-      → older (startAll vs x .engine .order) i j ≡ startedLast (seats vs x) i j (older (x .engine .order) i j)
-  unfolding startAll seats startedLast
-  layers-older [] x h = refl
-  layers-older (v ∷ vs) x h =
-      let s = seat (x .engine) (x .mine) in
-      let l = seat-slot (x .engine) (x .mine) h in
-      let o = start-order v x h in
-      layers-older vs (start v x) (rw o (renewed-ordered s (x .engine .order) l h))
-      ∙ ap (startedLast (seats vs (start v x)) i j) (ap (λ (q : List ℕ). older q i j) o ∙ renewed-older i j apart s (x .engine .order) l li lj h)
+-- no start more
+no-start : (past order : List ℕ) → OfAge past order → OfAge (past ++ []) order
+no-start past order h = subst (λ (p : List ℕ). OfAge p order) (sym (append-nil past)) h
 
-  note-on-older : (b : List ℕ) (ram rom : List ℤ) (c k v : ℕ) (e : Engine) → Ordered (e .order)
-      → older (next (Calls.NoteOn b ram rom c k v) e .order) i j ≡ startedLast (startsIn (Calls.NoteOn b ram rom c k v) e) i j (older (e .order) i j)
-  unfolding noteOn offKey off struck cleared seats startedLast
-  note-on-older b ram rom c k v e h = by (pastTwo c k v) (eqb v 0) (eqb number 0) number refl
-    where
-      vs : List Voice
-      vs = layerVoices (bankFrom b) c k v e
+-- one layer more is one start more
+start-aged : (past : List ℕ) (v : Voice) (x : Started) → OfAge past (x .engine .order)
+    → OfAge (past ++ (seat (x .engine) (x .mine) ∷ [])) (start v x .engine .order)
+unfolding startedLast
+start-aged past v x h =
+    let s = seat (x .engine) (x .mine) in
+    let l = seat-slot (x .engine) (x .mine) (h .0) in
+    let o = start-order v x (h .0) in (
+      rw o (renewed-ordered s (x .engine .order) l (h .0)),
+      λ i j li lj d.
+          ap (λ (q : List ℕ). older q i j) o ∙ renewed-older i j d s (x .engine .order) l li lj (h .0)
+          ∙ ap (λ (b : Bool). cond (eqb s j) true (cond (eqb s i) false b)) (h .1 i j li lj d)
+          ∙ sym (last-append past (s ∷ []) i j (ltb i j)),
+    )
 
-      number : ℕ
-      number = noteOnNumber (bankFrom b) ram rom c k v e
+-- and so are all layers
+layers-aged : (vs : List Voice) (x : Started) (past : List ℕ) → OfAge past (x .engine .order) → OfAge (past ++ seats vs x) (startAll vs x .engine .order)
+unfolding startAll seats
+layers-aged [] x past h = no-start past (x .engine .order) h
+layers-aged (v ∷ vs) x past h =
+    let s = seat (x .engine) (x .mine) in
+    subst (λ (p : List ℕ). OfAge p (startAll vs (start v x) .engine .order)) (append-assoc past (s ∷ []) (seats vs (start v x)))
+    (layers-aged vs (start v x) (past ++ (s ∷ [])) (start-aged past v x h))
 
-      by : (t z q : Bool) (n : ℕ) → eqb n 0 ≡ q
-          → older (answerAt c k vs e t z q n .engine .order) i j ≡ startedLast (seatsAt c k vs e t z q n) i j (older (e .order) i j)
-      by true z q n r = refl
-      by false true q n r = refl
-      by false false true n r = layers-older vs (record { engine = cleared c vs e; mine = 0 }) h
-      by false false false n r = rw r refl
+-- a note-on
+note-on-aged : (b : List ℕ) (ram rom : List ℤ) (c k v : ℕ) (e : Engine) (past : List ℕ) → OfAge past (e .order)
+    → OfAge (past ++ startsIn (Calls.NoteOn b ram rom c k v) e) (next (Calls.NoteOn b ram rom c k v) e .order)
+unfolding noteOn offKey off struck cleared seats
+note-on-aged b ram rom c k v e past h = by (pastTwo c k v) (eqb v 0) (eqb number 0) number refl
+  where
+    vs : List Voice
+    vs = layerVoices (bankFrom b) c k v e
 
-  -- the other calls leave the order as it is
-  call-older : (x : Call) (e : Engine) → Ordered (e .order) → older (next x e .order) i j ≡ startedLast (startsIn x e) i j (older (e .order) i j)
-  unfolding noteOff offKey off controlChange programChange pitchBend render played seats startedLast
-  call-older (Calls.NoteOn b ram rom c k v) e h = note-on-older b ram rom c k v e h
-  call-older (Calls.NoteOff c k) e h = ap (λ (o : List ℕ). older o i j) (told e (cond (pastOne c k) 2 0) (offKey c k e) refl)
-  call-older (Calls.Control c n v) e h = ap (λ (o : List ℕ). older o i j) (told e (cond (pastTwo c n v) 2 0) (done 0 (controlled c n v e)) (control-order c n v e))
-  call-older (Calls.Program c p) e h = ap (λ (o : List ℕ). older o i j) (told e (cond (pastOne c p) 2 0) (done 0 (withChannel e c (withProgram (channelAt e c) p))) refl)
-  call-older (Calls.Bend c b) e h = ap (λ (o : List ℕ). older o i j) (told e (cond (pastBend c b) 2 0) (done 0 (withChannel e c (withBend (channelAt e c) b))) refl)
-  call-older (Calls.Render to ram rom out) e h =
-      ap (λ (o : List ℕ). older o i j) (told e (renderNumber to ram rom (length out) e) (done 0 (withClock (played ram rom (distance e to) e) to)) refl)
-  call-older (Calls.Ask s) e h = refl
+    number : ℕ
+    number = noteOnNumber (bankFrom b) ram rom c k v e
 
-  run-older : (xs : List Call) (e : Engine) → Ordered (e .order) → older (run xs e .order) i j ≡ startedLast (history xs e) i j (older (e .order) i j)
-  unfolding run history startedLast
-  run-older [] e h = refl
-  run-older (x ∷ xs) e h =
-      run-older xs (next x e) (call-keeps (λ (y : Engine). Ordered (y .order)) ordered-lasts x e h)
-      ∙ ap (startedLast (history xs (next x e)) i j) (call-older x e h)
-      ∙ sym (last-append (startsIn x e) (history xs (next x e)) i j (older (e .order) i j))
+    by : (t z q : Bool) (n : ℕ) → eqb n 0 ≡ q → OfAge (past ++ seatsAt c k vs e t z q n) (answerAt c k vs e t z q n .engine .order)
+    by true z q n r = no-start past (e .order) h
+    by false true q n r = no-start past (e .order) h
+    by false false true n r = layers-aged vs (record { engine = cleared c vs e; mine = 0 }) past h
+    by false false false n r = rw r (no-start past (e .order) h)
+
+-- the other calls start nothing and leave the order as it is
+call-aged : (x : Call) (e : Engine) (past : List ℕ) → OfAge past (e .order) → OfAge (past ++ startsIn x e) (next x e .order)
+unfolding noteOff offKey off controlChange programChange pitchBend render played seats
+call-aged (Calls.NoteOn b ram rom c k v) e past h = note-on-aged b ram rom c k v e past h
+call-aged (Calls.NoteOff c k) e past h = rw (told e (cond (pastOne c k) 2 0) (offKey c k e) refl) (no-start past (e .order) h)
+call-aged (Calls.Control c n v) e past h =
+    rw (told e (cond (pastTwo c n v) 2 0) (done 0 (controlled c n v e)) (control-order c n v e)) (no-start past (e .order) h)
+call-aged (Calls.Program c p) e past h =
+    rw (told e (cond (pastOne c p) 2 0) (done 0 (withChannel e c (withProgram (channelAt e c) p))) refl) (no-start past (e .order) h)
+call-aged (Calls.Bend c b) e past h =
+    rw (told e (cond (pastBend c b) 2 0) (done 0 (withChannel e c (withBend (channelAt e c) b))) refl) (no-start past (e .order) h)
+call-aged (Calls.Render to ram rom out) e past h =
+    rw (told e (renderNumber to ram rom (length out) e) (done 0 (withClock (played ram rom (distance e to) e) to)) refl) (no-start past (e .order) h)
+call-aged (Calls.Ask s) e past h = no-start past (e .order) h
+
+-- call by call
+run-aged : (xs : List Call) (e : Engine) (past : List ℕ) → OfAge past (e .order) → OfAge (past ++ history xs e) (run xs e .order)
+unfolding run history
+run-aged [] e past h = no-start past (e .order) h
+run-aged (x ∷ xs) e past h =
+    subst (λ (p : List ℕ). OfAge p (run xs (next x e) .order)) (append-assoc past (startsIn x e) (history xs (next x e)))
+    (run-aged xs (next x e) (past ++ startsIn x e) (call-aged x e past h))
 
 -- the fresh order is by number
 up-older : (i j a n : ℕ) → a ≤ i → a ≤ j → i < a + n → j < a + n → (i ≡ j → ⊥) → older (upFrom a n) i j ≡ ltb i j
@@ -127,40 +145,17 @@ fresh-older : (i j : ℕ) → i < 32 → j < 32 → (i ≡ j → ⊥) → older 
 unfolding fresh
 fresh-older i j li lj d = up-older i j 0 32 (omega arith) (omega arith) (omega arith) (omega arith) d
 
--- start by start from the fresh order on
-run-aged : (xs : List Call) → OfAge (history xs fresh) (run xs fresh .order)
-run-aged xs = (
-  ordered-run xs,
-  λ i j li lj d. run-older i j li lj d xs fresh fresh-ordered ∙ ap (startedLast (history xs fresh) i j) (fresh-older i j li lj d),
-)
-
--- after any run
+-- from the fresh order on
 pub order-age : OrderIsAge
-order-age xs = run-aged xs
-
--- ---- inside a call
-
--- one layer more is one start more
-start-aged : (past : List ℕ) (v : Voice) (x : Started) → OfAge past (x .engine .order)
-    → OfAge (past ++ (seat (x .engine) (x .mine) ∷ [])) (start v x .engine .order)
 unfolding startedLast
-start-aged past v x h =
-    let s = seat (x .engine) (x .mine) in
-    let l = seat-slot (x .engine) (x .mine) (h .0) in
-    let o = start-order v x (h .0) in (
-      rw o (renewed-ordered s (x .engine .order) l (h .0)),
-      λ i j li lj d.
-          ap (λ (q : List ℕ). older q i j) o ∙ renewed-older i j d s (x .engine .order) l li lj (h .0)
-          ∙ ap (λ (b : Bool). cond (eqb s j) true (cond (eqb s i) false b)) (h .1 i j li lj d)
-          ∙ sym (last-append past (s ∷ []) i j (ltb i j)),
-    )
+order-age xs = run-aged xs fresh [] (fresh-ordered, fresh-older)
 
 -- layer by layer; freeing the rivals moves no slot in the order
 pub layers-age : LayersAge
 unfolding cleared
 layers-age xs x =
     layers (history xs fresh) (begun x (run xs fresh)) (record { engine = cleared (channelOf x) (begun x (run xs fresh)) (run xs fresh); mine = 0 })
-    (run-aged xs)
+    (order-age xs)
   where
     layers : (past : List ℕ) (vs : List Voice) (y : Started) → OfAge past (y .engine .order) → AgedLayers past vs y
     layers past [] y h = tt

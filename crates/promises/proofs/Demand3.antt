@@ -409,12 +409,12 @@ place-holds i c xs e on h rate n m k =
 -- ---- any two frames
 
 -- between two frames of the first call
-both-here : (i : ℕ) (c : ℤ) (a b st : ℕ) (x : Call) (e : Engine) → a < b
+both-here : (i a b st : ℕ) (x : Call) (e : Engine) → a < b
     → slotAt (played (ramOf x) (romOf x) a e) i .sounding ≡ true → past (voiceIn i (played (ramOf x) (romOf x) a e) .stage) ≡ true
     → step (channelAt (played (ramOf x) (romOf x) a e) (voiceIn i (played (ramOf x) (romOf x) a e) .channel)) (voiceIn i (played (ramOf x) (romOf x) a e)) ≡ st
     → slotAt (played (ramOf x) (romOf x) b e) i .sounding ≡ true
     → On (voiceIn i (played (ramOf x) (romOf x) a e)) (voiceIn i (played (ramOf x) (romOf x) b e)) st (b - a)
-both-here i c a b st x e l on h t k =
+both-here i a b st x e l on h t k =
     let n : a + (b - a) ≡ b = omega arith in
     let q : played (ramOf x) (romOf x) b e ≡ played (ramOf x) (romOf x) (b - a) (played (ramOf x) (romOf x) a e) =
     ap (λ (m : ℕ). played (ramOf x) (romOf x) m e) (sym n) ∙ played-cut (ramOf x) (romOf x) e a (b - a) in
@@ -454,7 +454,7 @@ between-on (x ∷ xs) e i a b c st l on h q s =
     inside : (k : ℕ) → a < k → a < f → slotAt (P k) i .sounding ≡ true → On (voiceIn i (P a)) (voiceIn i (P k)) st (k - a)
     inside k g j o =
         let w = front-here a x xs e j in
-        both-here i c a k st x e g (subst (λ (y : Engine). slotAt y i .sounding ≡ true) w on)
+        both-here i a k st x e g (subst (λ (y : Engine). slotAt y i .sounding ≡ true) w on)
         (subst (λ (y : Engine). past (voiceIn i y .stage) ≡ true) w h)
         (subst (λ (y : Engine). step (channelAt y (voiceIn i y .channel)) (voiceIn i y) ≡ st) w
         (step-is i c (inFront a (x ∷ xs) e) (s .tuned a (omega arith) l) ∙ q)) o

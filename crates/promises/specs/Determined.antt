@@ -1,4 +1,5 @@
--- Any two outcomes that a contract allows are one: the answer, the state and all of the output. A contract stands behind `λ` as in the source; tools/contracts compares it with the functions that `contract of` names.
+-- Any two outcomes that a contract allows are one: the answer, the state and all of the output. A contract stands behind `λ` as
+-- in the source; tools/contracts compares it with the functions that `contract of` names.
 use mathlib.Core.Path.{_≡_}
 use mathlib.Core.List.{List}
 use lib.Ieee.{Float}
