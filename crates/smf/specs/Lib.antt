@@ -1,0 +1,6 @@
+pub mod Quantities
+pub mod Head
+pub mod Items
+pub mod Ticks
+pub mod Track
+pub mod Songs
