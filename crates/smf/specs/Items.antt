@@ -12,11 +12,11 @@ use Rattle.smf.specs.declared.Item.the-variants.{Bad, End, Passed, Tempo
 use Rattle.smf.specs.Quantities.{threeAt, quantityAt}
 
 -- a status of a channel event, 80 to EF
-unfoldable pub isChannel : ℕ → Bool
+abbrev pub isChannel : ℕ → Bool
 isChannel status = between 128 239 status
 
 -- a status with one data byte, C0 to DF: program change and channel pressure
-unfoldable pub isShort : ℕ → Bool
+abbrev pub isShort : ℕ → Bool
 isShort status = between 192 223 status
 
 -- one data byte at a place

@@ -22,7 +22,7 @@ unfoldable pub startAt : List ℕ → ℕ → ℕ → Cursor
 startAt b at end = record { at = at; end = end; running = 0; division = twoAt b 12; tempo = 500000; sum = 0 }
 
 -- how many events a track has at most, with one more for its end: each takes a byte or more
-unfoldable pub turns : List ℕ → ℕ
+abbrev pub turns : List ℕ → ℕ
 turns b = length b + 1
 
 -- a file's channel events, or its first fault: the length before everything else, then the head, then the track
@@ -39,10 +39,15 @@ abbrev pub verdict : Song → Tested
 verdict (Refused number place) = record { number = number; place = place }
 verdict (Events es) = record { number = 0; place = 0 }
 
+-- the cursor in front of the track that the head leads to
+abbrev pub trackCursor : Header → List ℕ → Cursor
+trackCursor (Header.Refused number place) b = over
+trackCursor (Track at end) b = startAt b at end
+
 -- the cursor with which a file is read: a refused one gives no event
 abbrev pub firstCursor : Song → List ℕ → Cursor
 firstCursor (Refused number place) b = over
-firstCursor (Events es) b = elim (headOf b) [ Header.Refused number place ↦ over | Track at end ↦ startAt b at end ]
+firstCursor (Events es) b = trackCursor (headOf b) b
 
 -- the test of a whole file
 unfoldable pub testOf : List ℕ → Tested

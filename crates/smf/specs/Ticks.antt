@@ -5,11 +5,11 @@ use lib.Dec.{ltb}
 use Rattle.smf.specs.declared.Cursor.{Cursor}
 
 -- U, so many ticks behind a cursor
-unfoldable pub sumAfter : Cursor → ℕ → ℕ
+abbrev pub sumAfter : Cursor → ℕ → ℕ
 sumAfter c ticks = c .sum + ticks * c .tempo
 
 -- U above 3,600,000,000 times the division: past an hour
-unfoldable pub isLate : ℕ → ℕ → Bool
+abbrev pub isLate : ℕ → ℕ → Bool
 isLate division sum = ltb (3600000000 * division) sum
 
 -- the frame of U: floor(U * 44,100 / (division * 1,000,000))

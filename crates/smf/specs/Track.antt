@@ -17,16 +17,16 @@ use Rattle.smf.specs.Items.{itemAt}
 use Rattle.smf.specs.Ticks.{sumAfter, isLate, frameAt}
 
 -- where the track ends: the file that is lent may be shorter than the one that was opened
-unfoldable pub edgeOf : List ℕ → Cursor → ℕ
+abbrev pub edgeOf : List ℕ → Cursor → ℕ
 edgeOf b c = min (c .end) (length b)
 
 -- the cursor behind an event at which U is `sum`, with a running status and a tempo
-unfoldable pub moved : Cursor → ℕ → ℕ → ℕ → ℕ → Cursor
+abbrev pub moved : Cursor → ℕ → ℕ → ℕ → ℕ → Cursor
 moved c sum behind running tempo =
     record { at = behind; end = c .end; running = running; division = c .division; tempo = tempo; sum = sum }
 
 -- a channel event at which U is `sum`
-unfoldable pub eventOf : Cursor → ℕ → ℕ → ℕ → ℕ → Event
+abbrev pub eventOf : Cursor → ℕ → ℕ → ℕ → ℕ → Event
 eventOf c sum status first second = record { frame = frameAt (c .division) sum; status = status; first = first; second = second }
 
 -- whether an event is not well formed
@@ -79,11 +79,11 @@ songFrom (suc n) b c =
     ]
 
 -- a cursor from which no event comes
-unfoldable pub over : Cursor
+abbrev pub over : Cursor
 over = record { at = 0; end = 0; running = 0; division = 0; tempo = 0; sum = 0 }
 
 -- no event is left
-unfoldable pub nothing : Handed
+abbrev pub nothing : Handed
 nothing = record { offer = Offer.End; cursor = over }
 
 -- the first channel event from a cursor on, over at most n events, and the cursor behind it

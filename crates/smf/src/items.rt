@@ -1,6 +1,7 @@
 // One event of the track behind its delta time, by its bytes.
 ghost use mathlib.Core.Path.{_≡_};
-ghost use Prim.Native.Nat.{_≤_};
+ghost use mathlib.Core.Bool.{cond};
+ghost use Prim.Native.Nat.{_+_, _≤_};
 ghost use Rattle.smf.specs.Items.{isChannel, isShort, shortAt, longAt, channelAt, exclusiveAt, metaOf, metaAt, itemAt};
 use crate::Item;
 use crate::Quantity;

@@ -1,6 +1,9 @@
 // Standard MIDI Files (02, M-101): the test of a lent file, and a reader that hands out its channel events, each with its frame. Any bytes, any cursor.
 ghost use mathlib.Core.Path.{_≡_};
-ghost use Rattle.smf.specs.Songs.{testOf, openingOf, nextOf};
+ghost use Prim.Native.Nat.{_≤_};
+ghost use lib.ListN.{length};
+ghost use Rattle.smf.specs.Head.{headOf};
+ghost use Rattle.smf.specs.Songs.{testOf, openingOf, nextOf, trackCursor};
 
 mod head;
 mod items;
@@ -130,6 +133,7 @@ pub fn open(file: &[u8]) -> Opening
 // The cursor in front of a good file's first event.
 fn first_cursor(file: &[u8]) -> Cursor
     requires { ⌜ length (now file) ≤ 65536 ⌝ }
+    ensures { λ r. ⌜ r ≡ trackCursor (headOf (now (file .entry))) (now (file .entry)) ⌝ }
 {
     let h = head::head(file);
     match h {
