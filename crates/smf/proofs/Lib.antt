@@ -1,1 +1,2 @@
 pub mod QuantitiesLaws
+pub mod ItemsLaws
