@@ -1,2 +1,4 @@
 pub mod QuantitiesLaws
 pub mod ItemsLaws
+pub mod TicksLaws
+pub mod TrackLaws
