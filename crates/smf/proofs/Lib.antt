@@ -1,4 +1,5 @@
 pub mod QuantitiesLaws
 pub mod ItemsLaws
 pub mod TicksLaws
+pub mod MeetingLaws
 pub mod TrackLaws
