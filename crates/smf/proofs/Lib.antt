@@ -2,3 +2,4 @@ pub mod QuantitiesLaws
 pub mod ItemsLaws
 pub mod TicksLaws
 pub mod TrackLaws
+pub mod FirstFaultLaws
