@@ -17,7 +17,7 @@ use Rattle.smf.specs.Items.{isChannel, isShort, shortAt, longAt, channel
 use Rattle.smf.proofs.QuantitiesLaws.{quantity-behind}
 
 -- what is so of both answers of a test is so of the answer
-pub either : (P : Item → Type 0) (t : Bool) (x y : Item) → (t ≡ true → P x) → (t ≡ false → P y) → P (cond t x y)
+pub either : {A : Type 0} (P : A → Type 0) (t : Bool) (x y : A) → (t ≡ true → P x) → (t ≡ false → P y) → P (cond t x y)
 either P true x y yes' no' = yes' refl
 either P false x y yes' no' = no' refl
 

@@ -3,3 +3,4 @@ pub mod ItemsLaws
 pub mod TicksLaws
 pub mod MeetingLaws
 pub mod TrackLaws
+pub mod FirstFaultLaws

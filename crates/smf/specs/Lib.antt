@@ -4,4 +4,5 @@ pub mod Items
 pub mod Ticks
 pub mod Track
 pub mod Songs
+pub mod Faults
 pub mod Internal
