@@ -9,8 +9,8 @@ use lib.Dec.{ltb, eqb}
 use lib.ListN.{length}
 use Rattle.smf.specs.declared.Header.{Header}
 use Rattle.smf.specs.declared.Header.the-variants.{Refused, Track}
-use Rattle.smf.specs.Quantities.{fourAt}
-use Rattle.smf.specs.Head.{chunkEnd, trackFrom}
+use Rattle.smf.specs.Quantities.{twoAt, fourAt}
+use Rattle.smf.specs.Head.{chunkEnd, trackFrom, headOf}
 
 module _ (b : List ℕ) (at : ℕ) where
   -- a chunk ends behind its length field
@@ -68,3 +68,73 @@ track-turn b at answer h e = go (length b) refl
     go : (n : ℕ) → length b ≡ n → trackFrom n b at ≡ answer
     go zero l = absurd (omega arith)
     go (suc n) l = e n
+
+-- the head's fields, each tested behind those in front of it
+pub record Named (b : List ℕ) : Type 0 where
+  pub name : fourAt b 0 ≡ 1297377380
+
+-- its length is six or more, and the file holds it
+pub record Held (b : List ℕ) : Type 0 where
+  pub named : Named b
+  pub six : 6 ≤ fourAt b 4
+  pub in-file : chunkEnd b 0 ≤ length b
+
+-- format 0
+pub record Formatted (b : List ℕ) : Type 0 where
+  pub held : Held b
+  pub zero-format : twoAt b 8 ≡ 0
+
+-- one track
+pub record Single (b : List ℕ) : Type 0 where
+  pub formatted : Formatted b
+  pub one : twoAt b 10 ≡ 1
+
+module _ (b : List ℕ) where
+  -- no MThd
+  pub head-unnamed : (fourAt b 0 ≡ 1297377380 → ⊥) → headOf b ≡ Refused 9 0
+  unfolding headOf
+  head-unnamed h = rw (ne-eqb _ _ h) refl
+
+  -- below six
+  pub head-short : Named b → fourAt b 4 < 6 → headOf b ≡ Refused 9 4
+  unfolding headOf
+  head-short n h = rw (eq-eqb _ _ (n .name), lt-ltb _ _ h) refl
+
+  -- past the file
+  pub head-long : Named b → 6 ≤ fourAt b 4 → length b < chunkEnd b 0 → headOf b ≡ Refused 9 4
+  unfolding headOf
+  head-long n h k = rw (eq-eqb _ _ (n .name), le-ltb _ _ h, lt-ltb _ _ k) refl
+
+  -- another format
+  pub head-format : Held b → (twoAt b 8 ≡ 0 → ⊥) → headOf b ≡ Refused 10 8
+  unfolding headOf
+  head-format n h = rw (eq-eqb _ _ (n .named .name), le-ltb _ _ (n .six), le-ltb _ _ (n .in-file), ne-eqb _ _ h) refl
+
+  -- another number of tracks
+  pub head-tracks : Formatted b → (twoAt b 10 ≡ 1 → ⊥) → headOf b ≡ Refused 9 10
+  unfolding headOf
+  head-tracks n h =
+      let k = n .held in
+      rw (eq-eqb _ _ (k .named .name), le-ltb _ _ (k .six), le-ltb _ _ (k .in-file), eq-eqb _ _ (n .zero-format), ne-eqb _ _ h) refl
+
+  -- no division
+  pub head-undivided : Single b → twoAt b 12 ≡ 0 → headOf b ≡ Refused 9 12
+  unfolding headOf
+  head-undivided n h =
+      let k = n .formatted .held in
+      rw (eq-eqb _ _ (k .named .name), le-ltb _ _ (k .six), le-ltb _ _ (k .in-file), eq-eqb _ _ (n .formatted .zero-format), eq-eqb _ _ (n .one), eq-eqb _ _ h) refl
+
+  -- SMPTE
+  pub head-smpte : Single b → 32767 < twoAt b 12 → headOf b ≡ Refused 10 12
+  unfolding headOf
+  head-smpte n h =
+      let k = n .formatted .held in
+      let some : (twoAt b 12 ≡ 0 → ⊥) = λ z. absurd (omega (arith, h, z)) in
+      rw (eq-eqb _ _ (k .named .name), le-ltb _ _ (k .six), le-ltb _ _ (k .in-file), eq-eqb _ _ (n .formatted .zero-format), eq-eqb _ _ (n .one), ne-eqb _ _ some, lt-ltb _ _ h) refl
+
+  -- a good head leads to the chunks behind it
+  pub head-good : Single b → (twoAt b 12 ≡ 0 → ⊥) → twoAt b 12 ≤ 32767 → headOf b ≡ trackFrom (length b) b (chunkEnd b 0)
+  unfolding headOf
+  head-good n s h =
+      let k = n .formatted .held in
+      rw (eq-eqb _ _ (k .named .name), le-ltb _ _ (k .six), le-ltb _ _ (k .in-file), eq-eqb _ _ (n .formatted .zero-format), eq-eqb _ _ (n .one), ne-eqb _ _ s, le-ltb _ _ h) refl
