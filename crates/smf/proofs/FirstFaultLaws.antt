@@ -30,7 +30,7 @@ use Rattle.smf.specs.Faults.Chunked.{behind-head, behind-other}
 use Rattle.smf.specs.Faults.Reached.{begins, behind-passed, behind-given}
 use Rattle.smf.proofs.QuantitiesLaws.{quantity-behind, quantity-edge}
 use Rattle.smf.proofs.ItemsLaws.{either, neither}
-use Rattle.smf.proofs.TrackLaws.{Further, meet-passed, meet-given, further-edge, edge-in}
+use Rattle.smf.proofs.TrackLaws.{meet-passed, meet-given, further-edge, edge-in}
 
 -- ---- steps of which each has one outcome: of two places on the way one leads to the other
 

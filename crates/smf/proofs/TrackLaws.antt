@@ -7,11 +7,9 @@ use native.Mathlib.Nat.{min-le-right}
 use native.Mathlib.Numerals.{add-one}
 use native.Mathlib.Omega.{arith}
 use borrow.Author.Tests.{ltb-false}
-use lib.Dec.{ltb}
 use lib.ListN.{length}
 use Rattle.smf.specs.declared.Cursor.{Cursor}
 use Rattle.smf.specs.declared.Event.{Event}
-use Rattle.smf.specs.declared.Handed.{Handed}
 use Rattle.smf.specs.declared.Item.{Item}
 use Rattle.smf.specs.declared.Met.{Met}
 use Rattle.smf.specs.declared.Met.the-variants.{Fault, End, Passed, Given}
@@ -21,7 +19,7 @@ use Rattle.smf.specs.declared.Quantity.the-variants.{Bad, Good}
 use Rattle.smf.specs.Quantities.{quantityAt}
 use Rattle.smf.specs.Items.{isShort, itemAt}
 use Rattle.smf.specs.Ticks.{sumAfter, isLate, frameAt}
-use Rattle.smf.specs.Track.{Song, edgeOf, moved, eventOf, isBad, done, obeyed, meetAt, behindEvent, songFrom, nextFrom, nothing}
+use Rattle.smf.specs.Track.{edgeOf, moved, eventOf, done, obeyed, meetAt, behindEvent, songFrom, nextFrom, nothing}
 use Rattle.smf.specs.Track.Song.{Refused, Events}
 use Rattle.smf.specs.Songs.{turns}
 use Rattle.smf.proofs.QuantitiesLaws.{quantity-behind, quantity-edge}

@@ -5,3 +5,4 @@ pub mod Ticks
 pub mod Track
 pub mod Songs
 pub mod Faults
+pub mod Reading
