@@ -36,6 +36,7 @@ Hands b h (Refused number place) = Unit {0}
 Hands b h (Events []) = h ≡ nothing
 Hands b h (Events (e ∷ es)) = (h .offer ≡ Offer.Given e) × (songFrom (turns b) b (h .cursor) ≡ Events es)
 
+-- a next and the song of as many turns
 hands : (n : ℕ) (b : List ℕ) (c : Cursor) → edgeOf b c < c .at + n → Hands b (nextFrom n b c) (songFrom n b c)
 unfolding songFrom nextFrom
 hands zero b c h = tt
@@ -58,6 +59,7 @@ hands (suc n) b c h = go (λ further. hands n b further) (meetAt b c) refl
         let room = edge-in b further in
         given event further (songFrom n b further) (song-enough (turns b) n b further (omega arith) (omega arith))
 
+-- a next and the song
 hands-next : (b : List ℕ) (c : Cursor) → Hands b (nextOf b c) (songFrom (turns b) b c)
 unfolding nextOf
 hands-next b c = hands (turns b) b c (omega (arith, edge-in b c))
@@ -69,6 +71,7 @@ after : List ℕ → Cursor → ℕ → Cursor
 after b c zero = c
 after b c (suc k) = nextOf b (after b c k) .cursor
 
+-- the first next may be taken off
 after-next : (b : List ℕ) (c : Cursor) (k : ℕ) → after b c (suc k) ≡ after b (nextOf b c .cursor) k
 unfolding after
 after-next b c zero = refl
@@ -79,11 +82,13 @@ over-next : (b : List ℕ) → nextOf b over ≡ nothing
 unfolding nextOf
 over-next b = next-edge b over (min-le-left 0 (length b))
 
+-- and the cursor stays there
 over-after : (b : List ℕ) (k : ℕ) → after b over k ≡ over
 unfolding after
 over-after b zero = refl
 over-after b (suc k) = ap (λ (x : Cursor). nextOf b x .cursor) (over-after b k) ∙ ap (λ (h : Handed). h .cursor) (over-next b)
 
+-- so no event is offered
 over-offers : (b : List ℕ) (k : ℕ) → nextOf b (after b over k) .offer ≡ Offer.End
 over-offers b k = ap (λ (x : Cursor). nextOf b x .offer) (over-after b k) ∙ ap (λ (h : Handed). h .offer) (over-next b)
 
@@ -101,6 +106,7 @@ reads b (x ∷ es) c (suc k) e =
 
 -- ---- from the opening on
 
+-- the cursors of a file
 after-opening : (b : List ℕ) (k : ℕ) → cursorAfter b k ≡ after b (openingOf b .cursor) k
 unfolding cursorAfter after
 after-opening b zero = refl
@@ -130,10 +136,12 @@ reads-all b k = ap (λ (x : Cursor). nextOf b x .offer) (after-opening b k) ∙ 
 
 -- ---- ranges
 
+-- an offer of an event in its ranges
 Fine : Offer → Type 0
 Fine Offer.End = Unit {0}
 Fine (Offer.Given e) = InRange e
 
+-- every offer is one, over any number of turns
 fine : (n : ℕ) (b : List ℕ) (c : Cursor) → Fine (nextFrom n b c .offer)
 unfolding nextFrom Fine
 fine zero b c = tt
@@ -167,15 +175,18 @@ Rising : ℕ → List Event → Type 0
 Rising low [] = Unit {0}
 Rising low (e ∷ es) = (low ≤ e .frame) × Rising (e .frame) es
 
+-- a smaller frame does as well
 rising-down : (low high : ℕ) (es : List Event) → low ≤ high → Rising high es → Rising low es
 unfolding Rising
 rising-down low high [] h r = tt
 rising-down low high (e ∷ es) h r = (le-trans h (r .0), r .1)
 
+-- the same of a song
 RisingSong : ℕ → Song → Type 0
 RisingSong low (Refused number place) = Unit {0}
 RisingSong low (Events es) = Rising low es
 
+-- the song from a cursor on rises from the frame of its U
 song-rises : (n : ℕ) (b : List ℕ) (c : Cursor) → RisingSong (frameAt (c .division) (c .sum)) (songFrom n b c)
 unfolding songFrom Rising RisingSong
 song-rises zero b c = tt
@@ -211,6 +222,7 @@ rising-at low [] k e r h = let z : _≡_ {A = ℕ} 0 1 = cc in absurd (omega ari
 rising-at low (x ∷ es) zero e r h = let same : x .frame ≡ e .frame = cc in omega (arith, r .0)
 rising-at low (x ∷ es) (suc k) e r h = le-trans (r .0) (rising-at (x .frame) es k e (r .1) h)
 
+-- of two events of a rising list the later one is not below the other
 rising-two : (low : ℕ) (es : List Event) (i j : ℕ) (e f : Event) → Rising low es → i ≤ j → eventAt es i ≡ Offer.Given e → eventAt es j ≡ Offer.Given f → e .frame ≤ f .frame
 unfolding Rising
 rising-two low [] i j e f r h p q = let z : _≡_ {A = ℕ} 0 1 = cc in absurd (omega arith)
