@@ -298,26 +298,30 @@ body-low {b} (stuck-at c way s) =
     let k = start-low b (way .at) c (way .way) in
     (omega (arith, stuck-low s .0), stuck-low s .1)
 
--- what follows of each case
+-- what is so of each case, or why it is none
 record Each (b : List ℕ) (P : ℕ → ℕ → Type 0) : Type 0 where
-  no-head : (fourAt b 0 ≡ 1297377380 → ⊥) → P 9 0
-  short-head : fourAt b 4 < 6 → P 9 4
-  long-head : length b < chunkEnd b 0 → P 9 4
-  format : (twoAt b 8 ≡ 0 → ⊥) → P 10 8
-  tracks : (twoAt b 10 ≡ 1 → ⊥) → P 9 10
-  no-division : twoAt b 12 ≡ 0 → P 9 12
-  smpte : 32767 < twoAt b 12 → P 10 12
+  name : P 9 0 ⊎ (fourAt b 0 ≡ 1297377380)
+  size : P 9 4 ⊎ ((6 ≤ fourAt b 4) × (chunkEnd b 0 ≤ length b))
+  format : P 10 8 ⊎ (twoAt b 8 ≡ 0)
+  tracks : P 9 10 ⊎ (twoAt b 10 ≡ 1)
+  some : P 9 12 ⊎ (twoAt b 12 ≡ 0 → ⊥)
+  ticks : P 10 12 ⊎ (twoAt b 12 ≤ 32767)
   body : (n p : ℕ) → Body b n p → P n p
 
--- it follows of whatever is wrong
+-- one of two where the other is not so
+unless : {A B : Type 0} → A ⊎ B → (B → ⊥) → A
+unless (inl a) none = a
+unless (inr b) none = absurd (none b)
+
+-- it is so of whatever is wrong
 each : {b : List ℕ} {P : ℕ → ℕ → Type 0} {n p : ℕ} → Each b P → Wrong b n p → P n p
-each e (Wrong.no-head h) = e .no-head h
-each e (Wrong.short-head h) = e .short-head h
-each e (Wrong.long-head h) = e .long-head h
-each e (Wrong.format h) = e .format h
-each e (Wrong.tracks h) = e .tracks h
-each e (Wrong.no-division h) = e .no-division h
-each e (Wrong.smpte h) = e .smpte h
+each e (Wrong.no-head h) = unless (e .name) h
+each e (Wrong.short-head h) = unless (e .size) (λ g. omega (arith, g .0))
+each e (Wrong.long-head h) = unless (e .size) (λ g. omega (arith, g .1))
+each e (Wrong.format h) = unless (e .format) h
+each e (Wrong.tracks h) = unless (e .tracks) h
+each e (Wrong.no-division h) = unless (e .some) (λ g. g h)
+each e (Wrong.smpte h) = unless (e .ticks) (λ g. omega arith)
 each e (Wrong.no-chunk at looked h) = e .body 9 at (cut at looked h)
 each e (Wrong.long-chunk at looked h k) = e .body 9 (at + 4) (long at looked h k)
 each e (Wrong.delta c r f) = e .body 9 (c .at) (stuck-at c (reached-way r) (no-delta f))
@@ -327,8 +331,7 @@ each e (Wrong.late c ticks place r f g) = e .body 11 place (stuck-at c (reached-
 -- a head with which nothing is wrong
 record Headed (b : List ℕ) : Type 0 where
   name : fourAt b 0 ≡ 1297377380
-  six : 6 ≤ fourAt b 4
-  inside : chunkEnd b 0 ≤ length b
+  size : (6 ≤ fourAt b 4) × (chunkEnd b 0 ≤ length b)
   format : twoAt b 8 ≡ 0
   tracks : twoAt b 10 ≡ 1
   some : twoAt b 12 ≡ 0 → ⊥
@@ -337,16 +340,7 @@ record Headed (b : List ℕ) : Type 0 where
 -- then something can be wrong behind it only
 behind : {b : List ℕ} {P : ℕ → ℕ → Type 0} → Headed b → ((n p : ℕ) → Body b n p → P n p) → Each b P
 behind h body =
-    record {
-      no-head = λ w. absurd (w (h .name));
-      short-head = λ w. absurd (omega (arith, h .six));
-      long-head = λ w. absurd (omega (arith, h .inside));
-      format = λ w. absurd (w (h .format));
-      tracks = λ w. absurd (w (h .tracks));
-      no-division = λ w. absurd (h .some w);
-      smpte = λ w. absurd (omega (arith, h .ticks));
-      body = body;
-    }
+    record { name = inr (h .name); size = inr (h .size); format = inr (h .format); tracks = inr (h .tracks); some = inr (h .some); ticks = inr (h .ticks); body = body }
 
 -- what is so of a song: refused, it is of the first that is wrong; else nothing is
 abbrev Verdict : List ℕ → Song → Type 0
@@ -474,105 +468,27 @@ later b number place h n p w = inl (omega (arith, body-low w .0))
 module _ (b : List ℕ) where
   -- no MThd
   name-first : (fourAt b 0 ≡ 1297377380 → ⊥) → First b 9 0
-  name-first v = record { wrong = Wrong.no-head v; before = λ n p w. each {P = Before 9 0} cases w }
-    where
-      cases : Each b (Before 9 0)
-      cases =
-          record {
-            no-head = λ w. inr (refl, omega arith);
-            short-head = λ w. inl (omega arith);
-            long-head = λ w. inl (omega arith);
-            format = λ w. inl (omega arith);
-            tracks = λ w. inl (omega arith);
-            no-division = λ w. inl (omega arith);
-            smpte = λ w. inl (omega arith);
-            body = later b 9 0 (omega arith);
-          }
+  name-first v = record { wrong = Wrong.no-head v; before = λ n p w. each {P = Before 9 0} (record { name = inl (inr (refl, omega arith)); size = inl (inl (omega arith)); format = inl (inl (omega arith)); tracks = inl (inl (omega arith)); some = inl (inl (omega arith)); ticks = inl (inl (omega arith)); body = later b 9 0 (omega arith) }) w }
 
   -- a length below 6 or past the file
   length-first : fourAt b 0 ≡ 1297377380 → (fourAt b 4 < 6) ⊎ (length b < chunkEnd b 0) → First b 9 4
-  length-first name v = record { wrong = ⊎-elim (λ h. Wrong.short-head h) (λ h. Wrong.long-head h) v; before = λ n p w. each {P = Before 9 4} cases w }
-    where
-      cases : Each b (Before 9 4)
-      cases =
-          record {
-            no-head = λ w. absurd (w name);
-            short-head = λ w. inr (refl, omega arith);
-            long-head = λ w. inr (refl, omega arith);
-            format = λ w. inl (omega arith);
-            tracks = λ w. inl (omega arith);
-            no-division = λ w. inl (omega arith);
-            smpte = λ w. inl (omega arith);
-            body = later b 9 4 (omega arith);
-          }
+  length-first name v = record { wrong = ⊎-elim (λ h. Wrong.short-head h) (λ h. Wrong.long-head h) v; before = λ n p w. each {P = Before 9 4} (record { name = inr name; size = inl (inr (refl, omega arith)); format = inl (inl (omega arith)); tracks = inl (inl (omega arith)); some = inl (inl (omega arith)); ticks = inl (inl (omega arith)); body = later b 9 4 (omega arith) }) w }
 
   -- a format other than 0
-  format-first : fourAt b 0 ≡ 1297377380 → 6 ≤ fourAt b 4 → chunkEnd b 0 ≤ length b → (twoAt b 8 ≡ 0 → ⊥) → First b 10 8
-  format-first name six inside v = record { wrong = Wrong.format v; before = λ n p w. each {P = Before 10 8} cases w }
-    where
-      cases : Each b (Before 10 8)
-      cases =
-          record {
-            no-head = λ w. absurd (w name);
-            short-head = λ w. absurd (omega arith);
-            long-head = λ w. absurd (omega arith);
-            format = λ w. inr (refl, omega arith);
-            tracks = λ w. inl (omega arith);
-            no-division = λ w. inl (omega arith);
-            smpte = λ w. inl (omega arith);
-            body = later b 10 8 (omega arith);
-          }
+  format-first : fourAt b 0 ≡ 1297377380 → ((6 ≤ fourAt b 4) × (chunkEnd b 0 ≤ length b)) → (twoAt b 8 ≡ 0 → ⊥) → First b 10 8
+  format-first name size v = record { wrong = Wrong.format v; before = λ n p w. each {P = Before 10 8} (record { name = inr name; size = inr size; format = inl (inr (refl, omega arith)); tracks = inl (inl (omega arith)); some = inl (inl (omega arith)); ticks = inl (inl (omega arith)); body = later b 10 8 (omega (arith, size .0)) }) w }
 
   -- a number of tracks other than 1
-  tracks-first : fourAt b 0 ≡ 1297377380 → 6 ≤ fourAt b 4 → chunkEnd b 0 ≤ length b → twoAt b 8 ≡ 0 → (twoAt b 10 ≡ 1 → ⊥) → First b 9 10
-  tracks-first name six inside format v = record { wrong = Wrong.tracks v; before = λ n p w. each {P = Before 9 10} cases w }
-    where
-      cases : Each b (Before 9 10)
-      cases =
-          record {
-            no-head = λ w. absurd (w name);
-            short-head = λ w. absurd (omega arith);
-            long-head = λ w. absurd (omega arith);
-            format = λ w. absurd (w format);
-            tracks = λ w. inr (refl, omega arith);
-            no-division = λ w. inl (omega arith);
-            smpte = λ w. inl (omega arith);
-            body = later b 9 10 (omega arith);
-          }
+  tracks-first : fourAt b 0 ≡ 1297377380 → ((6 ≤ fourAt b 4) × (chunkEnd b 0 ≤ length b)) → twoAt b 8 ≡ 0 → (twoAt b 10 ≡ 1 → ⊥) → First b 9 10
+  tracks-first name size format v = record { wrong = Wrong.tracks v; before = λ n p w. each {P = Before 9 10} (record { name = inr name; size = inr size; format = inr format; tracks = inl (inr (refl, omega arith)); some = inl (inl (omega arith)); ticks = inl (inl (omega arith)); body = later b 9 10 (omega (arith, size .0)) }) w }
 
   -- a division of 0
-  division-first : fourAt b 0 ≡ 1297377380 → 6 ≤ fourAt b 4 → chunkEnd b 0 ≤ length b → twoAt b 8 ≡ 0 → twoAt b 10 ≡ 1 → twoAt b 12 ≡ 0 → First b 9 12
-  division-first name six inside format tracks v = record { wrong = Wrong.no-division v; before = λ n p w. each {P = Before 9 12} cases w }
-    where
-      cases : Each b (Before 9 12)
-      cases =
-          record {
-            no-head = λ w. absurd (w name);
-            short-head = λ w. absurd (omega arith);
-            long-head = λ w. absurd (omega arith);
-            format = λ w. absurd (w format);
-            tracks = λ w. absurd (w tracks);
-            no-division = λ w. inr (refl, omega arith);
-            smpte = λ w. inr (refl, omega arith);
-            body = later b 9 12 (omega arith);
-          }
+  division-first : fourAt b 0 ≡ 1297377380 → ((6 ≤ fourAt b 4) × (chunkEnd b 0 ≤ length b)) → twoAt b 8 ≡ 0 → twoAt b 10 ≡ 1 → twoAt b 12 ≡ 0 → First b 9 12
+  division-first name size format tracks v = record { wrong = Wrong.no-division v; before = λ n p w. each {P = Before 9 12} (record { name = inr name; size = inr size; format = inr format; tracks = inr tracks; some = inl (inr (refl, omega arith)); ticks = inl (inr (refl, omega arith)); body = later b 9 12 (omega (arith, size .0)) }) w }
 
   -- a division in SMPTE frames
-  smpte-first : fourAt b 0 ≡ 1297377380 → 6 ≤ fourAt b 4 → chunkEnd b 0 ≤ length b → twoAt b 8 ≡ 0 → twoAt b 10 ≡ 1 → (twoAt b 12 ≡ 0 → ⊥) → 32767 < twoAt b 12 → First b 10 12
-  smpte-first name six inside format tracks some v = record { wrong = Wrong.smpte v; before = λ n p w. each {P = Before 10 12} cases w }
-    where
-      cases : Each b (Before 10 12)
-      cases =
-          record {
-            no-head = λ w. absurd (w name);
-            short-head = λ w. absurd (omega arith);
-            long-head = λ w. absurd (omega arith);
-            format = λ w. absurd (w format);
-            tracks = λ w. absurd (w tracks);
-            no-division = λ w. absurd (some w);
-            smpte = λ w. inr (refl, omega arith);
-            body = later b 10 12 (omega arith);
-          }
+  smpte-first : fourAt b 0 ≡ 1297377380 → ((6 ≤ fourAt b 4) × (chunkEnd b 0 ≤ length b)) → twoAt b 8 ≡ 0 → twoAt b 10 ≡ 1 → (twoAt b 12 ≡ 0 → ⊥) → 32767 < twoAt b 12 → First b 10 12
+  smpte-first name size format tracks some v = record { wrong = Wrong.smpte v; before = λ n p w. each {P = Before 10 12} (record { name = inr name; size = inr size; format = inr format; tracks = inr tracks; some = inr some; ticks = inl (inr (refl, omega arith)); body = later b 10 12 (omega (arith, size .0)) }) w }
 
   -- of two tests one holds
   some-holds : (s t : Bool) → (s || t) ≡ true → (s ≡ true) ⊎ (t ≡ true)
@@ -588,17 +504,16 @@ module _ (b : List ℕ) where
       either (Told b) (ltb (fourAt b 4) 6 || ltb (length b) (chunkEnd b 0)) _ _
       (λ f. length-first name (⊎-elim (λ g. inl (ltb-true (fourAt b 4) 6 g)) (λ g. inr (ltb-true (length b) (chunkEnd b 0) g)) (some-holds (ltb (fourAt b 4) 6) (ltb (length b) (chunkEnd b 0)) f)))
       (λ f. let g = neither (ltb (fourAt b 4) 6) (ltb (length b) (chunkEnd b 0)) f in
-      let six = ltb-false (fourAt b 4) 6 (g .0) in
-      let inside = ltb-false (length b) (chunkEnd b 0) (g .1) in
-      either (Told b) (not (eqb (twoAt b 8) 0)) _ _ (λ h. format-first name six inside (eqb-false (twoAt b 8) 0 (not-true (eqb (twoAt b 8) 0) h)))
+      let size : (6 ≤ fourAt b 4) × (chunkEnd b 0 ≤ length b) = (ltb-false (fourAt b 4) 6 (g .0), ltb-false (length b) (chunkEnd b 0) (g .1)) in
+      either (Told b) (not (eqb (twoAt b 8) 0)) _ _ (λ h. format-first name size (eqb-false (twoAt b 8) 0 (not-true (eqb (twoAt b 8) 0) h)))
       (λ h. let format = eqb-true (twoAt b 8) 0 (not-false (eqb (twoAt b 8) 0) h) in
-      either (Told b) (not (eqb (twoAt b 10) 1)) _ _ (λ k. tracks-first name six inside format (eqb-false (twoAt b 10) 1 (not-true (eqb (twoAt b 10) 1) k)))
+      either (Told b) (not (eqb (twoAt b 10) 1)) _ _ (λ k. tracks-first name size format (eqb-false (twoAt b 10) 1 (not-true (eqb (twoAt b 10) 1) k)))
       (λ k. let tracks = eqb-true (twoAt b 10) 1 (not-false (eqb (twoAt b 10) 1) k) in
-      either (Told b) (eqb (twoAt b 12) 0) _ _ (λ l. division-first name six inside format tracks (eqb-true (twoAt b 12) 0 l))
+      either (Told b) (eqb (twoAt b 12) 0) _ _ (λ l. division-first name size format tracks (eqb-true (twoAt b 12) 0 l))
       (λ l. let some = eqb-false (twoAt b 12) 0 l in
-      either (Told b) (ltb 32767 (twoAt b 12)) _ _ (λ m. smpte-first name six inside format tracks some (ltb-true 32767 (twoAt b 12) m))
+      either (Told b) (ltb 32767 (twoAt b 12)) _ _ (λ m. smpte-first name size format tracks some (ltb-true 32767 (twoAt b 12) m))
       (λ m. chunks-verdict b
-      (record { name = name; six = six; inside = inside; format = format; tracks = tracks; some = some; ticks = ltb-false 32767 (twoAt b 12) m })
+      (record { name = name; size = size; format = format; tracks = tracks; some = some; ticks = ltb-false 32767 (twoAt b 12) m })
       (length b) (chunkEnd b 0) behind-head (omega arith)))))))
 
 -- ---- the file
