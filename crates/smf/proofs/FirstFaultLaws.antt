@@ -30,7 +30,7 @@ use Rattle.smf.specs.Faults.Chunked.{behind-head, behind-other}
 use Rattle.smf.specs.Faults.Reached.{begins, behind-passed, behind-given}
 use Rattle.smf.proofs.QuantitiesLaws.{quantity-behind, quantity-edge}
 use Rattle.smf.proofs.ItemsLaws.{either, neither}
-use Rattle.smf.proofs.TrackLaws.{Further, meet-passed, meet-given, further-edge, edge-in}
+use Rattle.smf.proofs.TrackLaws.{meet-passed, meet-given, further-edge, edge-in}
 
 -- ---- steps of which each has one outcome: of two places on the way one leads to the other
 
@@ -69,12 +69,15 @@ record Other (b : List ℕ) (at : ℕ) : Type 0 where
   whole : Whole b at
   name : fourAt b at ≡ 1297379947 → ⊥
 
+-- from a chunk that is stepped over to the place behind it
 abbrev Hop : List ℕ → ℕ → ℕ → Type 0
 Hop b at next = Other b at × (chunkEnd b at ≡ next)
 
+-- there is one such place
 hop-one : (b : List ℕ) (x y z : ℕ) → Hop b x y → Hop b x z → y ≡ z
 hop-one b x y z h k = sym (h .1) ∙ k .1
 
+-- the chunks that are looked for are those on the way from the head on
 chunk-way : {b : List ℕ} {at : ℕ} → Chunked b at → Along (Hop b) (chunkEnd b 0) at
 chunk-way behind-head = here
 chunk-way {b} (behind-other at looked whole name) = on at (chunkEnd b at) (chunk-way looked) (record { whole = whole; name = name }, refl)
@@ -93,17 +96,21 @@ chunk-same {b} h k stop halt = same (hop-one b) (chunk-way h) (chunk-way k) (λ 
 cut-stops : (b : List ℕ) (at : ℕ) → length b < at + 4 → Other b at → ⊥
 cut-stops b at h o = omega (arith, o .whole .name-in)
 
+-- a chunk that goes past the file is not stepped over
 long-stops : (b : List ℕ) (at : ℕ) → length b < chunkEnd b at → Other b at → ⊥
 long-stops b at h o = omega (arith, o .whole .body-in)
 
+-- nor is the track
 track-stops : (b : List ℕ) (at : ℕ) → Tracked b at → Other b at → ⊥
 track-stops b at t o = o .name (t .name)
 
 -- ---- cursors: each event that is met leads to one other
 
+-- from a cursor to the one behind the event that is met there
 abbrev Go : List ℕ → Cursor → Cursor → Type 0
 Go b c further = (meetAt b c ≡ Passed further) ⊎ ((event : Event) × (meetAt b c ≡ Given event further))
 
+-- there is one such cursor
 go-one : (b : List ℕ) (x y z : Cursor) → Go b x y → Go b x z → y ≡ z
 go-one b x y z (inl e) (inl f) = cc
 go-one b x y z (inl e) (inr f) = let g = f .1 in let z : _≡_ {A = ℕ} 0 1 = cc in absurd (omega arith)
@@ -120,6 +127,7 @@ record Way (b : List ℕ) (c : Cursor) : Type 0 where
   track : Tracked b at
   way : Along (Go b) (startOf b at) c
 
+-- each cursor that is reached is on the way from where the track begins
 reached-way : {b : List ℕ} {c : Cursor} → Reached b c → Way b c
 reached-way (begins at track) = record { at = at; track = track; way = here }
 reached-way (behind-passed c further r e) = let w = reached-way r in record { at = w .at; track = w .track; way = on c further (w .way) (inl e) }
@@ -133,16 +141,19 @@ way-low b (on c further way (inr e)) = omega (arith, way-low b way, meet-given b
 
 -- ---- what can be wrong at a cursor
 
+-- the three cases, without how the cursor is reached
 data Stuck (b : List ℕ) (c : Cursor) : ℕ → ℕ → Type 0 where
   no-delta : quantityAt b (edgeOf b c) (c .at) ≡ Bad → Stuck b c 9 (c .at)
   bad-event : (ticks place : ℕ) → DeltaAt b c ticks place → itemAt b (edgeOf b c) (c .running) place ≡ Item.Bad → Stuck b c 9 place
   too-late : (ticks place : ℕ) → DeltaAt b c ticks place → 3600000000 * c .division < sumAfter c ticks → Stuck b c 11 place
 
+-- at a cursor that is reached each of them is wrong with the file
 stuck-wrong : {b : List ℕ} {c : Cursor} {n p : ℕ} → Reached b c → Stuck b c n p → Wrong b n p
 stuck-wrong {c = c} r (no-delta e) = Wrong.delta c r e
 stuck-wrong {c = c} r (bad-event ticks place e f) = Wrong.event c ticks place r e f
 stuck-wrong {c = c} r (too-late ticks place e f) = Wrong.late c ticks place r e f
 
+-- none of them lies in front of the cursor
 stuck-low : {b : List ℕ} {c : Cursor} {n p : ℕ} → Stuck b c n p → (c .at ≤ p) × (9 ≤ n)
 stuck-low (no-delta e) = (omega arith, omega arith)
 stuck-low {b} {c} (bad-event ticks place e f) = (omega (arith, quantity-behind b (edgeOf b c) (c .at) ticks place e .0), omega arith)
@@ -155,6 +166,7 @@ Faulty End = ⊥
 Faulty (Passed further) = ⊥
 Faulty (Given event further) = ⊥
 
+-- an event past an hour is a fault, by one number or the other
 late-faulty : (item : Item) (c : Cursor) (sum place : ℕ) → 3600000000 * c .division < sum → Faulty (obeyed item c sum place)
 unfolding obeyed
 late-faulty item c sum place h = rw (lt-ltb (3600000000 * c .division) sum h) (go (isBad item))
@@ -163,16 +175,19 @@ late-faulty item c sum place h = rw (lt-ltb (3600000000 * c .division) sum h) (g
     go true = tt
     go false = tt
 
+-- where one of the three is the case a fault is met
 stuck-faulty : {b : List ℕ} {c : Cursor} {n p : ℕ} → Stuck b c n p → Faulty (meetAt b c)
 unfolding meetAt obeyed
 stuck-faulty (no-delta e) = rw (e, meetAt) tt
 stuck-faulty (bad-event ticks place e f) = rw (e, f, meetAt) tt
 stuck-faulty {b} {c} (too-late ticks place e f) = rw (e, meetAt) (late-faulty (itemAt b (edgeOf b c) (c .running) place) c (sumAfter c ticks) place f)
 
+-- so no cursor comes behind it
 stuck-stops : {b : List ℕ} {c : Cursor} {n p : ℕ} → Stuck b c n p → (further : Cursor) → Go b c further → ⊥
 stuck-stops s further (inl e) = subst Faulty e (stuck-faulty s)
 stuck-stops s further (inr e) = subst Faulty (e .1) (stuck-faulty s)
 
+-- and it is no end of track
 stuck-ends : {b : List ℕ} {c : Cursor} {n p : ℕ} → Stuck b c n p → meetAt b c ≡ End → ⊥
 stuck-ends s e = subst Faulty e (stuck-faulty s)
 
@@ -185,19 +200,23 @@ record Least (b : List ℕ) (c : Cursor) (number place : ℕ) : Type 0 where
   stuck : Stuck b c number place
   before : (n p : ℕ) → Stuck b c n p → Before number place n p
 
+-- a fault that is met is the first at its cursor; of all else nothing is said
 abbrev LeastMet : List ℕ → Cursor → Met → Type 0
 LeastMet b c (Fault number place) = Least b c number place
 LeastMet b c End = Unit {0}
 LeastMet b c (Passed further) = Unit {0}
 LeastMet b c (Given event further) = Unit {0}
 
+-- a quantity that is bad is not good
 bad-not-good : (q : Quantity) (ticks place : ℕ) → q ≡ Bad → q ≡ Good ticks place → ⊥
 bad-not-good q ticks place e f = let z : _≡_ {A = ℕ} 0 1 = cc in omega arith
 
+-- a good quantity ends at one place
 good-places : (q : Quantity) (ticks place t p : ℕ) → q ≡ Good ticks place → q ≡ Good t p → place ≡ p
 good-places q ticks place t p e f = cc
 
 module _ (b : List ℕ) (c : Cursor) where
+  -- a bad delta time is all that is wrong
   no-delta-first : quantityAt b (edgeOf b c) (c .at) ≡ Bad → Least b c 9 (c .at)
   no-delta-first e = record { stuck = no-delta e; before = go }
     where
@@ -207,6 +226,7 @@ module _ (b : List ℕ) (c : Cursor) where
       go n p (too-late ticks place f g) = absurd (bad-not-good (quantityAt b (edgeOf b c) (c .at)) ticks place e f)
 
   module _ (ticks place : ℕ) (e : DeltaAt b c ticks place) where
+    -- an event that is not well formed goes before one past an hour
     bad-event-first : itemAt b (edgeOf b c) (c .running) place ≡ Item.Bad → Least b c 9 place
     bad-event-first bad = record { stuck = bad-event ticks place e bad; before = go }
       where
@@ -215,6 +235,7 @@ module _ (b : List ℕ) (c : Cursor) where
         go n p (bad-event t k f g) = inr (good-places (quantityAt b (edgeOf b c) (c .at)) ticks place t k e f, omega arith)
         go n p (too-late t k f g) = inr (good-places (quantityAt b (edgeOf b c) (c .at)) ticks place t k e f, omega arith)
 
+    -- an event past an hour comes first where it is well formed
     too-late-first : (itemAt b (edgeOf b c) (c .running) place ≡ Item.Bad → ⊥) → 3600000000 * c .division < sumAfter c ticks → Least b c 11 place
     too-late-first good h = record { stuck = too-late ticks place e h; before = go }
       where
@@ -225,6 +246,7 @@ module _ (b : List ℕ) (c : Cursor) where
             absurd (good (subst (λ (x : ℕ). itemAt b (edgeOf b c) (c .running) x ≡ Item.Bad) (sym here') g))
         go n p (too-late t k f g) = inr (good-places (quantityAt b (edgeOf b c) (c .at)) ticks place t k e f, omega arith)
 
+    -- the test of the hour
     tardy : (x : Met) → (itemAt b (edgeOf b c) (c .running) place ≡ Item.Bad → ⊥) → LeastMet b c x → LeastMet b c (cond (isLate (c .division) (sumAfter c ticks)) (Fault 11 place) x)
     tardy x good l = go (isLate (c .division) (sumAfter c ticks)) refl
       where
@@ -232,6 +254,7 @@ module _ (b : List ℕ) (c : Cursor) where
         go true f = too-late-first good (ltb-true (3600000000 * c .division) (sumAfter c ticks) f)
         go false f = l
 
+    -- each kind of event
     least-obeyed : (item : Item) → itemAt b (edgeOf b c) (c .running) place ≡ item → LeastMet b c (obeyed item c (sumAfter c ticks) place)
     unfolding obeyed done
     least-obeyed Item.Bad f = bad-event-first f
@@ -249,6 +272,7 @@ module _ (b : List ℕ) (c : Cursor) where
       go Bad e = no-delta-first e
       go (Good ticks place) e = least-obeyed ticks place e (itemAt b (edgeOf b c) (c .running) place) refl
 
+  -- the same of a fault that is given
   least-fault : (number place : ℕ) → meetAt b c ≡ Fault number place → Least b c number place
   least-fault number place e = subst (λ (m : Met). LeastMet b c m) e least-met
 
@@ -274,25 +298,30 @@ body-low {b} (stuck-at c way s) =
     let k = start-low b (way .at) c (way .way) in
     (omega (arith, stuck-low s .0), stuck-low s .1)
 
--- what follows of each case
+-- what is so of each case, or why it is none
 record Each (b : List ℕ) (P : ℕ → ℕ → Type 0) : Type 0 where
-  no-head : (fourAt b 0 ≡ 1297377380 → ⊥) → P 9 0
-  short-head : fourAt b 4 < 6 → P 9 4
-  long-head : length b < chunkEnd b 0 → P 9 4
-  format : (twoAt b 8 ≡ 0 → ⊥) → P 10 8
-  tracks : (twoAt b 10 ≡ 1 → ⊥) → P 9 10
-  no-division : twoAt b 12 ≡ 0 → P 9 12
-  smpte : 32767 < twoAt b 12 → P 10 12
+  name : P 9 0 ⊎ (fourAt b 0 ≡ 1297377380)
+  size : P 9 4 ⊎ ((6 ≤ fourAt b 4) × (chunkEnd b 0 ≤ length b))
+  format : P 10 8 ⊎ (twoAt b 8 ≡ 0)
+  tracks : P 9 10 ⊎ (twoAt b 10 ≡ 1)
+  some : P 9 12 ⊎ (twoAt b 12 ≡ 0 → ⊥)
+  ticks : P 10 12 ⊎ (twoAt b 12 ≤ 32767)
   body : (n p : ℕ) → Body b n p → P n p
 
+-- one of two where the other is not so
+unless : {A B : Type 0} → A ⊎ B → (B → ⊥) → A
+unless (inl a) none = a
+unless (inr b) none = absurd (none b)
+
+-- it is so of whatever is wrong
 each : {b : List ℕ} {P : ℕ → ℕ → Type 0} {n p : ℕ} → Each b P → Wrong b n p → P n p
-each e (Wrong.no-head h) = e .no-head h
-each e (Wrong.short-head h) = e .short-head h
-each e (Wrong.long-head h) = e .long-head h
-each e (Wrong.format h) = e .format h
-each e (Wrong.tracks h) = e .tracks h
-each e (Wrong.no-division h) = e .no-division h
-each e (Wrong.smpte h) = e .smpte h
+each e (Wrong.no-head h) = unless (e .name) h
+each e (Wrong.short-head h) = unless (e .size) (λ g. omega (arith, g .0))
+each e (Wrong.long-head h) = unless (e .size) (λ g. omega (arith, g .1))
+each e (Wrong.format h) = unless (e .format) h
+each e (Wrong.tracks h) = unless (e .tracks) h
+each e (Wrong.no-division h) = unless (e .some) (λ g. g h)
+each e (Wrong.smpte h) = unless (e .ticks) (λ g. omega arith)
 each e (Wrong.no-chunk at looked h) = e .body 9 at (cut at looked h)
 each e (Wrong.long-chunk at looked h k) = e .body 9 (at + 4) (long at looked h k)
 each e (Wrong.delta c r f) = e .body 9 (c .at) (stuck-at c (reached-way r) (no-delta f))
@@ -302,8 +331,7 @@ each e (Wrong.late c ticks place r f g) = e .body 11 place (stuck-at c (reached-
 -- a head with which nothing is wrong
 record Headed (b : List ℕ) : Type 0 where
   name : fourAt b 0 ≡ 1297377380
-  six : 6 ≤ fourAt b 4
-  inside : chunkEnd b 0 ≤ length b
+  size : (6 ≤ fourAt b 4) × (chunkEnd b 0 ≤ length b)
   format : twoAt b 8 ≡ 0
   tracks : twoAt b 10 ≡ 1
   some : twoAt b 12 ≡ 0 → ⊥
@@ -312,22 +340,14 @@ record Headed (b : List ℕ) : Type 0 where
 -- then something can be wrong behind it only
 behind : {b : List ℕ} {P : ℕ → ℕ → Type 0} → Headed b → ((n p : ℕ) → Body b n p → P n p) → Each b P
 behind h body =
-    record {
-      no-head = λ w. absurd (w (h .name));
-      short-head = λ w. absurd (omega (arith, h .six));
-      long-head = λ w. absurd (omega (arith, h .inside));
-      format = λ w. absurd (w (h .format));
-      tracks = λ w. absurd (w (h .tracks));
-      no-division = λ w. absurd (h .some w);
-      smpte = λ w. absurd (omega (arith, h .ticks));
-      body = body;
-    }
+    record { name = inr (h .name); size = inr (h .size); format = inr (h .format); tracks = inr (h .tracks); some = inr (h .some); ticks = inr (h .ticks); body = body }
 
 -- what is so of a song: refused, it is of the first that is wrong; else nothing is
 abbrev Verdict : List ℕ → Song → Type 0
 Verdict b (Refused number place) = First b number place
 Verdict b (Events es) = (number place : ℕ) → Wrong b number place → ⊥
 
+-- an event in front changes none of that
 behind-verdict : (b : List ℕ) (e : Event) (s : Song) → Verdict b s → Verdict b (behindEvent e s)
 behind-verdict b e (Refused number place) v = v
 behind-verdict b e (Events es) v = v
@@ -353,6 +373,7 @@ module _ (b : List ℕ) (good : Headed b) (at : ℕ) (track : Tracked b at) wher
         let t = in-track w in
         subst (λ (x : Cursor). Stuck b x n p) (same (go-one b) (t .1) way (stuck-stops (t .2)) stop) (t .2)
 
+    -- the first that is wrong there is the first of the file
     stuck-first : {n p : ℕ} → Least b c n p → First b n p
     stuck-first l =
         record {
@@ -360,6 +381,7 @@ module _ (b : List ℕ) (good : Headed b) (at : ℕ) (track : Tracked b at) wher
           before = λ m q w. each (behind good (λ m q x. l .before m q (at-stop (stuck-stops (l .stuck)) x))) w;
         }
 
+    -- where the track ends nothing is wrong
     ended : meetAt b c ≡ End → (n p : ℕ) → Wrong b n p → ⊥
     ended e n p w = each (behind good (λ n p x. stuck-ends (at-stop stops x) e)) w
       where
@@ -367,6 +389,7 @@ module _ (b : List ℕ) (good : Headed b) (at : ℕ) (track : Tracked b at) wher
         stops further (inl f) = let z : _≡_ {A = ℕ} 0 1 = cc in omega arith
         stops further (inr f) = let g = f .1 in let z : _≡_ {A = ℕ} 0 1 = cc in omega arith
 
+  -- the song of the track, event by event
   song-verdict : (n : ℕ) (c : Cursor) → Reached b c → Along (Go b) (startOf b at) c → edgeOf b c < c .at + n → Verdict b (songFrom n b c)
   unfolding songFrom
   song-verdict zero c r w h = stuck-first c r w (no-delta-first b c (quantity-edge b (edgeOf b c) (c .at) (omega arith)))
@@ -386,6 +409,7 @@ module _ (b : List ℕ) (good : Headed b) (at : ℕ) (track : Tracked b at) wher
 
 -- ---- the chunks
 module _ (b : List ℕ) (good : Headed b) where
+  -- a name that is cut off is the first
   cut-first : (x : ℕ) → Chunked b x → length b < x + 4 → First b 9 x
   cut-first x looked h = record { wrong = Wrong.no-chunk x looked h; before = λ n p w. each (behind good (λ n p v. only v)) w }
     where
@@ -398,6 +422,7 @@ module _ (b : List ℕ) (good : Headed b) where
           let at-one : way .at ≡ x = chunk-same (way .track .looked) looked (track-stops b (way .at) (way .track)) (cut-stops b x h) in
           absurd (omega (arith, way .track .whole .name-in))
 
+  -- a chunk that goes past the file is the first
   long-first : (x : ℕ) → Chunked b x → x + 4 ≤ length b → length b < chunkEnd b x → First b 9 (x + 4)
   long-first x looked h k = record { wrong = Wrong.long-chunk x looked h k; before = λ n p w. each (behind good (λ n p v. only v)) w }
     where
@@ -415,13 +440,16 @@ abbrev songOf : List ℕ → Header → Song
 songOf b (Header.Refused number place) = Refused number place
 songOf b (Track at end) = songFrom (turns b) b (startAt b at end)
 
+-- what is so of the song that a head leads to
 abbrev Told : List ℕ → Header → Type 0
 Told b h = Verdict b (songOf b h)
 
 module _ (b : List ℕ) (good : Headed b) where
+  -- the song of the track from its beginning on
   begun : (x : ℕ) → Tracked b x → Told b (Track (x + 8) (chunkEnd b x))
   begun x t = song-verdict b good x t (turns b) (startOf b x) (begins x t) here (omega (arith, edge-in b (startOf b x)))
 
+  -- the chunks, one after the other
   chunks-verdict : (n x : ℕ) → Chunked b x → length b < x + n → Told b (trackFrom n b x)
   unfolding trackFrom chunkEnd
   chunks-verdict zero x looked h = cut-first b good x looked (omega arith)
@@ -438,106 +466,36 @@ later : (b : List ℕ) (number place : ℕ) → place < 8 + fourAt b 4 → (n p 
 later b number place h n p w = inl (omega (arith, body-low w .0))
 
 module _ (b : List ℕ) where
+  -- no MThd
   name-first : (fourAt b 0 ≡ 1297377380 → ⊥) → First b 9 0
-  name-first v = record { wrong = Wrong.no-head v; before = λ n p w. each {P = Before 9 0} cases w }
-    where
-      cases : Each b (Before 9 0)
-      cases =
-          record {
-            no-head = λ w. inr (refl, omega arith);
-            short-head = λ w. inl (omega arith);
-            long-head = λ w. inl (omega arith);
-            format = λ w. inl (omega arith);
-            tracks = λ w. inl (omega arith);
-            no-division = λ w. inl (omega arith);
-            smpte = λ w. inl (omega arith);
-            body = later b 9 0 (omega arith);
-          }
+  name-first v = record { wrong = Wrong.no-head v; before = λ n p w. each {P = Before 9 0} (record { name = inl (inr (refl, omega arith)); size = inl (inl (omega arith)); format = inl (inl (omega arith)); tracks = inl (inl (omega arith)); some = inl (inl (omega arith)); ticks = inl (inl (omega arith)); body = later b 9 0 (omega arith) }) w }
 
+  -- a length below 6 or past the file
   length-first : fourAt b 0 ≡ 1297377380 → (fourAt b 4 < 6) ⊎ (length b < chunkEnd b 0) → First b 9 4
-  length-first name v = record { wrong = ⊎-elim (λ h. Wrong.short-head h) (λ h. Wrong.long-head h) v; before = λ n p w. each {P = Before 9 4} cases w }
-    where
-      cases : Each b (Before 9 4)
-      cases =
-          record {
-            no-head = λ w. absurd (w name);
-            short-head = λ w. inr (refl, omega arith);
-            long-head = λ w. inr (refl, omega arith);
-            format = λ w. inl (omega arith);
-            tracks = λ w. inl (omega arith);
-            no-division = λ w. inl (omega arith);
-            smpte = λ w. inl (omega arith);
-            body = later b 9 4 (omega arith);
-          }
+  length-first name v = record { wrong = ⊎-elim (λ h. Wrong.short-head h) (λ h. Wrong.long-head h) v; before = λ n p w. each {P = Before 9 4} (record { name = inr name; size = inl (inr (refl, omega arith)); format = inl (inl (omega arith)); tracks = inl (inl (omega arith)); some = inl (inl (omega arith)); ticks = inl (inl (omega arith)); body = later b 9 4 (omega arith) }) w }
 
-  format-first : fourAt b 0 ≡ 1297377380 → 6 ≤ fourAt b 4 → chunkEnd b 0 ≤ length b → (twoAt b 8 ≡ 0 → ⊥) → First b 10 8
-  format-first name six inside v = record { wrong = Wrong.format v; before = λ n p w. each {P = Before 10 8} cases w }
-    where
-      cases : Each b (Before 10 8)
-      cases =
-          record {
-            no-head = λ w. absurd (w name);
-            short-head = λ w. absurd (omega arith);
-            long-head = λ w. absurd (omega arith);
-            format = λ w. inr (refl, omega arith);
-            tracks = λ w. inl (omega arith);
-            no-division = λ w. inl (omega arith);
-            smpte = λ w. inl (omega arith);
-            body = later b 10 8 (omega arith);
-          }
+  -- a format other than 0
+  format-first : fourAt b 0 ≡ 1297377380 → ((6 ≤ fourAt b 4) × (chunkEnd b 0 ≤ length b)) → (twoAt b 8 ≡ 0 → ⊥) → First b 10 8
+  format-first name size v = record { wrong = Wrong.format v; before = λ n p w. each {P = Before 10 8} (record { name = inr name; size = inr size; format = inl (inr (refl, omega arith)); tracks = inl (inl (omega arith)); some = inl (inl (omega arith)); ticks = inl (inl (omega arith)); body = later b 10 8 (omega (arith, size .0)) }) w }
 
-  tracks-first : fourAt b 0 ≡ 1297377380 → 6 ≤ fourAt b 4 → chunkEnd b 0 ≤ length b → twoAt b 8 ≡ 0 → (twoAt b 10 ≡ 1 → ⊥) → First b 9 10
-  tracks-first name six inside format v = record { wrong = Wrong.tracks v; before = λ n p w. each {P = Before 9 10} cases w }
-    where
-      cases : Each b (Before 9 10)
-      cases =
-          record {
-            no-head = λ w. absurd (w name);
-            short-head = λ w. absurd (omega arith);
-            long-head = λ w. absurd (omega arith);
-            format = λ w. absurd (w format);
-            tracks = λ w. inr (refl, omega arith);
-            no-division = λ w. inl (omega arith);
-            smpte = λ w. inl (omega arith);
-            body = later b 9 10 (omega arith);
-          }
+  -- a number of tracks other than 1
+  tracks-first : fourAt b 0 ≡ 1297377380 → ((6 ≤ fourAt b 4) × (chunkEnd b 0 ≤ length b)) → twoAt b 8 ≡ 0 → (twoAt b 10 ≡ 1 → ⊥) → First b 9 10
+  tracks-first name size format v = record { wrong = Wrong.tracks v; before = λ n p w. each {P = Before 9 10} (record { name = inr name; size = inr size; format = inr format; tracks = inl (inr (refl, omega arith)); some = inl (inl (omega arith)); ticks = inl (inl (omega arith)); body = later b 9 10 (omega (arith, size .0)) }) w }
 
-  division-first : fourAt b 0 ≡ 1297377380 → 6 ≤ fourAt b 4 → chunkEnd b 0 ≤ length b → twoAt b 8 ≡ 0 → twoAt b 10 ≡ 1 → twoAt b 12 ≡ 0 → First b 9 12
-  division-first name six inside format tracks v = record { wrong = Wrong.no-division v; before = λ n p w. each {P = Before 9 12} cases w }
-    where
-      cases : Each b (Before 9 12)
-      cases =
-          record {
-            no-head = λ w. absurd (w name);
-            short-head = λ w. absurd (omega arith);
-            long-head = λ w. absurd (omega arith);
-            format = λ w. absurd (w format);
-            tracks = λ w. absurd (w tracks);
-            no-division = λ w. inr (refl, omega arith);
-            smpte = λ w. inr (refl, omega arith);
-            body = later b 9 12 (omega arith);
-          }
+  -- a division of 0
+  division-first : fourAt b 0 ≡ 1297377380 → ((6 ≤ fourAt b 4) × (chunkEnd b 0 ≤ length b)) → twoAt b 8 ≡ 0 → twoAt b 10 ≡ 1 → twoAt b 12 ≡ 0 → First b 9 12
+  division-first name size format tracks v = record { wrong = Wrong.no-division v; before = λ n p w. each {P = Before 9 12} (record { name = inr name; size = inr size; format = inr format; tracks = inr tracks; some = inl (inr (refl, omega arith)); ticks = inl (inr (refl, omega arith)); body = later b 9 12 (omega (arith, size .0)) }) w }
 
-  smpte-first : fourAt b 0 ≡ 1297377380 → 6 ≤ fourAt b 4 → chunkEnd b 0 ≤ length b → twoAt b 8 ≡ 0 → twoAt b 10 ≡ 1 → (twoAt b 12 ≡ 0 → ⊥) → 32767 < twoAt b 12 → First b 10 12
-  smpte-first name six inside format tracks some v = record { wrong = Wrong.smpte v; before = λ n p w. each {P = Before 10 12} cases w }
-    where
-      cases : Each b (Before 10 12)
-      cases =
-          record {
-            no-head = λ w. absurd (w name);
-            short-head = λ w. absurd (omega arith);
-            long-head = λ w. absurd (omega arith);
-            format = λ w. absurd (w format);
-            tracks = λ w. absurd (w tracks);
-            no-division = λ w. absurd (some w);
-            smpte = λ w. inr (refl, omega arith);
-            body = later b 10 12 (omega arith);
-          }
+  -- a division in SMPTE frames
+  smpte-first : fourAt b 0 ≡ 1297377380 → ((6 ≤ fourAt b 4) × (chunkEnd b 0 ≤ length b)) → twoAt b 8 ≡ 0 → twoAt b 10 ≡ 1 → (twoAt b 12 ≡ 0 → ⊥) → 32767 < twoAt b 12 → First b 10 12
+  smpte-first name size format tracks some v = record { wrong = Wrong.smpte v; before = λ n p w. each {P = Before 10 12} (record { name = inr name; size = inr size; format = inr format; tracks = inr tracks; some = inr some; ticks = inl (inr (refl, omega arith)); body = later b 10 12 (omega (arith, size .0)) }) w }
 
+  -- of two tests one holds
   some-holds : (s t : Bool) → (s || t) ≡ true → (s ≡ true) ⊎ (t ≡ true)
   some-holds true t e = inl refl
   some-holds false t e = inr e
 
+  -- the head, test by test
   head-verdict : Told b (headOf b)
   unfolding headOf chunkEnd
   head-verdict =
@@ -546,20 +504,21 @@ module _ (b : List ℕ) where
       either (Told b) (ltb (fourAt b 4) 6 || ltb (length b) (chunkEnd b 0)) _ _
       (λ f. length-first name (⊎-elim (λ g. inl (ltb-true (fourAt b 4) 6 g)) (λ g. inr (ltb-true (length b) (chunkEnd b 0) g)) (some-holds (ltb (fourAt b 4) 6) (ltb (length b) (chunkEnd b 0)) f)))
       (λ f. let g = neither (ltb (fourAt b 4) 6) (ltb (length b) (chunkEnd b 0)) f in
-      let six = ltb-false (fourAt b 4) 6 (g .0) in
-      let inside = ltb-false (length b) (chunkEnd b 0) (g .1) in
-      either (Told b) (not (eqb (twoAt b 8) 0)) _ _ (λ h. format-first name six inside (eqb-false (twoAt b 8) 0 (not-true (eqb (twoAt b 8) 0) h)))
+      let size : (6 ≤ fourAt b 4) × (chunkEnd b 0 ≤ length b) = (ltb-false (fourAt b 4) 6 (g .0), ltb-false (length b) (chunkEnd b 0) (g .1)) in
+      either (Told b) (not (eqb (twoAt b 8) 0)) _ _ (λ h. format-first name size (eqb-false (twoAt b 8) 0 (not-true (eqb (twoAt b 8) 0) h)))
       (λ h. let format = eqb-true (twoAt b 8) 0 (not-false (eqb (twoAt b 8) 0) h) in
-      either (Told b) (not (eqb (twoAt b 10) 1)) _ _ (λ k. tracks-first name six inside format (eqb-false (twoAt b 10) 1 (not-true (eqb (twoAt b 10) 1) k)))
+      either (Told b) (not (eqb (twoAt b 10) 1)) _ _ (λ k. tracks-first name size format (eqb-false (twoAt b 10) 1 (not-true (eqb (twoAt b 10) 1) k)))
       (λ k. let tracks = eqb-true (twoAt b 10) 1 (not-false (eqb (twoAt b 10) 1) k) in
-      either (Told b) (eqb (twoAt b 12) 0) _ _ (λ l. division-first name six inside format tracks (eqb-true (twoAt b 12) 0 l))
+      either (Told b) (eqb (twoAt b 12) 0) _ _ (λ l. division-first name size format tracks (eqb-true (twoAt b 12) 0 l))
       (λ l. let some = eqb-false (twoAt b 12) 0 l in
-      either (Told b) (ltb 32767 (twoAt b 12)) _ _ (λ m. smpte-first name six inside format tracks some (ltb-true 32767 (twoAt b 12) m))
+      either (Told b) (ltb 32767 (twoAt b 12)) _ _ (λ m. smpte-first name size format tracks some (ltb-true 32767 (twoAt b 12) m))
       (λ m. chunks-verdict b
-      (record { name = name; six = six; inside = inside; format = format; tracks = tracks; some = some; ticks = ltb-false 32767 (twoAt b 12) m })
+      (record { name = name; size = size; format = format; tracks = tracks; some = some; ticks = ltb-false 32767 (twoAt b 12) m })
       (length b) (chunkEnd b 0) behind-head (omega arith)))))))
 
 -- ---- the file
+
+-- one that is not too long is told by its head
 events-told : (b : List ℕ) → length b ≤ 65536 → eventsOf b ≡ songOf b (headOf b)
 unfolding eventsOf
 events-told b h = rw (le-ltb 65536 (length b) h) (go (headOf b))
@@ -568,6 +527,7 @@ events-told b h = rw (le-ltb 65536 (length b) h) (go (headOf b))
     go (Header.Refused number place) = refl
     go (Track at end) = refl
 
+-- a refusal is of the first that is wrong, and where there is none nothing is
 verdict : (b : List ℕ) → length b ≤ 65536 → Verdict b (eventsOf b)
 verdict b h = subst (λ (s : Song). Verdict b s) (sym (events-told b h)) (head-verdict b)
 

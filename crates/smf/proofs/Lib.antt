@@ -6,3 +6,4 @@ pub mod MeetingLaws
 pub mod TrackLaws
 pub mod SongsLaws
 pub mod FirstFaultLaws
+pub mod ReadingLaws

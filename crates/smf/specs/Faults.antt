@@ -13,7 +13,7 @@ use Rattle.smf.specs.Quantities.{twoAt, fourAt, quantityAt}
 use Rattle.smf.specs.Head.{chunkEnd}
 use Rattle.smf.specs.Items.{itemAt}
 use Rattle.smf.specs.Ticks.{sumAfter}
-use Rattle.smf.specs.Track.{Song, edgeOf, meetAt}
+use Rattle.smf.specs.Track.{edgeOf, meetAt}
 use Rattle.smf.specs.Track.Song.{Refused, Events}
 use Rattle.smf.specs.Songs.{startAt, eventsOf}
 

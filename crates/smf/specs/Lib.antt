@@ -5,4 +5,5 @@ pub mod Ticks
 pub mod Track
 pub mod Songs
 pub mod Faults
+pub mod Reading
 pub mod Internal

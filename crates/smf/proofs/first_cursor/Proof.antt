@@ -22,12 +22,12 @@ start-requires : tie.Need-start-requires
 start-requires c κs = search needs
 
 returns : tie.Need-returns
-returns c = 
+returns c =
     let h = c .before .before .before in
     c .no-cursor .ensures ∙ sym (ap (λ (x : Header). trackCursor x (h .before .before .args .file .now)) (sym (h .head .ensures) ∙ c .before .enum-told .given .1))
 
 returns-2 : tie.Need-returns-2
-returns-2 c = 
+returns-2 c =
     let h = c .before .before .before .before in
     c .start .ensures ∙ sym (ap (λ (x : Header). trackCursor x (h .before .before .args .file .now)) (sym (h .head .ensures) ∙ c .before .before .h .given .1))
 

@@ -13,18 +13,18 @@ no-cursor-requires : tie.Need-no-cursor-requires
 no-cursor-requires c κs = search needs
 
 returns : tie.Need-returns
-returns c = 
+returns c =
     let t = c .before .before .before in
     let b = t .before .before .args .file .now in
     rw (c .no-cursor .ensures, t .test .ensures) (sym (opened-bad b (λ z. c .before .if1 .taken (ap (λ (x : Tested). x .number) (t .test .ensures) ∙ z))))
 
 first-cursor-requires : tie.Need-first-cursor-requires
-first-cursor-requires c κs = 
+first-cursor-requires c κs =
     let t = c .before .before in
     opened-good (t .before .before .args .file .now) (sym (ap (λ (x : Tested). x .number) (t .test .ensures)) ∙ c .if1 .left) .0
 
 returns-2 : tie.Need-returns-2
-returns-2 c = 
+returns-2 c =
     let t = c .before .before .before in
     let b = t .before .before .args .file .now in
     let e = opened-good b (sym (ap (λ (x : Tested). x .number) (t .test .ensures)) ∙ c .before .if1 .left) .1 in

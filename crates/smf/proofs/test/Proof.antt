@@ -24,12 +24,12 @@ test-from-requires : tie.Need-test-from-requires
 test-from-requires c κs = search needs
 
 returns-2 : tie.Need-returns-2
-returns-2 c = 
+returns-2 c =
     let h = c .before .before .before in
     sym (test-head (h .before .before .before .args .file .now) _ _ (h .before .if1 .left) (sym (h .head .ensures) ∙ c .before .h .given .1))
 
 returns-3 : tie.Need-returns-3
-returns-3 c = 
+returns-3 c =
     let h = c .before .before .before .before .before in
     let b = h .before .before .before .args .file .now in
     let e = sym (h .head .ensures) ∙ c .before .before .before .h2 .given .1 in

@@ -22,7 +22,7 @@ module _ (c : tie.Else3) where
       record {
         named = named (c .before .before .before .before);
         six = rw (c .before .before .before .four-at2 .ensures) at (c .before .before .if2 .left);
-        in-file = rw (c .before .chunk-end .ensures) at (c .if3 .left)
+        in-file = rw (c .before .chunk-end .ensures) at (c .if3 .left);
       }
 
 module _ (c : tie.Else4) where
@@ -40,7 +40,7 @@ refused-requires : tie.Need-refused-requires
 refused-requires c κs = search needs
 
 returns : tie.Need-returns
-returns c = 
+returns c =
     let k = c .before .before in
     c .refused .ensures ∙ sym (head-unnamed (k .before .before .args .b .now) (λ n. c .before .if1 .taken (k .four-at .ensures ∙ n)))
 
@@ -51,7 +51,7 @@ refused-requires-2 : tie.Need-refused-requires-2
 refused-requires-2 c κs = search needs
 
 returns-2 : tie.Need-returns-2
-returns-2 c = 
+returns-2 c =
     let k = c .before .before in
     c .refused2 .ensures ∙ sym (head-short (bytes (k .before)) (named (k .before)) (rw (k .four-at2 .ensures) at (c .before .if2 .taken)))
 
@@ -62,7 +62,7 @@ refused-requires-3 : tie.Need-refused-requires-3
 refused-requires-3 c κs = search needs
 
 returns-3 : tie.Need-returns-3
-returns-3 c = 
+returns-3 c =
     let k = c .before .before in
     let j = k .before .before in
     c .refused3 .ensures ∙ sym (head-long (bytes (j .before)) (named (j .before)) (rw (j .four-at2 .ensures) at (k .before .if2 .left)) (rw (k .chunk-end .ensures) at (c .before .if3 .taken)))
@@ -74,7 +74,7 @@ refused-requires-4 : tie.Need-refused-requires-4
 refused-requires-4 c κs = search needs
 
 returns-4 : tie.Need-returns-4
-returns-4 c = 
+returns-4 c =
     let k = c .before .before in
     let h = held (k .before) in
     c .refused4 .ensures ∙ sym (head-format _ h (λ n. c .before .if4 .taken (k .two-at .ensures ∙ n)))
@@ -86,7 +86,7 @@ refused-requires-5 : tie.Need-refused-requires-5
 refused-requires-5 c κs = search needs
 
 returns-5 : tie.Need-returns-5
-returns-5 c = 
+returns-5 c =
     let k = c .before .before in
     let h = formatted (k .before) in
     c .refused5 .ensures ∙ sym (head-tracks _ h (λ n. c .before .if5 .taken (k .two-at2 .ensures ∙ n)))
@@ -98,7 +98,7 @@ refused-requires-6 : tie.Need-refused-requires-6
 refused-requires-6 c κs = search needs
 
 returns-6 : tie.Need-returns-6
-returns-6 c = 
+returns-6 c =
     let k = c .before .before in
     let h = single (k .before) in
     c .refused6 .ensures ∙ sym (head-undivided _ h (sym (k .two-at3 .ensures) ∙ c .before .if6 .taken))
@@ -107,7 +107,7 @@ refused-requires-7 : tie.Need-refused-requires-7
 refused-requires-7 c κs = search needs
 
 returns-7 : tie.Need-returns-7
-returns-7 c = 
+returns-7 c =
     let k = c .before .before .before in
     let h = single (k .before) in
     c .refused7 .ensures ∙ sym (head-smpte _ h (rw (k .two-at3 .ensures) at (c .before .if7 .taken)))
@@ -116,7 +116,7 @@ track-from-requires : tie.Need-track-from-requires
 track-from-requires c κs = (c .before .before .before .before .before .before .before .before .before .before .before .before .before .before .pre, c .before .before .before .before .before .before .before .if3 .left)
 
 returns-8 : tie.Need-returns-8
-returns-8 c = 
+returns-8 c =
     let k = c .before .before .before in
     let h = single (k .before) in
     let some : (twoAt (bytes (k .before .before .before .before .before .before .before .before .before)) 12 ≡ 0 → ⊥) = λ z. c .before .before .if6 .left (k .two-at3 .ensures ∙ z) in

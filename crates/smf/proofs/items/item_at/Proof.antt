@@ -18,7 +18,7 @@ running-at-requires c κs = search needs
 
 returns-2 : tie.Need-returns-2
 unfolding itemAt
-returns-2 c = 
+returns-2 c =
     let x = c .before .before .byte .ensures in
     rw (lt-leb _ _ (c .before .before .before .if1 .left), sym x, lt-ltb _ _ (c .before .if2 .taken)) (c .running-at .ensures)
 
@@ -30,7 +30,7 @@ channel-at-requires c κs = search needs
 
 returns-3 : tie.Need-returns-3
 unfolding itemAt
-returns-3 c = 
+returns-3 c =
     let x = c .before .before .before .byte .ensures in
     rw (lt-leb _ _ (c .before .before .before .before .if1 .left), sym x, le-ltb _ _ (c .before .before .if2 .left), lt-ltb _ _ (c .before .if3 .taken)) (c .channel-at .ensures)
 
@@ -42,7 +42,7 @@ meta-at-requires c κs = search needs
 
 returns-4 : tie.Need-returns-4
 unfolding itemAt
-returns-4 c = 
+returns-4 c =
     let x = c .before .before .before .before .byte .ensures in
     rw (lt-leb _ _ (c .before .before .before .before .before .if1 .left), sym x, le-ltb _ _ (c .before .before .before .if2 .left), le-ltb _ _ (c .before .before .if3 .left), eq-eqb _ _ (c .before .if4 .taken)) (c .meta-at .ensures)
 
@@ -57,14 +57,14 @@ exclusive-at-requires c κs = search needs
 
 returns-5 : tie.Need-returns-5
 unfolding itemAt
-returns-5 c = 
+returns-5 c =
     let x = c .before .before .before .before .before .before .byte .ensures in
     let s = sym (c .before .before .is-exclusive .ensures) ∙ c .before .if5 .taken in
     rw (lt-leb _ _ (c .before .before .before .before .before .before .before .if1 .left), sym x, le-ltb _ _ (c .before .before .before .before .before .if2 .left), le-ltb _ _ (c .before .before .before .before .if3 .left), ne-eqb _ _ (c .before .before .before .if4 .left), s) (c .exclusive-at .ensures)
 
 returns-6 : tie.Need-returns-6
 unfolding itemAt
-returns-6 c = 
+returns-6 c =
     let x = c .before .before .before .before .before .byte .ensures in
     let s = sym (c .before .is-exclusive .ensures) ∙ c .if5 .left in
     rw (lt-leb _ _ (c .before .before .before .before .before .before .if1 .left), sym x, le-ltb _ _ (c .before .before .before .before .if2 .left), le-ltb _ _ (c .before .before .before .if3 .left), ne-eqb _ _ (c .before .before .if4 .left), s) refl

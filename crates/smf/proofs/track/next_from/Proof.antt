@@ -31,7 +31,7 @@ no-event-requires : tie.Need-no-event-requires Inv-loop μ-loop
 no-event-requires c κs = search needs
 
 returns : tie.Need-returns Inv-loop μ-loop
-returns c = 
+returns c =
     let k = c .before .before .before in
     let l = k .before .before .before in
     let b = l .before .before .before .args .b .now in
@@ -45,7 +45,7 @@ no-event-requires-2 : tie.Need-no-event-requires-2 Inv-loop μ-loop
 no-event-requires-2 c κs = search needs
 
 returns-2 : tie.Need-returns-2 Inv-loop μ-loop
-returns-2 c = 
+returns-2 c =
     let k = c .before .before .before in
     let l = k .before .before .before in
     let b = l .before .before .before .args .b .now in
@@ -56,7 +56,7 @@ enum-known-m : tie.Need-enum-known-m Inv-loop μ-loop
 enum-known-m c = c .match .keys3
 
 loop-less : tie.Need-loop-less Inv-loop μ-loop
-loop-less c = 
+loop-less c =
     let k = c .before .before .before in
     let l = k .before .before .before in
     let b = l .before .before .before .args .b .now in
@@ -65,7 +65,7 @@ loop-less c =
     omega (arith, f .after, k .before .if1 .taken)
 
 loop-again : tie.Need-loop-again Inv-loop μ-loop
-loop-again c = 
+loop-again c =
     let k = c .before .before .before in
     let l = k .before .before .before in
     let b = l .before .before .before .args .b .now in
@@ -77,7 +77,7 @@ enum-known-m-2 : tie.Need-enum-known-m-2 Inv-loop μ-loop
 enum-known-m-2 c = c .match .keys4
 
 returns-3 : tie.Need-returns-3 Inv-loop μ-loop
-returns-3 c = 
+returns-3 c =
     let k = c .before .before .before in
     let l = k .before .before .before in
     let b = l .before .before .before .args .b .now in
@@ -88,7 +88,7 @@ no-event-requires-3 : tie.Need-no-event-requires-3 Inv-loop μ-loop
 no-event-requires-3 c κs = search needs
 
 returns-4 : tie.Need-returns-4 Inv-loop μ-loop
-returns-4 c = 
+returns-4 c =
     let l = c .before .before .before in
     let b = l .before .before .before .args .b .now in
     c .no-event3 .ensures ∙ sym (l .loop .inv .0 ∙ next-edge b (l .loop .c) (omega (arith, c .before .if1 .left, l .loop .inv .1)))

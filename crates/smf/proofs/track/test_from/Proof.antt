@@ -29,7 +29,7 @@ enum-known-m : tie.Need-enum-known-m Inv-loop μ-loop
 enum-known-m c = c .match .keys1
 
 returns : tie.Need-returns Inv-loop μ-loop
-returns c = 
+returns c =
     let k = c .before .before .before in
     let l = k .before .before .before in
     let b = l .before .before .before .args .b .now in
@@ -40,7 +40,7 @@ enum-told : tie.Need-enum-told Inv-loop μ-loop
 enum-told c = c .match .keys2
 
 returns-2 : tie.Need-returns-2 Inv-loop μ-loop
-returns-2 c = 
+returns-2 c =
     let k = c .before .before in
     let l = k .before .before .before in
     let b = l .before .before .before .args .b .now in
@@ -51,7 +51,7 @@ enum-known-m-2 : tie.Need-enum-known-m-2 Inv-loop μ-loop
 enum-known-m-2 c = c .match .keys3
 
 loop-less : tie.Need-loop-less Inv-loop μ-loop
-loop-less c = 
+loop-less c =
     let k = c .before .before .before in
     let l = k .before .before .before in
     let b = l .before .before .before .args .b .now in
@@ -60,7 +60,7 @@ loop-less c =
     omega (arith, f .after, k .before .if1 .taken)
 
 loop-again : tie.Need-loop-again Inv-loop μ-loop
-loop-again c = 
+loop-again c =
     let k = c .before .before .before in
     let l = k .before .before .before in
     let b = l .before .before .before .args .b .now in
@@ -72,7 +72,7 @@ enum-known-m-3 : tie.Need-enum-known-m-3 Inv-loop μ-loop
 enum-known-m-3 c = c .match .keys4
 
 loop-less-2 : tie.Need-loop-less-2 Inv-loop μ-loop
-loop-less-2 c = 
+loop-less-2 c =
     let k = c .before .before .before in
     let l = k .before .before .before in
     let b = l .before .before .before .args .b .now in
@@ -81,7 +81,7 @@ loop-less-2 c =
     omega (arith, f .after, k .before .if1 .taken)
 
 loop-again-2 : tie.Need-loop-again-2 Inv-loop μ-loop
-loop-again-2 c = 
+loop-again-2 c =
     let k = c .before .before .before in
     let l = k .before .before .before in
     let b = l .before .before .before .args .b .now in
@@ -90,7 +90,7 @@ loop-again-2 c =
     (l .loop .inv .0 ∙ ap verdict (song-given b (l .loop .c) _ _ e) ∙ verdict-behind _ _, l .loop .inv .1 ∙ sym (further-edge b (l .loop .c) _ f))
 
 returns-3 : tie.Need-returns-3 Inv-loop μ-loop
-returns-3 c = 
+returns-3 c =
     let l = c .before .before in
     let b = l .before .before .before .args .b .now in
     sym (l .loop .inv .0 ∙ ap verdict (song-edge b (l .loop .c) (omega (arith, c .if1 .left, l .loop .inv .1))))
