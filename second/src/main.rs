@@ -1,12 +1,14 @@
-//! The second program's commands: play a case, make the stored cases and their traces, make cases of real files.
+//! The second program's commands: play a case, read songs, make the stored cases and their traces, make cases of real
+//! files.
 
-use second::{case, make, real};
+use second::{case, make, real, songs};
 use std::fs;
 use std::io::{self, BufReader, BufWriter};
 use std::path::Path;
 use std::process::ExitCode;
 
 const USAGE: &str = "usage: second play < CASE > TRACE
+       second songs < FILES > LINES
        second make DIR
        second real BANK.sf2 PIECE.mid SECONDS > CASE
        second struck BANK.sf2 > CASE";
@@ -17,6 +19,7 @@ fn main() -> ExitCode {
     let words: Vec<&str> = arguments.iter().map(String::as_str).collect();
     let done = match words.as_slice() {
         ["play"] => case::play(BufReader::new(io::stdin().lock()), BufWriter::new(io::stdout().lock())),
+        ["songs"] => songs::play(BufReader::new(io::stdin().lock()), BufWriter::new(io::stdout().lock())),
         ["make", directory] => make::write_all(Path::new(directory)),
         ["real", bank, piece, seconds] => real_case(bank, piece, seconds),
         ["struck", bank] => {
