@@ -6,6 +6,7 @@ use super::song_builder::*;
 pub fn all() -> Vec<Named> {
     let mut list = alone();
     list.extend(two_at_once());
+    list.extend(head_and_track());
     list.extend(not_well_formed_and_late());
     list.extend(cut_at_every_byte());
     list
@@ -87,6 +88,19 @@ fn two_at_once() -> Vec<Named> {
     };
     let all = all_faults();
     all.iter().flat_map(|first| all.iter().map(move |second| both(first, second))).collect()
+}
+
+/// Each fault of a track behind a fault of the head or of the track's length.
+fn head_and_track() -> Vec<Named> {
+    let changes = [("name", 3, b'D'), ("length", 7, 5), ("format", 9, 1), ("tracks", 11, 0), ("division", 13, 0)];
+    let more = [("SMPTE division", 12, 0xe8), ("track's length", 20, 1)];
+    let both = |(front, place, byte): (&str, usize, u8), (name, fault): &(&str, Piece)| {
+        let mut file = fault.clone().song();
+        file[place] = byte;
+        (format!("{front}, then {name}"), file)
+    };
+    let all = all_faults();
+    changes.into_iter().chain(more).flat_map(|change| all.iter().map(move |fault| both(change, fault))).collect()
 }
 
 /// An event that is not well formed, at a time past the limit, just at it, and behind a late event; a bad delta time that

@@ -53,7 +53,7 @@ const QUANTITIES: [(u32, usize); 18] = [
 fn delta_times() -> Vec<Named> {
     let file = |(value, bytes): (u32, usize)| {
         let delta = quantity_in(value, bytes);
-        let slow = piece().then(0, &tempo(7));
+        let slow = piece().then(0, &tempo(1_000));
         let first = piece().raw(&delta).raw(&tempo(1)).then(1, &NOTE);
         let later = slow.clone().then(3, &NOTE).raw(&delta).raw(&[61, 64]).then(5, &[62, 64]);
         let last = slow.then(3, &NOTE).raw(&delta).raw(&END);
