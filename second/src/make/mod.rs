@@ -40,7 +40,7 @@
 //!   order_of_fields)
 //! - alien chunks (no byte, an odd number, a second head, nearly a track's name), chunks past the file's end, names and
 //!   lengths cut off, empty tracks, bytes behind the end of track: song_cases (chunks_in_front, chunks_past_the_end,
-//!   names_of_chunks, lengths_of_tracks, behind_the_track)
+//!   chunks_cut_off, names_of_chunks, lengths_of_tracks, behind_the_track)
 //! - quantities of one to five bytes and cut off, as delta times and as lengths: track_cases (delta_times,
 //!   delta_times_cut_off, lengths_in_events)
 //! - every kind of channel event with and without running status, data bytes at 80 hex in each place and missing:

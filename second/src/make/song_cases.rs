@@ -11,6 +11,7 @@ pub fn all() -> Vec<Named> {
         order_of_fields(),
         chunks_in_front(),
         chunks_past_the_end(),
+        chunks_cut_off(),
         names_of_chunks(),
         lengths_of_tracks(),
         behind_the_track(),
@@ -176,24 +177,30 @@ fn chunks_past_the_end() -> Vec<Named> {
     [alien.to_vec(), tracks.to_vec()].concat()
 }
 
-/// A name or a length cut off by the file's end, behind the head and behind an alien chunk; names that are nearly right.
-fn names_of_chunks() -> Vec<Named> {
+/// A name or a length cut off by the file's end, behind the head and behind an alien chunk.
+fn chunks_cut_off() -> Vec<Named> {
     let cut = |front: &[u8], length: usize| {
         let file = [front, &track()[..length]].concat();
         (format!("{length} bytes of a chunk behind {} bytes", front.len()), file)
     };
     let (near, far) = (right_head(), behind_head(&[chunk(b"XFIH", b"odd")]));
-    let mut list: Vec<Named> = (0..=8).flat_map(|length| [cut(&near, length), cut(&far, length)]).collect();
-    for name in [b"mtrk", b"MTRK", b"MTrK", b"MTr ", b"krTM", b"MThd", b"\0\0\0\0", b"\xff\xff\xff\xff"] {
-        list.push((format!("a track named {name:?} alone"), behind_head(&[chunk(name, &tune())])));
-        list.push((format!("a track named {name:?}, and a right one"), behind_head(&[chunk(name, b"\0"), track()])));
-    }
-    for (place, letter) in [b'm', b't', b'H', b'D'].iter().enumerate() {
+    (0..=8).flat_map(|length| [cut(&near, length), cut(&far, length)]).collect()
+}
+
+/// Names that are nearly right.
+fn names_of_chunks() -> Vec<Named> {
+    let tracks = [b"mtrk", b"MTRK", b"MTrK", b"MTr ", b"krTM", b"MThd", b"\0\0\0\0", b"\xff\xff\xff\xff"].map(|name| {
+        [
+            (format!("a track named {name:?} alone"), behind_head(&[chunk(name, &tune())])),
+            (format!("a track named {name:?}, and a right one"), behind_head(&[chunk(name, b"\0"), track()])),
+        ]
+    });
+    let heads = [(0, b'm'), (1, b't'), (2, b'H'), (3, b'D')].map(|(place, letter)| {
         let mut file = song(96, &tune());
-        file[place] = *letter;
-        list.push((format!("another letter at place {place}"), file));
-    }
-    list
+        file[place] = letter;
+        (format!("another letter at place {place}"), file)
+    });
+    [tracks.concat(), heads.to_vec()].concat()
 }
 
 /// Tracks that hold fewer bytes than their events, with the others behind them, and more.

@@ -152,14 +152,15 @@ impl Tune {
     fn chord(&mut self, c: &mut Chance, channel: u8) {
         let root = c.from(30, 90) as u8;
         let keys = &[root, root + 4, root + 7, root + 12][..c.from(1, 4) as usize];
-        for key in keys {
-            self.channel(0, &[0x90 | channel, *key, c.from(1, 127) as u8]);
-        }
-        let off = if c.once_in(3) { [0x80 | channel, 64] } else { [0x90 | channel, 0] };
-        let mut delta = self.ticks(c);
-        for key in keys {
-            self.channel(delta, &[off[0], *key, off[1]]);
-            delta = 0;
+        self.together(0, 0x90 | channel, keys, c.from(1, 127) as u8);
+        let (status, velocity) = if c.once_in(3) { (0x80, 64) } else { (0x90, 0) };
+        self.together(self.ticks(c), status | channel, keys, velocity);
+    }
+
+    /// The same for each key at one tick.
+    fn together(&mut self, delta: u32, status: u8, keys: &[u8], velocity: u8) {
+        for (place, key) in keys.iter().enumerate() {
+            self.channel(if place == 0 { delta } else { 0 }, &[status, *key, velocity]);
         }
     }
 

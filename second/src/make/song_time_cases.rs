@@ -115,7 +115,7 @@ fn rounding_is_not_carried() -> Vec<Named> {
 
 // The limit of U
 
-/// The events that a limit holds for: all. Each with its name and what may stand behind it in the track.
+/// The limit holds for every event.
 fn event_kinds() -> [(&'static str, Vec<u8>); 8] {
     [
         ("a note", NOTE.to_vec()),
@@ -130,22 +130,23 @@ fn event_kinds() -> [(&'static str, Vec<u8>); 8] {
 }
 
 /// U at 3,600,000,000 times the division, one below and one above, by the last delta time and by the last tempo, for each
-/// kind of event. At 500,000 an hour has 7,200 beats; the last tick of them is played at another tempo.
+/// kind of event.
 fn limits() -> Vec<Named> {
-    let mut list = Vec::new();
-    for division in [1, 2, 96, 1_000, 32_767] {
-        let near = |micros: u32| piece().then(50, &NOTE).then(7_200 * division as u32 - 51, &tempo(micros));
-        for (name, event) in event_kinds() {
-            for more in [-1, 0, 1] {
-                let last = (500_000 + more) as u32;
-                let by_delta = near(1).then(last, &event).then(0, &NOTE);
-                let by_tempo = near(last).then(1, &event).then(0, &NOTE);
-                list.push((format!("{name} {more} by delta, division {division}"), by_delta.song_of(division)));
-                list.push((format!("{name} {more} by tempo, division {division}"), by_tempo.song_of(division)));
-            }
-        }
-    }
-    list
+    let near = |division: u16, event: &(&str, Vec<u8>)| [-1, 0, 1].map(|more| near_the_limit(division, event, more));
+    let of = |division| event_kinds().into_iter().flat_map(move |event| near(division, &event).concat());
+    [1, 2, 96, 1_000, 32_767].into_iter().flat_map(of).collect()
+}
+
+/// At 500,000 an hour has 7,200 beats; the last tick of them is played at another tempo.
+fn near_the_limit(division: u16, (name, event): &(&str, Vec<u8>), more: i32) -> [Named; 2] {
+    let last = (500_000 + more) as u32;
+    let near = |micros: u32| piece().then(50, &NOTE).then(7_200 * division as u32 - 51, &tempo(micros));
+    let by_delta = near(1).then(last, event).then(0, &NOTE);
+    let by_tempo = near(last).then(1, event).then(0, &NOTE);
+    [
+        (format!("{name} {more} by delta, division {division}"), by_delta.song_of(division)),
+        (format!("{name} {more} by tempo, division {division}"), by_tempo.song_of(division)),
+    ]
 }
 
 fn far_past_the_limit() -> Vec<Named> {

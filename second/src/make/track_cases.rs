@@ -80,27 +80,47 @@ fn delta_times_cut_off() -> Vec<Named> {
     (0..=5).flat_map(file).collect()
 }
 
+/// The first bytes of meta and system exclusive events, behind which a length stands.
+const FRONTS: [&[u8]; 6] = [&[0xff, 0x01], &[0xff, 0x51], &[0xff, 0x7f], &[0xff, 0x2f], &[0xf0], &[0xf7]];
+
 /// Meta and system exclusive lengths: as large as the bytes that are there, one larger, in one to five bytes, cut off.
 fn lengths_in_events() -> Vec<Named> {
-    let mut list = Vec::new();
-    for front in [&[0xff, 0x01][..], &[0xff, 0x51], &[0xff, 0x7f], &[0xff, 0x2f], &[0xf0], &[0xf7]] {
-        let event = |length: &[u8], said: usize| piece().raw(&[3]).raw(front).raw(length).raw(&vec![0x11; said]);
-        for (said, bytes) in [(0, 1), (5, 1), (5, 2), (5, 3), (5, 4), (5, 5), (127, 1), (128, 2), (300, 4), (300, 5)] {
-            let file = event(&quantity_in(said, bytes), said as usize).then(2, &NOTE).song();
-            list.push((format!("{front:x?} with {said} bytes, the length in {bytes}"), file));
-        }
-        for said in [4, 5, 6, 1_000, LARGEST_QUANTITY] {
-            let file = song(96, &event(&quantity(said), 5).bytes);
-            list.push((format!("{front:x?} says {said} bytes, and 5 are left in the track"), file.clone()));
-            list.push((format!("{front:x?} says {said} bytes, and the file goes on"), [file, vec![0; 9]].concat()));
-        }
-        for cut in 0..=4 {
-            let file = song(96, &event(&vec![0x80; cut], 0).bytes);
-            list.push((format!("{front:x?} with {cut} bytes of a length"), file));
-        }
-    }
-    list.push(named("FF and nothing behind it", song(96, &[3, 0xff])));
-    list
+    let files = |front: &&[u8]| [lengths_that_fit(front), lengths_past_the_end(front), lengths_cut_off(front)].concat();
+    let nothing = named("FF and nothing behind it", song(96, &[3, 0xff]));
+    FRONTS.iter().flat_map(files).chain([nothing]).collect()
+}
+
+/// An event with a length and so many bytes behind it.
+fn event_with(front: &[u8], length: &[u8], said: u32) -> Piece {
+    piece().raw(&[3]).raw(front).raw(length).raw(&vec![0x11; said as usize])
+}
+
+fn lengths_that_fit(front: &[u8]) -> Vec<Named> {
+    let file = |(said, bytes): (u32, usize)| {
+        let song = event_with(front, &quantity_in(said, bytes), said).then(2, &NOTE).song();
+        (format!("{front:x?} with {said} bytes, the length in {bytes}"), song)
+    };
+    [(0, 1), (5, 1), (5, 2), (5, 3), (5, 4), (5, 5), (127, 1), (128, 2), (300, 4), (300, 5)].map(file).to_vec()
+}
+
+fn lengths_past_the_end(front: &[u8]) -> Vec<Named> {
+    let file = |said: u32| {
+        let file = song(96, &event_with(front, &quantity(said), 5).bytes);
+        let longer = [file.as_slice(), &[0; 9]].concat();
+        [
+            (format!("{front:x?} says {said} bytes, and 5 are left in the track"), file),
+            (format!("{front:x?} says {said} bytes, and the file goes on"), longer),
+        ]
+    };
+    [4, 5, 6, 1_000, LARGEST_QUANTITY].into_iter().flat_map(file).collect()
+}
+
+fn lengths_cut_off(front: &[u8]) -> Vec<Named> {
+    let file = |bytes: usize| {
+        let song = song(96, &event_with(front, &vec![0x80; bytes], 0).bytes);
+        (format!("{front:x?} with {bytes} bytes of a length"), song)
+    };
+    (0..=4).map(file).collect()
 }
 
 // Channel events
@@ -128,43 +148,51 @@ fn channel_events() -> Vec<Named> {
     KINDS.into_iter().flat_map(kind).chain([named("every status", all.song())]).collect()
 }
 
+/// An event of a kind, written out.
+fn event_of(status: u8, data: &[u8]) -> Vec<u8> {
+    [&[status], data].concat()
+}
+
 /// A data byte at 80 hex and above in each of its places, and at 7F.
 fn data_bytes() -> Vec<Named> {
-    let mut list = Vec::new();
-    for (status, count) in KINDS {
-        for (place, byte) in [(0, 0x7f), (0, 0x80), (0, 0xff), (1, 0x7f), (1, 0x80), (1, 0xf8), (1, 0xff)] {
-            let mut data = vec![5; count];
-            if place < count {
-                data[place] = byte;
-                let written = piece().then(7, &[&[status], data.as_slice()].concat()).then(1, &data);
-                let running = piece().then(7, &[&[status], vec![5; count].as_slice()].concat()).then(9, &data);
-                list.push((format!("{status:x}, data {place} is {byte:x}"), written.song()));
-                list.push((format!("{status:x}, data {place} is {byte:x} in running status"), running.song()));
-            }
-        }
-    }
-    list
+    let bytes = [(0, 0x7f), (0, 0x80), (0, 0xff), (1, 0x7f), (1, 0x80), (1, 0xf8), (1, 0xff)];
+    let file = |(status, count): (u8, usize), (place, byte): (usize, u8)| {
+        let right = vec![5; count];
+        let mut data = right.clone();
+        data[place] = byte;
+        let written = piece().then(7, &event_of(status, &data)).then(1, &data);
+        let running = piece().then(7, &event_of(status, &right)).then(9, &data);
+        [
+            (format!("{status:x}, data {place} is {byte:x}"), written.song()),
+            (format!("{status:x}, data {place} is {byte:x} in running status"), running.song()),
+        ]
+    };
+    let files = |kind: (u8, usize)| {
+        let there = bytes.into_iter().filter(move |(place, _)| *place < kind.1);
+        there.flat_map(move |byte| file(kind, byte))
+    };
+    KINDS.into_iter().flat_map(files).collect()
 }
 
 /// Data bytes past the track's end, written out and in running status, with the file's end there or not.
 fn data_bytes_missing() -> Vec<Named> {
-    let mut list = Vec::new();
-    for (status, count) in KINDS {
-        let whole = vec![5; count];
-        for have in 0..=count {
-            let written = piece().then(7, &[&[status], &whole[..have]].concat()).bytes;
-            let running = piece().then(7, &[&[status], whole.as_slice()].concat()).then(9, &whole[..have]).bytes;
-            for (name, track) in [("", written), (" in running status", running)] {
-                let file = song(96, &track);
-                list.push((format!("{status:x} with {have} bytes{name}"), file.clone()));
-                list.push((
-                    format!("{status:x} with {have} bytes{name}, the file goes on"),
-                    [file, vec![6; 3]].concat(),
-                ));
-            }
-        }
-    }
-    list
+    let files = |(status, count)| (0..=count).flat_map(move |have| data_bytes_had(status, count, have));
+    KINDS.into_iter().flat_map(files).collect()
+}
+
+fn data_bytes_had(status: u8, count: usize, have: usize) -> [Named; 4] {
+    let data = vec![5; count];
+    let written = piece().then(7, &event_of(status, &data[..have]));
+    let running = piece().then(7, &event_of(status, &data)).then(9, &data[..have]);
+    let [written, running] = [written, running].map(|track| song(96, &track.bytes));
+    let on = |file: &Vec<u8>| [file.as_slice(), &[6; 3]].concat();
+    let name = format!("{status:x} with {have} bytes");
+    [
+        (format!("{name}, the file goes on"), on(&written)),
+        (format!("{name} in running status, the file goes on"), on(&running)),
+        (format!("{name} in running status"), running),
+        (name, written),
+    ]
 }
 
 /// F1 to F6 and F8 to FE as the first event, as a later one, behind a status, and where they are bytes like all others.
