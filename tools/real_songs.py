@@ -72,7 +72,7 @@ def judged(data):
 
 def main():
     if len(sys.argv) != 3:
-        sys.exit(__doc__)
+        sys.exit('real_songs.py LIST REMARKS')
     with open(sys.argv[1]) as names, open(sys.argv[2], 'w') as remarks:
         for name in names.read().splitlines():
             with open(name, 'rb') as file:
