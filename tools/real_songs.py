@@ -3,9 +3,9 @@
 them. mido reads chunks, delta times, running status and messages; here ticks are only summed times the tempo. For each
 file a line of REMARKS says what mido found: format, tracks and division, or what it raised.
 
-Where mido is laxer than M-101 (running status behind a meta event, F1 to FE, quantities of any length, events past the
-end of track or past the track) or stricter (chunks other than MTrk, key signatures, bytes of F7 events), or forgets a
-delta time (of a meta event of a type that it does not know), the lines differ. Then look at the file."""
+Where mido is laxer than M-101 (running status behind a meta event, quantities of any length, events past the track) or
+stricter (chunks other than MTrk, odd key signatures, bytes of F7 events), or forgets a delta time (of a meta event of a
+type that it does not know), the lines differ. Then look at the file."""
 import io
 import sys
 from mido.midifiles import midifiles
@@ -38,6 +38,8 @@ def lines_of(track, division, end):
         if message.type == 'set_tempo':
             tempo = message.tempo
         elif not message.is_meta and message.type != 'sysex':
+            if message.bytes()[0] > 0xef:  # F1 to F6, F8 to FE
+                return ['9 %d' % place]
             frame = ticks_tempo * 44100 // (division * 1000000)
             lines.append(' '.join([str(frame)] + ['%02x' % byte for byte in message.bytes()]))
     return ['9 %d' % end]
