@@ -39,6 +39,13 @@ impl Definition {
         let signature = tokens(&self.pieces[0]);
         self.kind != Kind::Clauses || signature.len() > 1 && signature[signature.len() - 2] == "Type"
     }
+
+    /// Whether it is a sentence: a type by itself, of nothing.
+    pub fn is_sentence(&self) -> bool {
+        let signature = tokens(&self.pieces[0]);
+        let behind = signature.iter().position(|word| *word == self.name).map_or(0, |at| at + 1);
+        self.kind == Kind::Clauses && matches!(&signature[behind..], [colon, kind, _] if colon == ":" && kind == "Type")
+    }
 }
 
 /// A `use` line: a module's path, and the items that it brings as (name there, name here), or the name for the module.

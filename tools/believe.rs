@@ -1,5 +1,5 @@
 // What has to be believed: the definitions on which the contracts of everything a host may call and the statements of
-// crate promises rest, all the way down. A reader holds these, and no others, against the scope document.
+// theorems rest, all the way down. A reader holds these, and no others, against the scope document.
 //
 //     rustc --edition 2021 -O -o target/believe tools/believe.rs && target/believe
 //
@@ -21,7 +21,7 @@ use std::process::ExitCode;
 use tree::{Reached, Specs, Tree};
 
 /// Files of definitions whose words no source file of their name computes. A crate's name stands for all of its files.
-const NO_CODE: [(&str, &str); 8] = [
+const NO_CODE: [(&str, &str); 13] = [
     ("arith/Floats", "what it is that a float is a fraction exactly; the code that makes such floats is voice's and engine's"),
     ("arith/Floors", "quotients rounded down: each formula that has one computes it in its own place"),
     ("arith/Lists", "counts and sums over lists: loops in several crates compute them, each its own"),
@@ -29,6 +29,11 @@ const NO_CODE: [(&str, &str); 8] = [
     ("bank/Admission", "the chain of the tests: the code is the crate's root, src/lib.rt"),
     ("bank/Rules", "admission said once more as rules for every record; the code does the tests of Admission"),
     ("promises", "statements of theorems: the crate has no code"),
+    ("smf/Behind", "statements of theorems on bytes behind the end of track"),
+    ("smf/Faults", "what can be wrong with a file, case by case; the code does the tests of Head, Items and Track in their order"),
+    ("smf/Reading", "statements of theorems on what the reader hands out"),
+    ("smf/Songs", "the whole file: the code is the crate's root, src/lib.rt"),
+    ("smf/Spelling", "files as they are written, for statements of theorems; nothing writes them"),
     ("records/Looking", "what a search finds: each search is a loop of the file that needs it"),
 ];
 
@@ -237,7 +242,7 @@ fn print_totals(known: &Known) {
     let places = known.to_believe();
     let files: BTreeSet<usize> = places.iter().map(|place| place.0).collect();
     let functions = known.tree.host_functions(&mut Vec::new()).len();
-    println!("\nfrom the contracts of {functions} functions that a host may call, and the statements of promises:");
+    println!("\nfrom the contracts of {functions} functions that a host may call, and the statements:");
     println!("in all {} definitions, {} lines, in {} files", places.len(), known.tree.lines(&places), files.len());
 }
 

@@ -313,7 +313,8 @@ impl Tree {
         self.follow(krate, &passed?.1)
     }
 
-    /// All functions that a host may call: what engine's root passes on, bank's admission, and reader's public ones.
+    /// All functions that a host may call: what engine's root passes on, bank's admission, reader's public ones, and those
+    /// of smf's root.
     pub fn host_functions(&self, lost: &mut Vec<String>) -> Vec<(&Source, &Function)> {
         let mut found = Vec::new();
         let root = self.sources.iter().find(|source| source.krate == "engine" && source.module == "lib");
@@ -325,19 +326,27 @@ impl Tree {
                 None => lost.push(format!("crates/engine/src/lib.rt: {} leads nowhere", path.join("::"))),
             }
         }
-        for source in self.sources.iter().filter(|source| source.krate == "reader") {
+        let is_root = |source: &&Source| source.krate == "reader" || source.krate == "smf" && source.module == "lib";
+        for source in self.sources.iter().filter(is_root) {
             found.extend(source.functions.iter().filter(|function| function.public).map(|function| (source, function)));
         }
         found
     }
 
-    /// The statements of crate promises: types among its definitions that its proofs name.
+    /// The statements: types among the definitions of crate promises that its proofs name, and the sentences of the other
+    /// crates that proofs name.
     pub fn statements(&self) -> Vec<Target> {
-        let is_statement = |target: &&Target| match target {
+        let is_promise = |target: &&Target| match target {
             Target::Definition(place) => self.specs[place.0].krate == "promises" && self.definition(*place).is_type(),
             _ => false,
         };
-        self.in_promises.iter().filter(is_statement).cloned().collect()
+        let is_sentence = |target: &&Target| match target {
+            Target::Definition(place) => self.definition(*place).is_sentence(),
+            _ => false,
+        };
+        let promised = self.in_promises.iter().filter(is_promise);
+        let found: BTreeSet<&Target> = promised.chain(self.in_proofs.iter().filter(is_sentence)).collect();
+        found.into_iter().cloned().collect()
     }
 
     /// What a host's contracts and the statements rest on.

@@ -23,12 +23,11 @@ use Rattle.smf.specs.Quantities.{twoAt, fourAt, quantityAt}
 use Rattle.smf.specs.Head.{chunkEnd, trackFrom, headOf}
 use Rattle.smf.specs.Items.{itemAt}
 use Rattle.smf.specs.Ticks.{sumAfter, isLate}
-use Rattle.smf.specs.Track.{Song, edgeOf, isBad, done, obeyed, meetAt, eventOf, behindEvent, songFrom}
-use Rattle.smf.specs.Track.Song.{Refused, Events}
+use Rattle.smf.specs.Track.{Song, Events, Refused, edgeOf, isBad, acted, obeyed, meetAt, eventOf, behindEvent, songFrom}
 use Rattle.smf.specs.Songs.{startAt, turns, eventsOf}
-use Rattle.smf.specs.Faults.{Whole, Chunked, Tracked, Reached, DeltaAt, Wrong, First, LongRefused, RefusedFirst, FirstRefused, GoodNotWrong, NotWrongGood}
+use Rattle.smf.specs.Faults.{Whole, Chunked, Tracked, Arrived, DeltaAt, Wrong, First, LongRefused, RefusedFirst, FirstRefused, GoodNotWrong, NotWrongGood}
 use Rattle.smf.specs.Faults.Chunked.{behind-head, behind-other}
-use Rattle.smf.specs.Faults.Reached.{begins, behind-passed, behind-given}
+use Rattle.smf.specs.Faults.Arrived.{begins, behind-passed, behind-given}
 use Rattle.smf.proofs.QuantitiesLaws.{quantity-behind, quantity-edge}
 use Rattle.smf.proofs.ItemsLaws.{either, neither}
 use Rattle.smf.proofs.TrackLaws.{meet-passed, meet-given, further-edge, edge-in}
@@ -129,7 +128,7 @@ record Way (b : List ℕ) (c : Cursor) : Type 0 where
   way : Along (Go b) (startOf b at) c
 
 -- each cursor that is reached is on the way from where the track begins
-reached-way : {b : List ℕ} {c : Cursor} → Reached b c → Way b c
+reached-way : {b : List ℕ} {c : Cursor} → Arrived b c → Way b c
 reached-way (begins at track) = record { at = at; track = track; way = here }
 reached-way (behind-passed c further r e) = let w = reached-way r in record { at = w .at; track = w .track; way = on c further (w .way) (inl e) }
 reached-way (behind-given c message further r e) = let w = reached-way r in record { at = w .at; track = w .track; way = on c further (w .way) (inr (message, e)) }
@@ -149,7 +148,7 @@ data Stuck (b : List ℕ) (c : Cursor) : ℕ → ℕ → Type 0 where
   too-late : (ticks place : ℕ) → DeltaAt b c ticks place → 3600000000 * c .division < sumAfter c ticks → Stuck b c 11 place
 
 -- at a cursor that is reached each of them is wrong with the file
-stuck-wrong : {b : List ℕ} {c : Cursor} {n p : ℕ} → Reached b c → Stuck b c n p → Wrong b n p
+stuck-wrong : {b : List ℕ} {c : Cursor} {n p : ℕ} → Arrived b c → Stuck b c n p → Wrong b n p
 stuck-wrong {c = c} r (no-delta e) = Wrong.delta c r e
 stuck-wrong {c = c} r (bad-event ticks place e f) = Wrong.event c ticks place r e f
 stuck-wrong {c = c} r (too-late ticks place e f) = Wrong.late c ticks place r e f
@@ -257,7 +256,7 @@ module _ (b : List ℕ) (c : Cursor) where
 
     -- each kind of event
     least-obeyed : (item : Item) → itemAt b (edgeOf b c) (c .running) place ≡ item → LeastMet b c (obeyed item c (sumAfter c ticks) place)
-    unfolding obeyed done
+    unfolding obeyed acted
     least-obeyed Item.Bad f = bad-event-first f
     least-obeyed Item.End f = tardy End (λ g. let z : _≡_ {A = ℕ} 0 1 = cc in omega arith) tt
     least-obeyed (Item.Passed behind) f = tardy (Passed _) (λ g. let z : _≡_ {A = ℕ} 0 1 = cc in omega arith) tt
@@ -366,7 +365,7 @@ module _ (b : List ℕ) (good : Headed b) (at : ℕ) (track : Tracked b at) wher
       let same-place : way .at ≡ at = chunk-same (way .track .looked) (track .looked) (track-stops b (way .at) (way .track)) (track-stops b at track) in
       (c, subst (λ (x : ℕ). Along (Go b) (startOf b x) c) same-place (way .way), s)
 
-  module _ (c : Cursor) (reached : Reached b c) (way : Along (Go b) (startOf b at) c) where
+  module _ (c : Cursor) (reached : Arrived b c) (way : Along (Go b) (startOf b at) c) where
     -- where the track stops, whatever is wrong is so there
     at-stop : ((further : Cursor) → Go b c further → ⊥) → {n p : ℕ} → Body b n p → Stuck b c n p
     at-stop stop {n} {p} w =
@@ -390,12 +389,12 @@ module _ (b : List ℕ) (good : Headed b) (at : ℕ) (track : Tracked b at) wher
         stops further (inr f) = let g = f .1 in let z : _≡_ {A = ℕ} 0 1 = cc in omega arith
 
   -- the song of the track, event by event
-  song-verdict : (n : ℕ) (c : Cursor) → Reached b c → Along (Go b) (startOf b at) c → edgeOf b c < c .at + n → Verdict b (songFrom n b c)
+  song-verdict : (n : ℕ) (c : Cursor) → Arrived b c → Along (Go b) (startOf b at) c → edgeOf b c < c .at + n → Verdict b (songFrom n b c)
   unfolding songFrom
   song-verdict zero c r w h = stuck-first c r w (no-delta-first b c (quantity-edge b (edgeOf b c) (c .at) (omega arith)))
   song-verdict (suc n) c r w h = go (λ further. song-verdict n further) (meetAt b c) refl
     where
-      go : ((further : Cursor) → Reached b further → Along (Go b) (startOf b at) further → edgeOf b further < further .at + n → Verdict b (songFrom n b further)) → (m : Met) → meetAt b c ≡ m → Verdict b (elim m [ Fault number place ↦ Refused number place | End ↦ Events [] | Passed further ↦ songFrom n b further | Given message further ↦ behindEvent (eventOf message further) (songFrom n b further) ])
+      go : ((further : Cursor) → Arrived b further → Along (Go b) (startOf b at) further → edgeOf b further < further .at + n → Verdict b (songFrom n b further)) → (m : Met) → meetAt b c ≡ m → Verdict b (elim m [ Fault number place ↦ Refused number place | End ↦ Events [] | Passed further ↦ songFrom n b further | Given message further ↦ behindEvent (eventOf message further) (songFrom n b further) ])
       go more (Fault number place) e = stuck-first c r w (least-fault b c number place e)
       go more End e = ended c r w e
       go more (Passed further) e =

@@ -13,7 +13,7 @@ use Rattle.smf.specs.declared.Quantity.the-variants.{Good}
 use Rattle.smf.specs.declared.Item.{Item}
 use Rattle.smf.specs.declared.Item.the-variants.{Bad, End, Passed, Tempo, Channel}
 use Rattle.smf.specs.Quantities.{threeAt, quantityAt}
-use Rattle.smf.specs.Items.{isChannel, isShort, shortAt, longAt, channelAt, exclusiveAt, metaOf, metaAt, itemAt}
+use Rattle.smf.specs.Items.{isChannel, isShort, shortAt, longAt, spokenAt, exclusiveAt, metaOf, metaAt, itemAt}
 use Rattle.smf.proofs.QuantitiesLaws.{quantity-behind}
 
 -- what is so of both answers of a test is so of the answer
@@ -87,8 +87,8 @@ module _ (b : List ℕ) (edge : ℕ) where
           not-both q = let z : _≡_ {A = ℕ} 0 1 = cc in absurd (omega arith)
 
   -- a channel event
-  channel-placed : (status from at : ℕ) → 128 ≤ status → status ≤ 239 → from ≤ at → Placed edge from (channelAt b edge status at)
-  unfolding channelAt
+  channel-placed : (status from at : ℕ) → 128 ≤ status → status ≤ 239 → from ≤ at → Placed edge from (spokenAt b edge status at)
+  unfolding spokenAt
   channel-placed status from at low high h =
       either (Placed edge from) (isShort status) (shortAt b edge status at) (longAt b edge status at)
       (λ e. short-placed status from at low high h) (λ e. long-placed status from at e low high h)

@@ -17,10 +17,9 @@ use Rattle.smf.specs.declared.Met.{Met}
 use Rattle.smf.specs.declared.Met.the-variants.{Fault, End, Passed, Given}
 use Rattle.smf.specs.declared.Offer.{Offer}
 use Rattle.smf.specs.Head.{headOf}
-use Rattle.smf.specs.Ticks.{frameAt}
-use Rattle.smf.specs.Track.{Song, edgeOf, eventOf, meetAt, behindEvent, songFrom, nextFrom, over, nothing}
-use Rattle.smf.specs.Track.Song.{Refused, Events}
-use Rattle.smf.specs.Songs.{startAt, turns, eventsOf, trackCursor, firstCursor, openingOf, nextOf}
+use Rattle.smf.specs.Ticks.{frameOf}
+use Rattle.smf.specs.Track.{Song, Events, Refused, edgeOf, eventOf, meetAt, behindEvent, songFrom, nextFrom, over, nothing}
+use Rattle.smf.specs.Songs.{startAt, turns, eventsOf, trackCursor, firstCursor, openingOf, handedOf}
 use Rattle.smf.specs.Reading.{cursorAfter, offered, eventAt, entry, ReadsAll, NeverFall, InRange, AllInRange}
 use Rattle.smf.proofs.TicksLaws.{frame-rises, frame-in}
 use Rattle.smf.proofs.TrackLaws.{meet-passed, meet-given, further-edge, edge-in, song-enough, next-edge}
@@ -61,8 +60,8 @@ hands (suc n) b c h = go (λ further. hands n b further) (meetAt b c) refl
         given (eventOf message further) further (songFrom n b further) (song-enough (turns b) n b further (omega arith) (omega arith))
 
 -- a next and the song
-hands-next : (b : List ℕ) (c : Cursor) → Hands b (nextOf b c) (songFrom (turns b) b c)
-unfolding nextOf
+hands-next : (b : List ℕ) (c : Cursor) → Hands b (handedOf b c) (songFrom (turns b) b c)
+unfolding handedOf
 hands-next b c = hands (turns b) b c (omega (arith, edge-in b c))
 
 -- ---- many nexts
@@ -70,40 +69,40 @@ hands-next b c = hands (turns b) b c (omega (arith, edge-in b c))
 -- the cursor after k nexts from a cursor on
 after : List ℕ → Cursor → ℕ → Cursor
 after b c zero = c
-after b c (suc k) = nextOf b (after b c k) .cursor
+after b c (suc k) = handedOf b (after b c k) .cursor
 
 -- the first next may be taken off
-after-next : (b : List ℕ) (c : Cursor) (k : ℕ) → after b c (suc k) ≡ after b (nextOf b c .cursor) k
+after-next : (b : List ℕ) (c : Cursor) (k : ℕ) → after b c (suc k) ≡ after b (handedOf b c .cursor) k
 unfolding after
 after-next b c zero = refl
-after-next b c (suc k) = ap (λ (x : Cursor). nextOf b x .cursor) (after-next b c k)
+after-next b c (suc k) = ap (λ (x : Cursor). handedOf b x .cursor) (after-next b c k)
 
 -- where no event is left none comes
-over-next : (b : List ℕ) → nextOf b over ≡ nothing
-unfolding nextOf
+over-next : (b : List ℕ) → handedOf b over ≡ nothing
+unfolding handedOf
 over-next b = next-edge b over (min-le-left 0 (length b))
 
 -- and the cursor stays there
 over-after : (b : List ℕ) (k : ℕ) → after b over k ≡ over
 unfolding after
 over-after b zero = refl
-over-after b (suc k) = ap (λ (x : Cursor). nextOf b x .cursor) (over-after b k) ∙ ap (λ (h : Handed). h .cursor) (over-next b)
+over-after b (suc k) = ap (λ (x : Cursor). handedOf b x .cursor) (over-after b k) ∙ ap (λ (h : Handed). h .cursor) (over-next b)
 
 -- so no event is offered
-over-offers : (b : List ℕ) (k : ℕ) → nextOf b (after b over k) .offer ≡ Offer.End
-over-offers b k = ap (λ (x : Cursor). nextOf b x .offer) (over-after b k) ∙ ap (λ (h : Handed). h .offer) (over-next b)
+over-offers : (b : List ℕ) (k : ℕ) → handedOf b (after b over k) .offer ≡ Offer.End
+over-offers b k = ap (λ (x : Cursor). handedOf b x .offer) (over-after b k) ∙ ap (λ (h : Handed). h .offer) (over-next b)
 
 -- the nexts from a cursor on hand out its song
-reads : (b : List ℕ) (es : List Event) (c : Cursor) (k : ℕ) → songFrom (turns b) b c ≡ Events es → nextOf b (after b c k) .offer ≡ eventAt es k
+reads : (b : List ℕ) (es : List Event) (c : Cursor) (k : ℕ) → songFrom (turns b) b c ≡ Events es → handedOf b (after b c k) .offer ≡ eventAt es k
 unfolding after
-reads b [] c zero e = let h : nextOf b c ≡ nothing = subst (λ (s : Song). Hands b (nextOf b c) s) e (hands-next b c) in ap (λ (x : Handed). x .offer) h
+reads b [] c zero e = let h : handedOf b c ≡ nothing = subst (λ (s : Song). Hands b (handedOf b c) s) e (hands-next b c) in ap (λ (x : Handed). x .offer) h
 reads b [] c (suc k) e =
-    let h : nextOf b c ≡ nothing = subst (λ (s : Song). Hands b (nextOf b c) s) e (hands-next b c) in
-    ap (λ (x : Cursor). nextOf b x .offer) (after-next b c k ∙ ap (λ (x : Handed). after b (x .cursor) k) h) ∙ over-offers b k
-reads b (x ∷ es) c zero e = subst (λ (s : Song). Hands b (nextOf b c) s) e (hands-next b c) .0
+    let h : handedOf b c ≡ nothing = subst (λ (s : Song). Hands b (handedOf b c) s) e (hands-next b c) in
+    ap (λ (x : Cursor). handedOf b x .offer) (after-next b c k ∙ ap (λ (x : Handed). after b (x .cursor) k) h) ∙ over-offers b k
+reads b (x ∷ es) c zero e = subst (λ (s : Song). Hands b (handedOf b c) s) e (hands-next b c) .0
 reads b (x ∷ es) c (suc k) e =
-    let h = subst (λ (s : Song). Hands b (nextOf b c) s) e (hands-next b c) in
-    ap (λ (x : Cursor). nextOf b x .offer) (after-next b c k) ∙ reads b es (nextOf b c .cursor) k (h .1)
+    let h = subst (λ (s : Song). Hands b (handedOf b c) s) e (hands-next b c) in
+    ap (λ (x : Cursor). handedOf b x .offer) (after-next b c k) ∙ reads b es (handedOf b c .cursor) k (h .1)
 
 -- ---- from the opening on
 
@@ -111,7 +110,7 @@ reads b (x ∷ es) c (suc k) e =
 after-opening : (b : List ℕ) (k : ℕ) → cursorAfter b k ≡ after b (openingOf b .cursor) k
 unfolding cursorAfter after
 after-opening b zero = refl
-after-opening b (suc k) = ap (λ (x : Cursor). nextOf b x .cursor) (after-opening b k)
+after-opening b (suc k) = ap (λ (x : Cursor). handedOf b x .cursor) (after-opening b k)
 
 -- a song of a file is that of its track
 track-song : (b : List ℕ) (es : List Event) → eventsOf b ≡ Events es → songFrom (turns b) b (trackCursor (headOf b) b) ≡ Events es
@@ -129,9 +128,9 @@ track-song b es e = long (ltb 65536 (length b)) e
 -- the nexts hand out the events of the file
 pub reads-all : ReadsAll
 unfolding offered openingOf
-reads-all b k = ap (λ (x : Cursor). nextOf b x .offer) (after-opening b k) ∙ go (eventsOf b) refl
+reads-all b k = ap (λ (x : Cursor). handedOf b x .offer) (after-opening b k) ∙ go (eventsOf b) refl
   where
-    go : (s : Song) → eventsOf b ≡ s → nextOf b (after b (firstCursor (eventsOf b) b) k) .offer ≡ entry (eventsOf b) k
+    go : (s : Song) → eventsOf b ≡ s → handedOf b (after b (firstCursor (eventsOf b) b) k) .offer ≡ entry (eventsOf b) k
     go (Refused number place) e = rw e (over-offers b k)
     go (Events es) e = rw e (reads b es (trackCursor (headOf b) b) k (track-song b es e))
 
@@ -166,7 +165,7 @@ fine (suc n) b c = go (λ further. fine n b further) (meetAt b c) refl
 
 -- every event that is handed out is in its ranges
 pub all-in-range : AllInRange
-unfolding nextOf Fine
+unfolding handedOf Fine
 all-in-range b c e h = subst (λ (o : Offer). Fine o) h (fine (turns b) b c)
 
 -- ---- frames
@@ -188,7 +187,7 @@ RisingSong low (Refused number place) = Unit {0}
 RisingSong low (Events es) = Rising low es
 
 -- the song from a cursor on rises from the frame of its U
-song-rises : (n : ℕ) (b : List ℕ) (c : Cursor) → RisingSong (frameAt (c .division) (c .sum)) (songFrom n b c)
+song-rises : (n : ℕ) (b : List ℕ) (c : Cursor) → RisingSong (frameOf (c .division) (c .sum)) (songFrom n b c)
 unfolding songFrom Rising RisingSong
 song-rises zero b c = tt
 song-rises (suc n) b c = go (λ further. song-rises n b further) (meetAt b c) refl
@@ -201,16 +200,16 @@ song-rises (suc n) b c = go (λ further. song-rises n b further) (meetAt b c) re
     given low e (Refused number place) h r = tt
     given low e (Events es) h r = (h, r)
 
-    go : ((further : Cursor) → RisingSong (frameAt (further .division) (further .sum)) (songFrom n b further)) → (m : Met) → meetAt b c ≡ m → RisingSong (frameAt (c .division) (c .sum)) (elim m [ Fault number place ↦ Refused number place | End ↦ Events [] | Passed further ↦ songFrom n b further | Given message further ↦ behindEvent (eventOf message further) (songFrom n b further) ])
+    go : ((further : Cursor) → RisingSong (frameOf (further .division) (further .sum)) (songFrom n b further)) → (m : Met) → meetAt b c ≡ m → RisingSong (frameOf (c .division) (c .sum)) (elim m [ Fault number place ↦ Refused number place | End ↦ Events [] | Passed further ↦ songFrom n b further | Given message further ↦ behindEvent (eventOf message further) (songFrom n b further) ])
     go more (Fault number place) e = tt
     go more End e = tt
     go more (Passed further) e =
         let f = meet-passed b c further e in
-        let r = subst (λ (d : ℕ). RisingSong (frameAt d (further .sum)) (songFrom n b further)) (f .same-division) (more further) in
-        down (frameAt (c .division) (c .sum)) (frameAt (c .division) (further .sum)) (songFrom n b further) (frame-rises (c .division) (c .sum) (further .sum) (f .rises)) r
+        let r = subst (λ (d : ℕ). RisingSong (frameOf d (further .sum)) (songFrom n b further)) (f .same-division) (more further) in
+        down (frameOf (c .division) (c .sum)) (frameOf (c .division) (further .sum)) (songFrom n b further) (frame-rises (c .division) (c .sum) (further .sum) (f .rises)) r
     go more (Given message further) e =
         let f = meet-given b c message further e .0 in
-        given (frameAt (c .division) (c .sum)) (eventOf message further) (songFrom n b further) (rw (f .same-division) (frame-rises (c .division) (c .sum) (further .sum) (f .rises))) (more further)
+        given (frameOf (c .division) (c .sum)) (eventOf message further) (songFrom n b further) (rw (f .same-division) (frame-rises (c .division) (c .sum) (further .sum) (f .rises))) (more further)
 
 -- an event of a rising list is not below the frame
 rising-at : (low : ℕ) (es : List Event) (k : ℕ) (e : Event) → Rising low es → eventAt es k ≡ Offer.Given e → low ≤ e .frame
@@ -243,5 +242,5 @@ never-fall b i j e f h p q = go (eventsOf b) refl
     go (Refused number place) t = let r : Offer.End ≡ Offer.Given e = rw t at p' in let z : _≡_ {A = ℕ} 0 1 = cc in absurd (omega arith)
     go (Events es) t =
         let c = trackCursor (headOf b) b in
-        let r : RisingSong (frameAt (c .division) (c .sum)) (Events es) = subst (λ (s : Song). RisingSong (frameAt (c .division) (c .sum)) s) (track-song b es t) (song-rises (turns b) b c) in
-        rising-two (frameAt (c .division) (c .sum)) es i j e f r h (rw t at p') (rw t at q')
+        let r : RisingSong (frameOf (c .division) (c .sum)) (Events es) = subst (λ (s : Song). RisingSong (frameOf (c .division) (c .sum)) s) (track-song b es t) (song-rises (turns b) b c) in
+        rising-two (frameOf (c .division) (c .sum)) es i j e f r h (rw t at p') (rw t at q')

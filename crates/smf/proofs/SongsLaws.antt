@@ -18,8 +18,7 @@ use Rattle.smf.specs.declared.Tested.{Tested}
 use Rattle.smf.specs.Faults.{Wrong}
 use Rattle.smf.specs.Faults.Wrong.{no-head, short-head, long-head, format, tracks, no-division, smpte, no-chunk, long-chunk, delta, event, late}
 use Rattle.smf.specs.Head.{headOf}
-use Rattle.smf.specs.Track.{Song, eventOf, behindEvent, meetAt, songFrom, over}
-use Rattle.smf.specs.Track.Song.{Refused, Events}
+use Rattle.smf.specs.Track.{Song, Events, Refused, eventOf, behindEvent, meetAt, songFrom, over}
 use Rattle.smf.specs.Songs.{startAt, turns, eventsOf, verdict, trackCursor, firstCursor, testOf, openingOf}
 use Rattle.smf.proofs.TrackLaws.{song-given}
 use Rattle.smf.proofs.FirstFaultLaws.{long-refused, refused-first, good-not-wrong}

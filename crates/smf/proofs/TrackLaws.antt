@@ -19,8 +19,7 @@ use Rattle.smf.specs.declared.Quantity.the-variants.{Bad, Good}
 use Rattle.smf.specs.Quantities.{quantityAt}
 use Rattle.smf.specs.Items.{isShort, itemAt}
 use Rattle.smf.specs.Ticks.{sumAfter, isLate}
-use Rattle.smf.specs.Track.{edgeOf, moved, eventOf, done, obeyed, meetAt, behindEvent, songFrom, nextFrom, nothing}
-use Rattle.smf.specs.Track.Song.{Refused, Events}
+use Rattle.smf.specs.Track.{Events, Refused, edgeOf, carried, eventOf, acted, obeyed, meetAt, behindEvent, songFrom, nextFrom, nothing}
 use Rattle.smf.specs.Songs.{turns}
 use Rattle.smf.proofs.QuantitiesLaws.{quantity-behind, quantity-edge}
 use Rattle.smf.proofs.ItemsLaws.{Placed, item-placed}
@@ -60,17 +59,17 @@ module _ (b : List ℕ) (c : Cursor) where
 
   -- each kind of event
   obeyed-led : (item : Item) (sum place : ℕ) → c .at < place → c .sum ≤ sum → Placed (edgeOf b c) place item → Led b c (obeyed item c sum place)
-  unfolding obeyed done
+  unfolding obeyed acted
   obeyed-led Item.Bad sum place h r p = omega arith
   obeyed-led Item.End sum place h r p = late-or sum place End (omega arith) (λ early. omega arith)
   obeyed-led (Item.Passed behind) sum place h r p =
-      late-or sum place (Passed (moved c sum behind 0 (c .tempo))) (omega arith)
+      late-or sum place (Passed (carried c sum behind 0 (c .tempo))) (omega arith)
       (λ early. record { after = omega arith; before = p .1; same-end = refl; same-division = refl; rises = r; early = early })
   obeyed-led (Item.Tempo tempo behind) sum place h r p =
-      late-or sum place (Passed (moved c sum behind 0 tempo)) (omega arith)
+      late-or sum place (Passed (carried c sum behind 0 tempo)) (omega arith)
       (λ early. record { after = omega arith; before = p .1; same-end = refl; same-division = refl; rises = r; early = early })
   obeyed-led (Item.Channel status first second behind) sum place h r p =
-      late-or sum place (Given (record { status = status; first = first; second = second }) (moved c sum behind status (c .tempo))) (omega arith)
+      late-or sum place (Given (record { status = status; first = first; second = second }) (carried c sum behind status (c .tempo))) (omega arith)
       (λ early. (
         record { after = omega arith; before = p .before; same-end = refl; same-division = refl; rises = r; early = early },
         record { low = p .low; high = p .high; first-in = p .first-in; second-in = p .second-in; short = p .short },

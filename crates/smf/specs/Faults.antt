@@ -14,8 +14,7 @@ use Rattle.smf.specs.Quantities.{twoAt, fourAt, quantityAt}
 use Rattle.smf.specs.Head.{chunkEnd}
 use Rattle.smf.specs.Items.{itemAt}
 use Rattle.smf.specs.Ticks.{sumAfter}
-use Rattle.smf.specs.Track.{edgeOf, meetAt}
-use Rattle.smf.specs.Track.Song.{Refused, Events}
+use Rattle.smf.specs.Track.{Events, Refused, edgeOf, meetAt}
 use Rattle.smf.specs.Songs.{startAt, eventsOf}
 
 -- a chunk that lies in the file, with its name and its length
@@ -35,10 +34,10 @@ pub record Tracked (b : List ℕ) (at : ℕ) : Type 0 where
   pub name : fourAt b at ≡ 1297379947
 
 -- a cursor in front of a delta time: where the track begins, and behind each event that is met
-pub data Reached (b : List ℕ) : Cursor → Type 0 where
-  begins : (at : ℕ) → Tracked b at → Reached b (startAt b (at + 8) (chunkEnd b at))
-  behind-passed : (c further : Cursor) → Reached b c → meetAt b c ≡ Passed further → Reached b further
-  behind-given : (c : Cursor) (message : Message) (further : Cursor) → Reached b c → meetAt b c ≡ Given message further → Reached b further
+pub data Arrived (b : List ℕ) : Cursor → Type 0 where
+  begins : (at : ℕ) → Tracked b at → Arrived b (startAt b (at + 8) (chunkEnd b at))
+  behind-passed : (c further : Cursor) → Arrived b c → meetAt b c ≡ Passed further → Arrived b further
+  behind-given : (c : Cursor) (message : Message) (further : Cursor) → Arrived b c → meetAt b c ≡ Given message further → Arrived b further
 
 -- the delta time at a cursor: so many ticks, and the place of the event behind it
 abbrev pub DeltaAt : List ℕ → Cursor → ℕ → ℕ → Type 0
@@ -65,11 +64,11 @@ pub data Wrong (b : List ℕ) : ℕ → ℕ → Type 0 where
   -- a chunk's length field is cut off, or its body goes past the file's end
   long-chunk : (at : ℕ) → Chunked b at → at + 4 ≤ length b → length b < chunkEnd b at → Wrong b 9 (at + 4)
   -- a delta time is cut off or longer than four bytes, or the track has no end
-  delta : (c : Cursor) → Reached b c → quantityAt b (edgeOf b c) (c .at) ≡ Bad → Wrong b 9 (c .at)
+  delta : (c : Cursor) → Arrived b c → quantityAt b (edgeOf b c) (c .at) ≡ Bad → Wrong b 9 (c .at)
   -- an event is not well formed
-  event : (c : Cursor) (ticks place : ℕ) → Reached b c → DeltaAt b c ticks place → itemAt b (edgeOf b c) (c .running) place ≡ Item.Bad → Wrong b 9 place
+  event : (c : Cursor) (ticks place : ℕ) → Arrived b c → DeltaAt b c ticks place → itemAt b (edgeOf b c) (c .running) place ≡ Item.Bad → Wrong b 9 place
   -- an event is past an hour, whatever it is
-  late : (c : Cursor) (ticks place : ℕ) → Reached b c → DeltaAt b c ticks place → 3600000000 * c .division < sumAfter c ticks → Wrong b 11 place
+  late : (c : Cursor) (ticks place : ℕ) → Arrived b c → DeltaAt b c ticks place → 3600000000 * c .division < sumAfter c ticks → Wrong b 11 place
 
 -- the first of what is wrong: nothing is wrong in front of it, and nothing of a smaller number at its place
 pub record First (b : List ℕ) (number place : ℕ) : Type 0 where

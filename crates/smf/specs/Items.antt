@@ -33,8 +33,8 @@ longAt b edge status at =
     cond (ltb edge (at + 2) || ltb 127 (u8At b at) || ltb 127 (u8At b (at + 1))) Bad (Channel status (u8At b at) (u8At b (at + 1)) (at + 2))
 
 -- a channel event: its status, and the data bytes that stand at a place
-unfoldable pub channelAt : List ℕ → ℕ → ℕ → ℕ → Item
-channelAt b edge status at = cond (isShort status) (shortAt b edge status at) (longAt b edge status at)
+unfoldable pub spokenAt : List ℕ → ℕ → ℕ → ℕ → Item
+spokenAt b edge status at = cond (isShort status) (shortAt b edge status at) (longAt b edge status at)
 
 -- a system exclusive event: the length at a place, and so many bytes
 unfoldable pub exclusiveAt : List ℕ → ℕ → ℕ → Item
@@ -53,4 +53,4 @@ metaAt b edge at =
 unfoldable pub itemAt : List ℕ → ℕ → ℕ → ℕ → Item
 itemAt b edge running at =
     let x = u8At b at in
-    cond (leb edge at) Bad (cond (ltb x 128) (cond (isChannel running) (channelAt b edge running at) Bad) (cond (ltb x 240) (channelAt b edge x (at + 1)) (cond (eqb x 255) (metaAt b edge (at + 1)) (cond (isExclusive x) (exclusiveAt b edge (at + 1)) Bad))))
+    cond (leb edge at) Bad (cond (ltb x 128) (cond (isChannel running) (spokenAt b edge running at) Bad) (cond (ltb x 240) (spokenAt b edge x (at + 1)) (cond (eqb x 255) (metaAt b edge (at + 1)) (cond (isExclusive x) (exclusiveAt b edge (at + 1)) Bad))))

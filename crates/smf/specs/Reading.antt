@@ -8,18 +8,17 @@ use Rattle.smf.specs.declared.Event.{Event}
 use Rattle.smf.specs.declared.Offer.{Offer}
 use Rattle.smf.specs.declared.Offer.the-variants.{End, Given}
 use Rattle.smf.specs.Items.{isShort}
-use Rattle.smf.specs.Track.{Song}
-use Rattle.smf.specs.Track.Song.{Refused, Events}
-use Rattle.smf.specs.Songs.{eventsOf, openingOf, nextOf}
+use Rattle.smf.specs.Track.{Song, Events, Refused}
+use Rattle.smf.specs.Songs.{eventsOf, openingOf, handedOf}
 
 -- the cursor after so many nexts from the opening on
 unfoldable pub cursorAfter : List ℕ → ℕ → Cursor
 cursorAfter b zero = openingOf b .cursor
-cursorAfter b (suc k) = nextOf b (cursorAfter b k) .cursor
+cursorAfter b (suc k) = handedOf b (cursorAfter b k) .cursor
 
 -- what next number k offers, from 0
 unfoldable pub offered : List ℕ → ℕ → Offer
-offered b k = nextOf b (cursorAfter b k) .offer
+offered b k = handedOf b (cursorAfter b k) .offer
 
 -- event number k of a list, from 0; none past the last
 abbrev pub eventAt : List Event → ℕ → Offer
@@ -51,4 +50,4 @@ pub record InRange (e : Event) : Type 0 where
 
 -- every event that is handed out is, from any cursor, of any bytes
 abbrev pub AllInRange : Type 0
-AllInRange = (b : List ℕ) (c : Cursor) (e : Event) → nextOf b c .offer ≡ Given e → InRange e
+AllInRange = (b : List ℕ) (c : Cursor) (e : Event) → handedOf b c .offer ≡ Given e → InRange e

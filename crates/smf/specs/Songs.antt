@@ -14,8 +14,7 @@ use Rattle.smf.specs.declared.Tested.{Tested}
 use Rattle.smf.specs.Quantities.{twoAt}
 use Rattle.smf.specs.Head.{headOf}
 use Rattle.smf.specs.Items.{isShort}
-use Rattle.smf.specs.Track.{Song, songFrom, nextFrom, over}
-use Rattle.smf.specs.Track.Song.{Refused, Events}
+use Rattle.smf.specs.Track.{Song, Events, Refused, songFrom, nextFrom, over}
 
 -- at the track's first delta time: no status runs, the tempo is 500,000 and U is 0
 abbrev pub startAt : List ℕ → ℕ → ℕ → Cursor
@@ -58,5 +57,5 @@ unfoldable pub openingOf : List ℕ → Opening
 openingOf b = record { number = testOf b .number; place = testOf b .place; cursor = firstCursor (eventsOf b) b }
 
 -- the next channel event of a file that is lent, and the cursor behind it
-unfoldable pub nextOf : List ℕ → Cursor → Handed
-nextOf b c = nextFrom (turns b) b c
+unfoldable pub handedOf : List ℕ → Cursor → Handed
+handedOf b c = nextFrom (turns b) b c

@@ -13,5 +13,5 @@ abbrev pub isLate : ℕ → ℕ → Bool
 isLate division sum = ltb (3600000000 * division) sum
 
 -- the frame of U: floor(U * 44,100 / (division * 1,000,000))
-unfoldable pub frameAt : ℕ → ℕ → ℕ
-frameAt division sum = sum * 44100 / (division * 1000000)
+unfoldable pub frameOf : ℕ → ℕ → ℕ
+frameOf division sum = sum * 44100 / (division * 1000000)

@@ -15,20 +15,20 @@ use Rattle.smf.specs.declared.Quantity.the-variants.{Bad, Good}
 use Rattle.smf.specs.declared.Met.the-variants.{Fault, End, Passed, Given}
 use Rattle.smf.specs.Quantities.{quantityAt}
 use Rattle.smf.specs.Items.{itemAt}
-use Rattle.smf.specs.Ticks.{sumAfter, isLate, frameAt}
+use Rattle.smf.specs.Ticks.{sumAfter, isLate, frameOf}
 
 -- where the track ends: the file that is lent may be shorter than the one that was opened
 abbrev pub edgeOf : List ℕ → Cursor → ℕ
 edgeOf b c = min (c .end) (length b)
 
 -- the cursor behind an event at which U is `sum`, with a running status and a tempo
-abbrev pub moved : Cursor → ℕ → ℕ → ℕ → ℕ → Cursor
-moved c sum behind running tempo =
+abbrev pub carried : Cursor → ℕ → ℕ → ℕ → ℕ → Cursor
+carried c sum behind running tempo =
     record { at = behind; end = c .end; running = running; division = c .division; tempo = tempo; sum = sum }
 
 -- a channel event: a message in front of a cursor, at the frame of the cursor's U
 abbrev pub eventOf : Message → Cursor → Event
-eventOf m further = record { frame = frameAt (further .division) (further .sum); status = m .status; first = m .first; second = m .second }
+eventOf m further = record { frame = frameOf (further .division) (further .sum); status = m .status; first = m .first; second = m .second }
 
 -- whether an event is not well formed
 abbrev pub isBad : Item → Bool
@@ -39,17 +39,17 @@ isBad (Item.Tempo tempo behind) = false
 isBad (Item.Channel status first second behind) = false
 
 -- what an event does at which U is `sum`: meta and system exclusive events end running status, a tempo counts from behind its event on
-unfoldable pub done : Item → Cursor → ℕ → ℕ → Met
-done Item.Bad c sum place = Fault 9 place
-done Item.End c sum place = End
-done (Item.Passed behind) c sum place = Passed (moved c sum behind 0 (c .tempo))
-done (Item.Tempo tempo behind) c sum place = Passed (moved c sum behind 0 tempo)
-done (Item.Channel status first second behind) c sum place =
-    Given (record { status = status; first = first; second = second }) (moved c sum behind status (c .tempo))
+unfoldable pub acted : Item → Cursor → ℕ → ℕ → Met
+acted Item.Bad c sum place = Fault 9 place
+acted Item.End c sum place = End
+acted (Item.Passed behind) c sum place = Passed (carried c sum behind 0 (c .tempo))
+acted (Item.Tempo tempo behind) c sum place = Passed (carried c sum behind 0 tempo)
+acted (Item.Channel status first second behind) c sum place =
+    Given (record { status = status; first = first; second = second }) (carried c sum behind status (c .tempo))
 
 -- the same with its refusals, of which 9 goes before 11
 unfoldable pub obeyed : Item → Cursor → ℕ → ℕ → Met
-obeyed item c sum place = cond (isBad item) (Fault 9 place) (cond (isLate (c .division) sum) (Fault 11 place) (done item c sum place))
+obeyed item c sum place = cond (isBad item) (Fault 9 place) (cond (isLate (c .division) sum) (Fault 11 place) (acted item c sum place))
 
 -- the delta time and the event at a cursor
 unfoldable pub meetAt : List ℕ → Cursor → Met

@@ -2,7 +2,7 @@
 ghost use mathlib.Core.Path.{_≡_};
 ghost use mathlib.Core.Bool.{cond};
 ghost use Prim.Native.Nat.{_+_, _≤_};
-ghost use Rattle.smf.specs.Items.{isChannel, isShort, isExclusive, shortAt, longAt, channelAt, exclusiveAt, metaOf, metaAt, itemAt};
+ghost use Rattle.smf.specs.Items.{isChannel, isShort, isExclusive, shortAt, longAt, spokenAt, exclusiveAt, metaOf, metaAt, itemAt};
 use crate::Item;
 use crate::Quantity;
 use crate::quantities::quantity_at;
@@ -16,7 +16,7 @@ fn is_channel(status: u8) -> bool
 }
 
 // A status with one data byte.
-fn is_short(status: u8) -> bool
+pub fn is_short(status: u8) -> bool
     ensures { λ r. ⌜ r ≡ isShort status ⌝ }
 {
     192 <= status && status <= 223
@@ -72,8 +72,8 @@ fn long_at(b: &[u8], edge: u32, status: u8, at: u32) -> Item
 }
 
 // A channel event of a status, whose data stands at a place.
-fn channel_at(b: &[u8], edge: u32, status: u8, at: u32) -> Item
-    ensures { λ r. ⌜ r ≡ channelAt (now (b .entry)) edge status at ⌝ }
+fn spoken_at(b: &[u8], edge: u32, status: u8, at: u32) -> Item
+    ensures { λ r. ⌜ r ≡ spokenAt (now (b .entry)) edge status at ⌝ }
 {
     if is_short(status) {
         return short_at(b, edge, status, at);
@@ -155,7 +155,7 @@ pub fn item_at(b: &[u8], edge: u32, running: u8, at: u32) -> Item
         return running_at(b, edge, running, at);
     }
     if x < 240 {
-        return channel_at(b, edge, x, at + 1);
+        return spoken_at(b, edge, x, at + 1);
     }
     if x == 255 {
         return meta_at(b, edge, at + 1);
@@ -168,10 +168,10 @@ pub fn item_at(b: &[u8], edge: u32, running: u8, at: u32) -> Item
 
 // A data byte where a status runs.
 fn running_at(b: &[u8], edge: u32, running: u8, at: u32) -> Item
-    ensures { λ r. ⌜ r ≡ cond (isChannel running) (channelAt (now (b .entry)) edge running at) Item.Bad ⌝ }
+    ensures { λ r. ⌜ r ≡ cond (isChannel running) (spokenAt (now (b .entry)) edge running at) Item.Bad ⌝ }
 {
     if is_channel(running) {
-        return channel_at(b, edge, running, at);
+        return spoken_at(b, edge, running, at);
     }
     Item::Bad
 }

@@ -3,7 +3,7 @@ ghost use mathlib.Core.Path.{_≡_};
 ghost use Prim.Native.Nat.{_≤_};
 ghost use lib.ListN.{length};
 ghost use Rattle.smf.specs.Head.{headOf};
-ghost use Rattle.smf.specs.Songs.{testOf, openingOf, nextOf, trackCursor};
+ghost use Rattle.smf.specs.Songs.{testOf, openingOf, handedOf, bytesOf, trackCursor};
 
 mod head;
 mod items;
@@ -154,7 +154,17 @@ fn first_cursor(file: &[u8]) -> Cursor
 
 // The next channel event of the lent file from a cursor on, and the cursor behind it.
 pub fn next(file: &[u8], cursor: Cursor) -> Handed
-    ensures { λ r. ⌜ r ≡ nextOf (now (file .entry)) cursor ⌝ }
+    ensures { λ r. ⌜ r ≡ handedOf (now (file .entry)) cursor ⌝ }
 {
     track::next_from(file, cursor)
+}
+
+// How many bytes an event has: two or three.
+pub fn size(e: Event) -> usize
+    ensures { λ r. ⌜ r ≡ length (bytesOf e) ⌝ }
+{
+    if items::is_short(e.status) {
+        return 2;
+    }
+    3
 }

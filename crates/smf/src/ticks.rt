@@ -1,7 +1,7 @@
 // Ticks to frames.
 ghost use mathlib.Core.Path.{_≡_};
 ghost use Prim.Native.Nat.{_+_, _*_, _<_, _≤_};
-ghost use Rattle.smf.specs.Ticks.{sumAfter, isLate, frameAt};
+ghost use Rattle.smf.specs.Ticks.{sumAfter, isLate, frameOf};
 use crate::Cursor;
 
 // The highest U: an hour.
@@ -32,9 +32,9 @@ pub fn sum_after(c: Cursor, ticks: u32) -> u64
 }
 
 // The frame of U.
-pub fn frame_at(division: u16, sum: u64) -> u32
+pub fn frame_of(division: u16, sum: u64) -> u32
     requires { ⌜ sum ≤ 3600000000 * division ⌝ }
-    ensures { λ r. ⌜ r ≡ frameAt division sum ⌝ }
+    ensures { λ r. ⌜ r ≡ frameOf division sum ⌝ }
 {
     if division == 0 {
         return 0;

@@ -2,7 +2,7 @@
 ghost use mathlib.Core.Path.{_≡_};
 ghost use Prim.Native.Nat.{_*_, _<_, _≤_, min};
 ghost use lib.ListN.{length};
-ghost use Rattle.smf.specs.Track.{moved, eventOf, isBad, done, obeyed, meetAt, songFrom, nextFrom, over, nothing};
+ghost use Rattle.smf.specs.Track.{carried, eventOf, isBad, acted, obeyed, meetAt, songFrom, nextFrom, over, nothing};
 ghost use Rattle.smf.specs.Ticks.{sumAfter};
 ghost use Rattle.smf.specs.Songs.{verdict, turns};
 use crate::Cursor;
@@ -16,7 +16,7 @@ use crate::Quantity;
 use crate::Tested;
 use crate::items::item_at;
 use crate::quantities::quantity_at;
-use crate::ticks::frame_at;
+use crate::ticks::frame_of;
 use crate::ticks::is_late;
 use crate::ticks::sum_after;
 
@@ -31,8 +31,8 @@ fn edge_of(b: &[u8], end: u32) -> u32
 }
 
 // The cursor behind an event.
-fn moved_to(c: Cursor, sum: u64, behind: u32, running: u8, tempo: u32) -> Cursor
-    ensures { λ r. ⌜ r ≡ moved c sum behind running tempo ⌝ }
+fn carried_to(c: Cursor, sum: u64, behind: u32, running: u8, tempo: u32) -> Cursor
+    ensures { λ r. ⌜ r ≡ carried c sum behind running tempo ⌝ }
 {
     Cursor {
         at: behind,
@@ -50,7 +50,7 @@ fn event_of(m: Message, further: Cursor) -> Event
     ensures { λ r. ⌜ r ≡ eventOf m further ⌝ }
 {
     Event {
-        frame: frame_at(further.division, further.sum),
+        frame: frame_of(further.division, further.sum),
         status: m.status,
         first: m.first,
         second: m.second,
@@ -79,17 +79,17 @@ fn is_bad(it: Item) -> bool
 }
 
 // What an event does.
-fn done_at(it: Item, c: Cursor, sum: u64, place: u32) -> Met
-    ensures { λ r. ⌜ r ≡ done it c sum place ⌝ }
+fn acted_at(it: Item, c: Cursor, sum: u64, place: u32) -> Met
+    ensures { λ r. ⌜ r ≡ acted it c sum place ⌝ }
 {
     match it {
         Item::Bad => Met::Fault { number: 9, place },
         Item::End => Met::End,
         Item::Passed { behind } => Met::Passed {
-            further: moved_to(c, sum, behind, 0, c.tempo),
+            further: carried_to(c, sum, behind, 0, c.tempo),
         },
         Item::Tempo { tempo, behind } => Met::Passed {
-            further: moved_to(c, sum, behind, 0, tempo),
+            further: carried_to(c, sum, behind, 0, tempo),
         },
         Item::Channel {
             status,
@@ -102,7 +102,7 @@ fn done_at(it: Item, c: Cursor, sum: u64, place: u32) -> Met
                 first,
                 second,
             },
-            further: moved_to(c, sum, behind, status, c.tempo),
+            further: carried_to(c, sum, behind, status, c.tempo),
         },
     }
 }
@@ -118,7 +118,7 @@ fn obey(it: Item, c: Cursor, ticks: u32, place: u32) -> Met
     if is_late(c.division, c.sum, ticks, c.tempo) {
         return Met::Fault { number: 11, place };
     }
-    done_at(it, c, sum_after(c, ticks), place)
+    acted_at(it, c, sum_after(c, ticks), place)
 }
 
 // The delta time and the event at a cursor.

@@ -1,5 +1,5 @@
 -- `next` meets its contract.
-use Rattle.smf.specs.Songs.{nextOf}
+use Rattle.smf.specs.Songs.{handedOf}
 use borrow.Author.Needs.{needs}
 use Rattle.smf.proofs.next.Statement.{statement}
 use Rattle.smf.proofs.next.Tie as tie
@@ -8,7 +8,7 @@ next-from-requires : tie.Need-next-from-requires
 next-from-requires c κs = search needs
 
 returns : tie.Need-returns
-unfolding nextOf
+unfolding handedOf
 returns c = c .next-from .ensures
 
 pub next-spec : {M : Type 1} → statement M

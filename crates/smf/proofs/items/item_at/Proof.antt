@@ -22,17 +22,17 @@ returns-2 c =
     let x = c .before .before .byte .ensures in
     rw (lt-leb _ _ (c .before .before .before .if1 .left), sym x, lt-ltb _ _ (c .before .if2 .taken)) (c .running-at .ensures)
 
-add-channel-at : tie.Need-add-channel-at
-add-channel-at c = search needs
+add-spoken-at : tie.Need-add-spoken-at
+add-spoken-at c = search needs
 
-channel-at-requires : tie.Need-channel-at-requires
-channel-at-requires c κs = search needs
+spoken-at-requires : tie.Need-spoken-at-requires
+spoken-at-requires c κs = search needs
 
 returns-3 : tie.Need-returns-3
 unfolding itemAt
 returns-3 c =
     let x = c .before .before .before .byte .ensures in
-    rw (lt-leb _ _ (c .before .before .before .before .if1 .left), sym x, le-ltb _ _ (c .before .before .if2 .left), lt-ltb _ _ (c .before .if3 .taken)) (c .channel-at .ensures)
+    rw (lt-leb _ _ (c .before .before .before .before .if1 .left), sym x, le-ltb _ _ (c .before .before .if2 .left), lt-ltb _ _ (c .before .if3 .taken)) (c .spoken-at .ensures)
 
 add-meta-at : tie.Need-add-meta-at
 add-meta-at c = search needs
@@ -77,8 +77,8 @@ item-at-spec =
     byte-requires
     running-at-requires
     returns-2
-    add-channel-at
-    channel-at-requires
+    add-spoken-at
+    spoken-at-requires
     returns-3
     add-meta-at
     meta-at-requires

@@ -7,14 +7,14 @@ use Rattle.smf.proofs.items.running_at.Tie as tie
 is-channel-requires : tie.Need-is-channel-requires
 is-channel-requires c κs = search needs
 
-channel-at-requires : tie.Need-channel-at-requires
-channel-at-requires c κs = search needs
+spoken-at-requires : tie.Need-spoken-at-requires
+spoken-at-requires c κs = search needs
 
 returns : tie.Need-returns
-returns c = rw (sym (c .before .before .is-channel .ensures) ∙ c .before .if1 .taken) (c .channel-at .ensures)
+returns c = rw (sym (c .before .before .is-channel .ensures) ∙ c .before .if1 .taken) (c .spoken-at .ensures)
 
 returns-2 : tie.Need-returns-2
 returns-2 c = rw (sym (c .before .is-channel .ensures) ∙ c .if1 .left) refl
 
 pub running-at-spec : {M : Type 1} → statement M
-running-at-spec = tie.close (tie.spec is-channel-requires channel-at-requires returns returns-2)
+running-at-spec = tie.close (tie.spec is-channel-requires spoken-at-requires returns returns-2)

@@ -23,12 +23,12 @@ returns-2 c = rw (sym (c .before .before .before .is-bad .ensures) ∙ c .before
 sum-after-requires : tie.Need-sum-after-requires
 sum-after-requires c κs = ltb-false _ _ (sym (c .before .is-late .ensures) ∙ c .if2 .left)
 
-done-at-requires : tie.Need-done-at-requires
-done-at-requires c κs = search needs
+acted-at-requires : tie.Need-acted-at-requires
+acted-at-requires c κs = search needs
 
 returns-3 : tie.Need-returns-3
 unfolding obeyed
-returns-3 c = rw (sym (c .before .before .before .before .before .is-bad .ensures) ∙ c .before .before .before .before .if1 .left, sym (c .before .before .before .is-late .ensures) ∙ c .before .before .if2 .left) (rw (c .before .sum-after .ensures) at (c .done-at .ensures))
+returns-3 c = rw (sym (c .before .before .before .before .before .is-bad .ensures) ∙ c .before .before .before .before .if1 .left, sym (c .before .before .before .is-late .ensures) ∙ c .before .before .if2 .left) (rw (c .before .sum-after .ensures) at (c .acted-at .ensures))
 
 pub obey-spec : {M : Type 1} → statement M
 obey-spec =
@@ -39,5 +39,5 @@ obey-spec =
     is-late-requires
     returns-2
     sum-after-requires
-    done-at-requires
+    acted-at-requires
     returns-3)

@@ -1,16 +1,16 @@
--- `frame_at` meets its contract.
+-- `frame_of` meets its contract.
 use lib.Dec.{lit<}
 use mathlib.Core.Path.{_≡_, refl}
 use native.Mathlib.Omega.{arith}
 use native.Mathlib.Nat.{lt-of-le-of-lt}
 use Rattle.smf.proofs.TicksLaws.{frame-in}
-use Rattle.smf.specs.Ticks.{frameAt}
+use Rattle.smf.specs.Ticks.{frameOf}
 use borrow.Author.Needs.{needs}
-use Rattle.smf.proofs.ticks.frame_at.Statement.{statement}
-use Rattle.smf.proofs.ticks.frame_at.Tie as tie
+use Rattle.smf.proofs.ticks.frame_of.Statement.{statement}
+use Rattle.smf.proofs.ticks.frame_of.Tie as tie
 
 returns : tie.Need-returns
-unfolding frameAt
+unfolding frameOf
 returns c =
     let none : c .before .args .division ≡ 0 = c .if1 .taken in
     let still : c .before .args .sum ≡ 0 = omega (arith, none) in
@@ -26,13 +26,13 @@ div-result : tie.Need-div-result
 div-result c = search needs
 
 cast-result : tie.Need-cast-result
-unfolding frameAt
+unfolding frameOf
 cast-result c = record { fits = lt-of-le-of-lt (frame-in (c .before .args .division) (c .before .args .sum) (c .before .pre)) (lit< tt) }
 
 returns-2 : tie.Need-returns-2
-unfolding frameAt
+unfolding frameOf
 returns-2 c = refl
 
-pub frame-at-spec : {M : Type 1} → statement M
-frame-at-spec =
+pub frame-of-spec : {M : Type 1} → statement M
+frame-of-spec =
     tie.close (tie.spec returns mul-result mul-result-2 div-result cast-result returns-2)
