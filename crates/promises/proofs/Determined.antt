@@ -16,6 +16,11 @@ use Rattle.reader.specs.declared.Opened.{Opened}
 use Rattle.reader.specs.Reader.{openedOf, nextOf, nthListed}
 use Rattle.reader.specs.declared.Taken.{Taken}
 use Rattle.reader.specs.declared.Step.{Step}
+use lib.ListN.{length}
+use Rattle.smf.specs.declared.Handed.{Handed}
+use Rattle.smf.specs.declared.Opening.{Opening}
+use Rattle.smf.specs.declared.Tested.{Tested}
+use Rattle.smf.specs.Songs.{testOf, openingOf, handedOf, bytesOf}
 use Rattle.promises.specs.Determined as D
 use Rattle.state.specs.Board as StateBoard
 use Rattle.state.specs.Quiet as StateQuiet
@@ -71,6 +76,19 @@ step l p = record { listed = l; place = p }
 
 pub step-from-determined : D.StepFromDetermined
 step-from-determined bank at a b h k = ap₂ step (h .0 ∙ sym (k .0)) (h .1 ∙ sym (k .1))
+
+-- ---- smf
+pub song-test-determined : D.SongTestDetermined
+song-test-determined file = equation Tested (testOf file)
+
+pub song-open-determined : D.SongOpenDetermined
+song-open-determined file = equation Opening (openingOf file)
+
+pub song-next-determined : D.SongNextDetermined
+song-next-determined file cursor = equation Handed (handedOf file cursor)
+
+pub event-size-determined : D.EventSizeDetermined
+event-size-determined e = equation ℕ (length (bytesOf e))
 
 -- ---- records
 pub window-determined : D.WindowDetermined

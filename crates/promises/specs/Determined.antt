@@ -7,6 +7,7 @@ use Prim.Native.Nat.{ℕ}
 use mathlib.Core.Bool.{Bool, cond}
 use denote.Ref.{RefT, now}
 use lib.IntN.{ℤ}
+use lib.ListN.{length}
 use Rattle.state.specs.declared.Answered.{Answered}
 use Rattle.state.specs.declared.Engine.{Engine}
 use Rattle.promises.specs.Calls.{Call, does, written}
@@ -20,6 +21,12 @@ use Rattle.reader.specs.Reader.{openedOf, nextOf, nthListed, further}
 use Rattle.reader.specs.declared.Reader.{Reader}
 use Rattle.reader.specs.declared.Taken.{Taken}
 use Rattle.reader.specs.declared.Step.{Step}
+use Rattle.smf.specs.declared.Cursor.{Cursor}
+use Rattle.smf.specs.declared.Event.{Event}
+use Rattle.smf.specs.declared.Handed.{Handed}
+use Rattle.smf.specs.declared.Opening.{Opening}
+use Rattle.smf.specs.declared.Tested.{Tested}
+use Rattle.smf.specs.Songs.{testOf, openingOf, handedOf, bytesOf}
 use Rattle.records.specs.Memory.{partOf}
 use Rattle.state.specs.Board as StateBoard
 use Rattle.state.specs.Quiet as StateQuiet
@@ -118,6 +125,28 @@ NthDetermined = (bank : List ℕ) (k : ℕ) → Settles Listed (λ r. r ≡ nthL
 abbrev pub StepFromDetermined : Type 0
 StepFromDetermined =
     (bank : List ℕ) (at : ℕ) → Settles Step (λ r. (r .listed ≡ listed bank at) × (r .place ≡ further bank at))
+
+-- ---- smf
+
+-- a file's number and place
+-- contract of smf::test(file)
+abbrev pub SongTestDetermined : Type 0
+SongTestDetermined = (file : List ℕ) → Settles Tested (λ r. r ≡ testOf file)
+
+-- the same, and the cursor in front of its first event
+-- contract of smf::open(file)
+abbrev pub SongOpenDetermined : Type 0
+SongOpenDetermined = (file : List ℕ) → Settles Opening (λ r. r ≡ openingOf file)
+
+-- what a cursor in a file is offered, and the cursor behind it
+-- contract of smf::next(file, cursor)
+abbrev pub SongNextDetermined : Type 0
+SongNextDetermined = (file : List ℕ) (cursor : Cursor) → Settles Handed (λ r. r ≡ handedOf file cursor)
+
+-- how many bytes an event has
+-- contract of smf::size(e)
+abbrev pub EventSizeDetermined : Type 0
+EventSizeDetermined = (e : Event) → Settles ℕ (λ r. r ≡ length (bytesOf e))
 
 -- ---- records
 
