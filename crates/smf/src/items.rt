@@ -45,12 +45,15 @@ fn short_at(b: &[u8], edge: u32, status: u8, at: u32) -> Item
 fn long_at(b: &[u8], edge: u32, status: u8, at: u32) -> Item
     ensures { λ r. ⌜ r ≡ longAt (now (b .entry)) edge status at ⌝ }
 {
-    if edge <= at || edge - at < 2 {
+    if (edge as usize) < (at as usize) + 2 {
         return Item::Bad;
     }
     let first = arith::byte(b, at as usize);
+    if 127 < first {
+        return Item::Bad;
+    }
     let second = arith::byte(b, (at + 1) as usize);
-    if 127 < first || 127 < second {
+    if 127 < second {
         return Item::Bad;
     }
     Item::Channel {
@@ -79,7 +82,7 @@ fn exclusive_at(b: &[u8], edge: u32, at: u32) -> Item
     match q {
         Quantity::Bad => Item::Bad,
         Quantity::Good { value, behind } => {
-            if edge - behind < value {
+            if (edge as usize) < (behind as usize) + (value as usize) {
                 return Item::Bad;
             }
             Item::Passed {
@@ -122,7 +125,10 @@ fn meta_at(b: &[u8], edge: u32, at: u32) -> Item
     match q {
         Quantity::Bad => Item::Bad,
         Quantity::Good { value, behind } => {
-            if 127 < kind || edge - behind < value {
+            if 127 < kind {
+                return Item::Bad;
+            }
+            if (edge as usize) < (behind as usize) + (value as usize) {
                 return Item::Bad;
             }
             meta_of(b, kind, value, behind)

@@ -62,7 +62,15 @@ fn is_bad(it: Item) -> bool
 {
     match it {
         Item::Bad => true,
-        _ => false,
+        Item::End => false,
+        Item::Passed { behind: _ } => false,
+        Item::Tempo { tempo: _, behind: _ } => false,
+        Item::Channel {
+            status: _,
+            first: _,
+            second: _,
+            behind: _,
+        } => false,
     }
 }
 
@@ -100,7 +108,7 @@ fn obey(it: Item, c: Cursor, ticks: u32, place: u32) -> Met
     if is_bad(it) {
         return Met::Fault { number: 9, place };
     }
-    if is_late(c, ticks) {
+    if is_late(c.division, c.sum, ticks, c.tempo) {
         return Met::Fault { number: 11, place };
     }
     done_at(it, c, sum_after(c, ticks), place)
