@@ -1,1 +1,4 @@
-pub mod FramesLaws
+pub mod QuantitiesLaws
+pub mod ItemsLaws
+pub mod TicksLaws
+pub mod TrackLaws

@@ -1,82 +1,126 @@
+-- `quantity_at` meets its contract.
+use borrow.Author.Needs.{needs}
+use mathlib.Core.List.{List}
+use mathlib.Core.Path.{_≡_, refl, sym, ap, _∙_}
+use Prim.Native.Nat.{ℕ, suc, _+_, _*_, _-_, _^_, _<_, _≤_}
+use native.Mathlib.Nat.{pow-suc, pow-le-pow-right}
+use native.Mathlib.Omega.{arith}
+use lib.Dec.{lit<}
+use Rattle.arith.specs.Bytes.{u8At}
+use Rattle.smf.specs.declared.Quantity.the-variants.{Bad, Good}
+use Rattle.smf.specs.Quantities.{quantityAt, quantityFrom}
+use Rattle.smf.proofs.QuantitiesLaws.{from-last, from-more, from-edge}
 use Rattle.smf.proofs.quantities.quantity_at.Statement.{statement}
 use Rattle.smf.proofs.quantities.quantity_at.Tie as tie
-use Rattle.smf.proofs.quantities.quantity_at.Reads as reads
-use Rattle.smf.proofs.quantities.quantity_at.Lts as lts
-use Rattle.arith.proofs.byte.Reads as byte-reads
 
+-- of four bytes the rest is read, behind the bits of the first n
 abbrev Inv-loop : tie.InvT-loop
-Inv-loop b edge at value₀ p₀ n₀ value p n = ?
+Inv-loop b edge at value₀ p₀ n₀ value p n = (quantityAt b edge at ≡ quantityFrom (4 - n) b edge p value) × (n ≤ 4) × (value < 128 ^ n)
 
 abbrev μ-loop : tie.MeasureT-loop
-μ-loop b edge at value₀ p₀ n₀ value p n = ?
+μ-loop b edge at value₀ p₀ n₀ value p n = 4 - n
 
--- src/quantities.rt:59:5
 loop-holds : tie.Need-loop-holds Inv-loop μ-loop
-loop-holds c = ?
+unfolding quantityAt
+loop-holds c = (refl, omega arith, lit< tt)
 
--- src/quantities.rt:60:32
-cast-byte : tie.Need-cast-byte Inv-loop μ-loop
-cast-byte c = ?
+-- no byte may follow
+from-none : (b : List ℕ) (edge at v : ℕ) → quantityFrom 0 b edge at v ≡ Bad
+unfolding quantityFrom
+from-none b edge at v = refl
 
--- src/quantities.rt:60:13
-byte-requires : tie.Need-byte-requires Inv-loop μ-loop
-byte-requires c κs = ?
+-- seven bits more
+grown : (n value x : ℕ) → n < 4 → value < 128 ^ n → x < 128 → (value * 128 + x < 128 ^ (n + 1)) × (value * 128 + x < 268435456)
+grown n value x h v k =
+    let one : n + 1 ≡ suc n = omega arith in
+    let more : 128 ^ (n + 1) ≡ 128 ^ n * 128 = ap (λ (k : ℕ). 128 ^ k) one ∙ pow-suc 128 n in
+    let room : 128 ^ (n + 1) ≤ 128 ^ 4 = pow-le-pow-right {n = 128} (lit< tt) {i = n + 1} {j = 4} (omega arith) in
+    let next : value * 128 + x < 128 ^ (n + 1) = omega (arith, more) in
+    (next, omega (arith, next, room))
 
--- src/quantities.rt:63:24
-mul-t12 : tie.Need-mul-t12 Inv-loop μ-loop
-mul-t12 c = ?
-
--- src/quantities.rt:63:39
-cast-t13 : tie.Need-cast-t13 Inv-loop μ-loop
-cast-t13 c = ?
-
--- src/quantities.rt:63:24
-add-t14 : tie.Need-add-t14 Inv-loop μ-loop
-add-t14 c = ?
-
--- src/quantities.rt:64:25
-add-t15 : tie.Need-add-t15 Inv-loop μ-loop
-add-t15 c = ?
-
--- src/quantities.rt:62:13
 returns : tie.Need-returns Inv-loop μ-loop
-returns c = ?
+returns c =
+    let l = c .before .before in
+    let a = l .before .before .args in
+    (sym (l .loop .inv .0 ∙ from-edge (4 - l .loop .n) (a .b .now) (a .edge) (l .loop .p) (l .loop .value) (c .if1 .taken)), lit< tt)
 
--- src/quantities.rt:67:17
-mul-value : tie.Need-mul-value Inv-loop μ-loop
-mul-value c = ?
+cast-byte : tie.Need-cast-byte Inv-loop μ-loop
+cast-byte c = search needs
 
--- src/quantities.rt:67:32
-cast-value : tie.Need-cast-value Inv-loop μ-loop
-cast-value c = ?
+byte-requires : tie.Need-byte-requires Inv-loop μ-loop
+byte-requires c κs = search needs
 
--- src/quantities.rt:67:17
-add-value : tie.Need-add-value Inv-loop μ-loop
-add-value c = ?
+mul-t10 : tie.Need-mul-t10 Inv-loop μ-loop
+mul-t10 c =
+    let l = c .before .before .before .before in
+    let g = grown (l .loop .n) (l .loop .value) 0 (omega arith) (l .loop .inv .2) (lit< tt) in
+    omega (arith, g)
 
--- src/quantities.rt:68:13
-add-p : tie.Need-add-p Inv-loop μ-loop
-add-p c = ?
+cast-t11 : tie.Need-cast-t11 Inv-loop μ-loop
+cast-t11 c = search needs
 
--- src/quantities.rt:69:13
-add-n : tie.Need-add-n Inv-loop μ-loop
-add-n c = ?
+add-t12 : tie.Need-add-t12 Inv-loop μ-loop
+add-t12 c =
+    let l = c .before .before .before .before in
+    let g = grown (l .loop .n) (l .loop .value) (c .before .byte .result) (omega arith) (l .loop .inv .2) (c .if2 .taken) in
+    omega (arith, g)
 
--- src/quantities.rt:59:5
-loop-less : tie.Need-loop-less Inv-loop μ-loop
-loop-less c = ?
+add-t13 : tie.Need-add-t13 Inv-loop μ-loop
+add-t13 c = search needs
 
--- src/quantities.rt:59:5
-loop-again : tie.Need-loop-again Inv-loop μ-loop
-loop-again c = ?
-
--- src/quantities.rt:53:1
 returns-2 : tie.Need-returns-2 Inv-loop μ-loop
-returns-2 c = ?
+returns-2 c =
+    let l = c .before .before .before .before in
+    let a = l .before .before .args in
+    let x : c .before .byte .result ≡ u8At (a .b .now) (l .loop .p) = c .before .byte .ensures in
+    let g = grown (l .loop .n) (l .loop .value) (c .before .byte .result) (omega arith) (l .loop .inv .2) (c .if2 .taken) in
+    let left : 4 - l .loop .n ≡ suc (3 - l .loop .n) = omega arith in
+    let last = from-last (3 - l .loop .n) (a .b .now) (a .edge) (l .loop .p) (l .loop .value) (omega arith) (omega (arith, x)) in
+    let inv = rw left at (l .loop .inv .0) in
+    (rw x (sym (inv ∙ last)), g .1)
 
--- src/quantities.rt:53:1
+mul-value : tie.Need-mul-value Inv-loop μ-loop
+mul-value c =
+    let l = c .before .before .before .before in
+    let g = grown (l .loop .n) (l .loop .value) 0 (omega arith) (l .loop .inv .2) (lit< tt) in
+    omega (arith, g)
+
+cast-value : tie.Need-cast-value Inv-loop μ-loop
+cast-value c = search needs
+
+add-value : tie.Need-add-value Inv-loop μ-loop
+add-value c =
+    let l = c .before .before .before .before in
+    let g = grown (l .loop .n) (l .loop .value) (c .before .byte .result - 128) (omega arith) (l .loop .inv .2) (omega (arith, c .before .byte .ok)) in
+    omega (arith, g)
+
+add-p : tie.Need-add-p Inv-loop μ-loop
+add-p c = search needs
+
+add-n : tie.Need-add-n Inv-loop μ-loop
+add-n c = search needs
+
+loop-less : tie.Need-loop-less Inv-loop μ-loop
+loop-less c = search needs
+
+loop-again : tie.Need-loop-again Inv-loop μ-loop
+loop-again c =
+    let l = c .before .before .before .before in
+    let a = l .before .before .args in
+    let x : c .before .byte .result ≡ u8At (a .b .now) (l .loop .p) = c .before .byte .ensures in
+    let g = grown (l .loop .n) (l .loop .value) (c .before .byte .result - 128) (omega arith) (l .loop .inv .2) (omega (arith, c .before .byte .ok)) in
+    let left : 4 - l .loop .n ≡ suc (4 - (l .loop .n + 1)) = omega arith in
+    let more = from-more (4 - (l .loop .n + 1)) (a .b .now) (a .edge) (l .loop .p) (l .loop .value) (omega arith) (omega (arith, x)) in
+    let inv = rw left at (l .loop .inv .0) in
+    (rw x (inv ∙ more), omega arith, g .0)
+
 returns-3 : tie.Need-returns-3 Inv-loop μ-loop
-returns-3 c = ?
+returns-3 c =
+    let l = c .before in
+    let a = l .before .before .args in
+    let none : 4 - l .loop .n ≡ 0 = omega arith in
+    let inv = rw none at (l .loop .inv .0) in
+    (sym (inv ∙ from-none (a .b .now) (a .edge) (l .loop .p) (l .loop .value)), lit< tt)
 
 pub quantity-at-spec : {M : Type 1} → statement M
 quantity-at-spec =
@@ -85,13 +129,14 @@ quantity-at-spec =
     Inv-loop
     μ-loop
     loop-holds
+    returns
     cast-byte
     byte-requires
-    mul-t12
-    cast-t13
-    add-t14
-    add-t15
-    returns
+    mul-t10
+    cast-t11
+    add-t12
+    add-t13
+    returns-2
     mul-value
     cast-value
     add-value
@@ -99,5 +144,4 @@ quantity-at-spec =
     add-n
     loop-less
     loop-again
-    returns-2
     returns-3)

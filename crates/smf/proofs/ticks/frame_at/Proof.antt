@@ -3,7 +3,7 @@ use lib.Dec.{lit<}
 use mathlib.Core.Path.{_≡_, refl}
 use native.Mathlib.Omega.{arith}
 use native.Mathlib.Nat.{lt-of-le-of-lt}
-use Rattle.smf.proofs.FramesLaws.{frame-le}
+use Rattle.smf.proofs.TicksLaws.{frame-in}
 use Rattle.smf.specs.Ticks.{frameAt}
 use borrow.Author.Needs.{needs}
 use Rattle.smf.proofs.ticks.frame_at.Statement.{statement}
@@ -27,7 +27,7 @@ div-result c = search needs
 
 cast-result : tie.Need-cast-result
 unfolding frameAt
-cast-result c = record { fits = lt-of-le-of-lt (frame-le (c .before .args .division) (c .before .args .sum) (c .before .pre)) (lit< tt) }
+cast-result c = record { fits = lt-of-le-of-lt (frame-in (c .before .args .division) (c .before .args .sum) (c .before .pre)) (lit< tt) }
 
 returns-2 : tie.Need-returns-2
 unfolding frameAt
