@@ -1,5 +1,4 @@
 -- Laws of frames: they rise with U, and within an hour they are at most 158,760,000.
-use mathlib.Core.Path.{_≡_}
 use Prim.Native.Nat.{ℕ, zero, suc, _*_, _/_, _<_, _≤_}
 use native.Mathlib.Nat.{div-zero, div-le-of-le-mul, le-div-iff-mul-le, div-mul-le-self, le-trans, le-of-lt, mul-le-mul}
 use native.Mathlib.Omega.{arith}

@@ -7,11 +7,9 @@ use native.Mathlib.Nat.{min-le-right}
 use native.Mathlib.Numerals.{add-one}
 use native.Mathlib.Omega.{arith}
 use borrow.Author.Tests.{ltb-false}
-use lib.Dec.{ltb}
 use lib.ListN.{length}
 use Rattle.smf.specs.declared.Cursor.{Cursor}
 use Rattle.smf.specs.declared.Event.{Event}
-use Rattle.smf.specs.declared.Handed.{Handed}
 use Rattle.smf.specs.declared.Item.{Item}
 use Rattle.smf.specs.declared.Met.{Met}
 use Rattle.smf.specs.declared.Met.the-variants.{Fault, End, Passed, Given}
@@ -21,7 +19,7 @@ use Rattle.smf.specs.declared.Quantity.the-variants.{Bad, Good}
 use Rattle.smf.specs.Quantities.{quantityAt}
 use Rattle.smf.specs.Items.{isShort, itemAt}
 use Rattle.smf.specs.Ticks.{sumAfter, isLate, frameAt}
-use Rattle.smf.specs.Track.{Song, edgeOf, moved, eventOf, isBad, done, obeyed, meetAt, behindEvent, songFrom, nextFrom, nothing}
+use Rattle.smf.specs.Track.{edgeOf, moved, eventOf, done, obeyed, meetAt, behindEvent, songFrom, nextFrom, nothing}
 use Rattle.smf.specs.Track.Song.{Refused, Events}
 use Rattle.smf.specs.Songs.{turns}
 use Rattle.smf.proofs.QuantitiesLaws.{quantity-behind, quantity-edge}
@@ -53,6 +51,7 @@ Led b c (Passed further) = Further b c further
 Led b c (Given event further) = Further b c further × Sounds c event further
 
 module _ (b : List ℕ) (c : Cursor) where
+  -- the test of the hour
   late-or : (sum place : ℕ) (x : Met) → c .at ≤ place → (sum ≤ 3600000000 * c .division → Led b c x) → Led b c (cond (isLate (c .division) sum) (Fault 11 place) x)
   late-or sum place x h led = go (isLate (c .division) sum) refl
     where
@@ -60,6 +59,7 @@ module _ (b : List ℕ) (c : Cursor) where
       go true e = h
       go false e = led (ltb-false (3600000000 * c .division) sum e)
 
+  -- each kind of event
   obeyed-led : (item : Item) (sum place : ℕ) → c .at < place → c .sum ≤ sum → Placed (edgeOf b c) place item → Led b c (obeyed item c sum place)
   unfolding obeyed done
   obeyed-led Item.Bad sum place h r p = omega arith
@@ -109,35 +109,42 @@ module _ (b : List ℕ) (c : Cursor) where
   pub edge-in : edgeOf b c ≤ length b
   edge-in = min-le-right (c .end) (length b)
 
-  -- one turn, whatever is met
+  -- one turn of a song: a fault
   turn-fault : (n number place : ℕ) → meetAt b c ≡ Fault number place → songFrom (suc n) b c ≡ Refused number place
   unfolding songFrom
   turn-fault n number place e = rw (e, songFrom) refl
 
+  -- an end of track
   turn-end : (n : ℕ) → meetAt b c ≡ End → songFrom (suc n) b c ≡ Events []
   unfolding songFrom
   turn-end n e = rw (e, songFrom) refl
 
+  -- an event that gives none
   turn-passed : (n : ℕ) (further : Cursor) → meetAt b c ≡ Passed further → songFrom (suc n) b c ≡ songFrom n b further
   unfolding songFrom
   turn-passed n further e = rw (e, songFrom) refl
 
+  -- a channel event
   turn-given : (n : ℕ) (event : Event) (further : Cursor) → meetAt b c ≡ Given event further → songFrom (suc n) b c ≡ behindEvent event (songFrom n b further)
   unfolding songFrom
   turn-given n event further e = rw (e, songFrom) refl
 
+  -- one look for the next event: a fault
   look-fault : (n number place : ℕ) → meetAt b c ≡ Fault number place → nextFrom (suc n) b c ≡ nothing
   unfolding nextFrom
   look-fault n number place e = rw (e, nextFrom) refl
 
+  -- an end of track
   look-end : (n : ℕ) → meetAt b c ≡ End → nextFrom (suc n) b c ≡ nothing
   unfolding nextFrom
   look-end n e = rw (e, nextFrom) refl
 
+  -- an event that gives none
   look-passed : (n : ℕ) (further : Cursor) → meetAt b c ≡ Passed further → nextFrom (suc n) b c ≡ nextFrom n b further
   unfolding nextFrom
   look-passed n further e = rw (e, nextFrom) refl
 
+  -- a channel event
   look-given : (n : ℕ) (event : Event) (further : Cursor) → meetAt b c ≡ Given event further → nextFrom (suc n) b c ≡ record { offer = Offer.Given event; cursor = further }
   unfolding nextFrom
   look-given n event further e = rw (e, nextFrom) refl
@@ -198,6 +205,7 @@ module _ (b : List ℕ) (c : Cursor) where
       let room = edge-in b further in
       song-enough (length b) (turns b) b further (omega (arith, f .after)) (omega arith)
 
+  -- the same of the next event
   less-next : (further : Cursor) → Further b c further → nextFrom (length b) b further ≡ nextFrom (turns b) b further
   less-next further f =
       let room = edge-in b further in

@@ -4,4 +4,6 @@ pub mod Items
 pub mod Ticks
 pub mod Track
 pub mod Songs
+pub mod Faults
+pub mod Reading
 pub mod Internal

@@ -2,7 +2,7 @@
 ghost use mathlib.Core.Path.{_≡_};
 ghost use mathlib.Core.Bool.{cond};
 ghost use Prim.Native.Nat.{_+_, _≤_};
-ghost use Rattle.smf.specs.Items.{isChannel, isShort, shortAt, longAt, channelAt, exclusiveAt, metaOf, metaAt, itemAt};
+ghost use Rattle.smf.specs.Items.{isChannel, isShort, isExclusive, shortAt, longAt, channelAt, exclusiveAt, metaOf, metaAt, itemAt};
 use crate::Item;
 use crate::Quantity;
 use crate::quantities::quantity_at;
@@ -20,6 +20,13 @@ fn is_short(status: u8) -> bool
     ensures { λ r. ⌜ r ≡ isShort status ⌝ }
 {
     192 <= status && status <= 223
+}
+
+// A first byte of a system exclusive event.
+fn is_exclusive(x: u8) -> bool
+    ensures { λ r. ⌜ r ≡ isExclusive x ⌝ }
+{
+    x == 240 || x == 247
 }
 
 // One data byte.
@@ -150,11 +157,13 @@ pub fn item_at(b: &[u8], edge: u32, running: u8, at: u32) -> Item
     if x < 240 {
         return channel_at(b, edge, x, at + 1);
     }
-    match x {
-        255 => meta_at(b, edge, at + 1),
-        240 | 247 => exclusive_at(b, edge, at + 1),
-        _ => Item::Bad,
+    if x == 255 {
+        return meta_at(b, edge, at + 1);
     }
+    if is_exclusive(x) {
+        return exclusive_at(b, edge, at + 1);
+    }
+    Item::Bad
 }
 
 // A data byte where a status runs.

@@ -64,7 +64,10 @@ fn is_bad(it: Item) -> bool
         Item::Bad => true,
         Item::End => false,
         Item::Passed { behind: _ } => false,
-        Item::Tempo { tempo: _, behind: _ } => false,
+        Item::Tempo {
+            tempo: _,
+            behind: _,
+        } => false,
         Item::Channel {
             status: _,
             first: _,

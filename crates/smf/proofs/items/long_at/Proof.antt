@@ -13,7 +13,7 @@ add-if1 c = search needs
 
 returns : tie.Need-returns
 unfolding longAt
-returns c = 
+returns c =
     let s = c .before .before .args in
     simp (lt-ltb (s .edge) (s .at + 2) (omega arith))
 
@@ -22,7 +22,7 @@ byte-requires c κs = search needs
 
 returns-2 : tie.Need-returns-2
 unfolding longAt
-returns-2 c = 
+returns-2 c =
     let s = c .before .before .before .before .args in
     simp (le-ltb (s .edge) (s .at + 2) (omega arith), lt-ltb 127 (u8At (s .b .now) (s .at)) (omega (arith, c .before .byte .ensures)))
 
@@ -37,7 +37,7 @@ byte-requires-2 c κs = search needs
 
 returns-3 : tie.Need-returns-3
 unfolding longAt
-returns-3 c = 
+returns-3 c =
     let s = c .before .before .before .before .before .before .args in
     simp (le-ltb (s .edge) (s .at + 2) (omega arith), le-ltb 127 (u8At (s .b .now) (s .at)) (omega (arith, c .before .before .before .byte .ensures)), lt-ltb 127 (u8At (s .b .now) (s .at + 1)) (omega (arith, c .before .byte2 .ensures)))
 
@@ -46,7 +46,7 @@ add-t11 c = search needs
 
 returns-4 : tie.Need-returns-4
 unfolding longAt
-returns-4 c = 
+returns-4 c =
     let s = c .before .before .before .before .before .before .args in
     simp (le-ltb (s .edge) (s .at + 2) (omega arith), le-ltb 127 (u8At (s .b .now) (s .at)) (omega (arith, c .before .before .before .byte .ensures)), le-ltb 127 (u8At (s .b .now) (s .at + 1)) (omega (arith, c .before .byte2 .ensures)), c .before .before .before .byte .ensures, c .before .byte2 .ensures)
 

@@ -7,7 +7,7 @@ use Rattle.smf.proofs.items.meta_of.Tie as tie
 
 returns : tie.Need-returns
 unfolding metaOf
-returns c = 
+returns c =
     let s = c .before .before .args in
     simp (eq-eqb (s .kind) 47 (c .if1 .taken))
 
@@ -16,13 +16,13 @@ add-t6 c = search needs
 
 returns-2 : tie.Need-returns-2
 unfolding metaOf
-returns-2 c = 
+returns-2 c =
     let s = c .before .before .before .args in
     simp (ne-eqb (s .kind) 47 (c .before .if1 .left), ne-eqb (s .kind) 81 (c .if2 .taken))
 
 returns-3 : tie.Need-returns-3
 unfolding metaOf
-returns-3 c = 
+returns-3 c =
     let s = c .before .before .before .before .args in
     simp (ne-eqb (s .kind) 47 (c .before .before .if1 .left), eq-eqb (s .kind) 81 (c .before .if2 .left), lt-ltb (s .n) 3 (c .if3 .taken))
 
@@ -34,7 +34,7 @@ add-t9 c = search needs
 
 returns-4 : tie.Need-returns-4
 unfolding metaOf
-returns-4 c = 
+returns-4 c =
     let s = c .before .before .before .before .before .args in
     simp (ne-eqb (s .kind) 47 (c .before .before .before .if1 .left), eq-eqb (s .kind) 81 (c .before .before .if2 .left), le-ltb (s .n) 3 (c .before .if3 .left), c .three-at .ensures)
 

@@ -10,7 +10,7 @@ use Rattle.smf.proofs.items.short_at.Tie as tie
 
 returns : tie.Need-returns
 unfolding shortAt
-returns c = 
+returns c =
     let s = c .before .before .args in
     simp (lt-ltb (s .edge) (s .at + 1) (omega arith))
 
@@ -19,7 +19,7 @@ byte-requires c κs = search needs
 
 returns-2 : tie.Need-returns-2
 unfolding shortAt
-returns-2 c = 
+returns-2 c =
     let s = c .before .before .before .before .args in
     simp (le-ltb (s .edge) (s .at + 1) (omega arith), lt-ltb 127 (u8At (s .b .now) (s .at)) (omega (arith, c .before .byte .ensures)))
 
@@ -28,7 +28,7 @@ add-t8 c = search needs
 
 returns-3 : tie.Need-returns-3
 unfolding shortAt
-returns-3 c = 
+returns-3 c =
     let s = c .before .before .before .before .args in
     simp (le-ltb (s .edge) (s .at + 1) (omega arith), le-ltb 127 (u8At (s .b .now) (s .at)) (omega (arith, c .before .byte .ensures)), c .before .byte .ensures)
 

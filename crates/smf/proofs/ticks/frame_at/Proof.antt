@@ -11,7 +11,7 @@ use Rattle.smf.proofs.ticks.frame_at.Tie as tie
 
 returns : tie.Need-returns
 unfolding frameAt
-returns c = 
+returns c =
     let none : c .before .args .division ≡ 0 = c .if1 .taken in
     let still : c .before .args .sum ≡ 0 = omega (arith, none) in
     rw (none, still) refl

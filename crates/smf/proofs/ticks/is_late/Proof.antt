@@ -14,17 +14,17 @@ limit-requires : tie.Need-limit-requires
 limit-requires c κs = search needs
 
 returns : tie.Need-returns
-returns c = 
+returns c =
     let s = c .before .before .args in
     sym (lt-ltb (3600000000 * s .division) (s .sum + s .ticks * s .tempo) (omega (arith, c .before .limit .ensures)))
 
 mul-result : tie.Need-mul-result
-mul-result c = 
+mul-result c =
     let s = c .before .before in
     record { fits = lt-of-le-of-lt (delta-in (s .args .ticks) (s .args .tempo) (s .pre) (s .fits .tempo .fits)) (lit< tt) }
 
 add-result : tie.Need-add-result
-add-result c = 
+add-result c =
     let s = c .before .before in
     let d = delta-in (s .args .ticks) (s .args .tempo) (s .pre) (s .fits .tempo .fits) in
     omega (arith, d, c .before .limit .ensures)
