@@ -286,7 +286,6 @@ data Body (b : List ℕ) : ℕ → ℕ → Type 0 where
 
 -- no cursor lies in front of the track's body
 start-low : (b : List ℕ) (at : ℕ) (c : Cursor) → Along (Go b) (startOf b at) c → at + 8 ≤ c .at
-unfolding startAt
 start-low b at c w = way-low b w
 
 -- it lies behind the head's end

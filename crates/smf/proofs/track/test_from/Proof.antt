@@ -5,8 +5,8 @@ use native.Mathlib.Omega.{arith}
 use Prim.Native.Nat.{_-_}
 use Rattle.smf.specs.Track.{edgeOf, songFrom}
 use Rattle.smf.specs.Songs.{turns, verdict}
-use Rattle.smf.proofs.TrackLaws.{meet-passed, meet-given, further-edge, song-fault, song-end, song-passed, song-given, song-edge}
-use Rattle.smf.proofs.SongsLaws.{verdict-behind}
+use Rattle.smf.proofs.TrackLaws.{meet-passed, meet-given, further-edge, song-fault, song-end, song-passed, song-edge}
+use Rattle.smf.proofs.SongsLaws.{test-given}
 use Rattle.smf.proofs.track.test_from.Statement.{statement}
 use Rattle.smf.proofs.track.test_from.Tie as tie
 
@@ -87,7 +87,7 @@ loop-again-2 c =
     let b = l .before .before .before .args .b .now in
     let e = sym (k .meet-at .ensures) ∙ c .before .m3 .given .1 in
     let f = meet-given b (l .loop .c) _ _ e .0 in
-    (l .loop .inv .0 ∙ ap verdict (song-given b (l .loop .c) _ _ e) ∙ verdict-behind _ _, l .loop .inv .1 ∙ sym (further-edge b (l .loop .c) _ f))
+    (l .loop .inv .0 ∙ test-given b (l .loop .c) _ _ e, l .loop .inv .1 ∙ sym (further-edge b (l .loop .c) _ f))
 
 returns-3 : tie.Need-returns-3 Inv-loop μ-loop
 returns-3 c =
