@@ -14,6 +14,7 @@ use Rattle.smf.specs.declared.Event.{Event}
 use Rattle.smf.specs.declared.Header.{Header}
 use Rattle.smf.specs.declared.Header.the-variants.{Track}
 use Rattle.smf.specs.declared.Item.{Item}
+use Rattle.smf.specs.declared.Message.{Message}
 use Rattle.smf.specs.declared.Met.{Met}
 use Rattle.smf.specs.declared.Met.the-variants.{Fault, End, Passed, Given}
 use Rattle.smf.specs.declared.Quantity.{Quantity}
@@ -22,7 +23,7 @@ use Rattle.smf.specs.Quantities.{twoAt, fourAt, quantityAt}
 use Rattle.smf.specs.Head.{chunkEnd, trackFrom, headOf}
 use Rattle.smf.specs.Items.{itemAt}
 use Rattle.smf.specs.Ticks.{sumAfter, isLate}
-use Rattle.smf.specs.Track.{Song, edgeOf, isBad, done, obeyed, meetAt, behindEvent, songFrom}
+use Rattle.smf.specs.Track.{Song, edgeOf, isBad, done, obeyed, meetAt, eventOf, behindEvent, songFrom}
 use Rattle.smf.specs.Track.Song.{Refused, Events}
 use Rattle.smf.specs.Songs.{startAt, turns, eventsOf}
 use Rattle.smf.specs.Faults.{Whole, Chunked, Tracked, Reached, DeltaAt, Wrong, First, LongRefused, RefusedFirst, FirstRefused, GoodNotWrong, NotWrongGood}
@@ -108,7 +109,7 @@ track-stops b at t o = o .name (t .name)
 
 -- from a cursor to the one behind the event that is met there
 abbrev Go : List ℕ → Cursor → Cursor → Type 0
-Go b c further = (meetAt b c ≡ Passed further) ⊎ ((event : Event) × (meetAt b c ≡ Given event further))
+Go b c further = (meetAt b c ≡ Passed further) ⊎ ((message : Message) × (meetAt b c ≡ Given message further))
 
 -- there is one such cursor
 go-one : (b : List ℕ) (x y z : Cursor) → Go b x y → Go b x z → y ≡ z
@@ -131,7 +132,7 @@ record Way (b : List ℕ) (c : Cursor) : Type 0 where
 reached-way : {b : List ℕ} {c : Cursor} → Reached b c → Way b c
 reached-way (begins at track) = record { at = at; track = track; way = here }
 reached-way (behind-passed c further r e) = let w = reached-way r in record { at = w .at; track = w .track; way = on c further (w .way) (inl e) }
-reached-way (behind-given c event further r e) = let w = reached-way r in record { at = w .at; track = w .track; way = on c further (w .way) (inr (event, e)) }
+reached-way (behind-given c message further r e) = let w = reached-way r in record { at = w .at; track = w .track; way = on c further (w .way) (inr (message, e)) }
 
 -- none lies in front of the track's first
 way-low : (b : List ℕ) {s c : Cursor} → Along (Go b) s c → s .at ≤ c .at
@@ -164,7 +165,7 @@ abbrev Faulty : Met → Type 0
 Faulty (Fault number place) = Unit {0}
 Faulty End = ⊥
 Faulty (Passed further) = ⊥
-Faulty (Given event further) = ⊥
+Faulty (Given message further) = ⊥
 
 -- an event past an hour is a fault, by one number or the other
 late-faulty : (item : Item) (c : Cursor) (sum place : ℕ) → 3600000000 * c .division < sum → Faulty (obeyed item c sum place)
@@ -205,7 +206,7 @@ abbrev LeastMet : List ℕ → Cursor → Met → Type 0
 LeastMet b c (Fault number place) = Least b c number place
 LeastMet b c End = Unit {0}
 LeastMet b c (Passed further) = Unit {0}
-LeastMet b c (Given event further) = Unit {0}
+LeastMet b c (Given message further) = Unit {0}
 
 -- a quantity that is bad is not good
 bad-not-good : (q : Quantity) (ticks place : ℕ) → q ≡ Bad → q ≡ Good ticks place → ⊥
@@ -394,17 +395,17 @@ module _ (b : List ℕ) (good : Headed b) (at : ℕ) (track : Tracked b at) wher
   song-verdict zero c r w h = stuck-first c r w (no-delta-first b c (quantity-edge b (edgeOf b c) (c .at) (omega arith)))
   song-verdict (suc n) c r w h = go (λ further. song-verdict n further) (meetAt b c) refl
     where
-      go : ((further : Cursor) → Reached b further → Along (Go b) (startOf b at) further → edgeOf b further < further .at + n → Verdict b (songFrom n b further)) → (m : Met) → meetAt b c ≡ m → Verdict b (elim m [ Fault number place ↦ Refused number place | End ↦ Events [] | Passed further ↦ songFrom n b further | Given event further ↦ behindEvent event (songFrom n b further) ])
+      go : ((further : Cursor) → Reached b further → Along (Go b) (startOf b at) further → edgeOf b further < further .at + n → Verdict b (songFrom n b further)) → (m : Met) → meetAt b c ≡ m → Verdict b (elim m [ Fault number place ↦ Refused number place | End ↦ Events [] | Passed further ↦ songFrom n b further | Given message further ↦ behindEvent (eventOf message further) (songFrom n b further) ])
       go more (Fault number place) e = stuck-first c r w (least-fault b c number place e)
       go more End e = ended c r w e
       go more (Passed further) e =
           let f = meet-passed b c further e in
           let edge = further-edge b c further f in
           more further (behind-passed c further r e) (on c further w (inl e)) (omega arith)
-      go more (Given event further) e =
-          let f = meet-given b c event further e .0 in
+      go more (Given message further) e =
+          let f = meet-given b c message further e .0 in
           let edge = further-edge b c further f in
-          behind-verdict b event (songFrom n b further) (more further (behind-given c event further r e) (on c further w (inr (event, e))) (omega arith))
+          behind-verdict b (eventOf message further) (songFrom n b further) (more further (behind-given c message further r e) (on c further w (inr (message, e))) (omega arith))
 
 -- ---- the chunks
 module _ (b : List ℕ) (good : Headed b) where

@@ -12,12 +12,13 @@ use Rattle.smf.specs.declared.Event.{Event}
 use Rattle.smf.specs.declared.Handed.{Handed}
 use Rattle.smf.specs.declared.Header.{Header}
 use Rattle.smf.specs.declared.Header.the-variants.{Track}
+use Rattle.smf.specs.declared.Message.{Message}
 use Rattle.smf.specs.declared.Met.{Met}
 use Rattle.smf.specs.declared.Met.the-variants.{Fault, End, Passed, Given}
 use Rattle.smf.specs.declared.Offer.{Offer}
 use Rattle.smf.specs.Head.{headOf}
 use Rattle.smf.specs.Ticks.{frameAt}
-use Rattle.smf.specs.Track.{Song, edgeOf, meetAt, behindEvent, songFrom, nextFrom, over, nothing}
+use Rattle.smf.specs.Track.{Song, edgeOf, eventOf, meetAt, behindEvent, songFrom, nextFrom, over, nothing}
 use Rattle.smf.specs.Track.Song.{Refused, Events}
 use Rattle.smf.specs.Songs.{startAt, turns, eventsOf, trackCursor, firstCursor, openingOf, nextOf}
 use Rattle.smf.specs.Reading.{cursorAfter, offered, eventAt, entry, ReadsAll, NeverFall, InRange, AllInRange}
@@ -46,18 +47,18 @@ hands (suc n) b c h = go (λ further. hands n b further) (meetAt b c) refl
     given event further (Refused number place) e = tt
     given event further (Events es) e = (refl, e)
 
-    go : ((further : Cursor) → edgeOf b further < further .at + n → Hands b (nextFrom n b further) (songFrom n b further)) → (m : Met) → meetAt b c ≡ m → Hands b (elim m [ Fault number place ↦ nothing | End ↦ nothing | Passed further ↦ nextFrom n b further | Given event further ↦ gives event further ]) (elim m [ Fault number place ↦ Refused number place | End ↦ Events [] | Passed further ↦ songFrom n b further | Given event further ↦ behindEvent event (songFrom n b further) ])
+    go : ((further : Cursor) → edgeOf b further < further .at + n → Hands b (nextFrom n b further) (songFrom n b further)) → (m : Met) → meetAt b c ≡ m → Hands b (elim m [ Fault number place ↦ nothing | End ↦ nothing | Passed further ↦ nextFrom n b further | Given message further ↦ gives (eventOf message further) further ]) (elim m [ Fault number place ↦ Refused number place | End ↦ Events [] | Passed further ↦ songFrom n b further | Given message further ↦ behindEvent (eventOf message further) (songFrom n b further) ])
     go more (Fault number place) e = tt
     go more End e = refl
     go more (Passed further) e =
         let f = meet-passed b c further e in
         let edge = further-edge b c further f in
         more further (omega arith)
-    go more (Given event further) e =
-        let f = meet-given b c event further e .0 in
+    go more (Given message further) e =
+        let f = meet-given b c message further e .0 in
         let edge = further-edge b c further f in
         let room = edge-in b further in
-        given event further (songFrom n b further) (song-enough (turns b) n b further (omega arith) (omega arith))
+        given (eventOf message further) further (songFrom n b further) (song-enough (turns b) n b further (omega arith) (omega arith))
 
 -- a next and the song
 hands-next : (b : List ℕ) (c : Cursor) → Hands b (nextOf b c) (songFrom (turns b) b c)
@@ -147,12 +148,12 @@ unfolding nextFrom Fine
 fine zero b c = tt
 fine (suc n) b c = go (λ further. fine n b further) (meetAt b c) refl
   where
-    go : ((further : Cursor) → Fine (nextFrom n b further .offer)) → (m : Met) → meetAt b c ≡ m → Fine ((elim m as (λ x. Handed) [ Fault number place ↦ nothing | End ↦ nothing | Passed further ↦ nextFrom n b further | Given event further ↦ gives event further ]) .offer)
+    go : ((further : Cursor) → Fine (nextFrom n b further .offer)) → (m : Met) → meetAt b c ≡ m → Fine ((elim m as (λ x. Handed) [ Fault number place ↦ nothing | End ↦ nothing | Passed further ↦ nextFrom n b further | Given message further ↦ gives (eventOf message further) further ]) .offer)
     go more (Fault number place) e = tt
     go more End e = tt
     go more (Passed further) e = more further
-    go more (Given event further) e =
-        let g = meet-given b c event further e in
+    go more (Given message further) e =
+        let g = meet-given b c message further e in
         let s = g .1 in
         record {
           low = s .low;
@@ -160,7 +161,7 @@ fine (suc n) b c = go (λ further. fine n b further) (meetAt b c) refl
           first-in = s .first-in;
           second-in = s .second-in;
           one-byte = s .short;
-          within-hour = rw (s .frame) (frame-in (c .division) (further .sum) (g .0 .early));
+          within-hour = rw (g .0 .same-division) (frame-in (c .division) (further .sum) (g .0 .early));
         }
 
 -- every event that is handed out is in its ranges
@@ -200,20 +201,16 @@ song-rises (suc n) b c = go (λ further. song-rises n b further) (meetAt b c) re
     given low e (Refused number place) h r = tt
     given low e (Events es) h r = (h, r)
 
-    go : ((further : Cursor) → RisingSong (frameAt (further .division) (further .sum)) (songFrom n b further)) → (m : Met) → meetAt b c ≡ m → RisingSong (frameAt (c .division) (c .sum)) (elim m [ Fault number place ↦ Refused number place | End ↦ Events [] | Passed further ↦ songFrom n b further | Given event further ↦ behindEvent event (songFrom n b further) ])
+    go : ((further : Cursor) → RisingSong (frameAt (further .division) (further .sum)) (songFrom n b further)) → (m : Met) → meetAt b c ≡ m → RisingSong (frameAt (c .division) (c .sum)) (elim m [ Fault number place ↦ Refused number place | End ↦ Events [] | Passed further ↦ songFrom n b further | Given message further ↦ behindEvent (eventOf message further) (songFrom n b further) ])
     go more (Fault number place) e = tt
     go more End e = tt
     go more (Passed further) e =
         let f = meet-passed b c further e in
         let r = subst (λ (d : ℕ). RisingSong (frameAt d (further .sum)) (songFrom n b further)) (f .same-division) (more further) in
         down (frameAt (c .division) (c .sum)) (frameAt (c .division) (further .sum)) (songFrom n b further) (frame-rises (c .division) (c .sum) (further .sum) (f .rises)) r
-    go more (Given event further) e =
-        let g = meet-given b c event further e in
-        let f = g .0 in
-        let s = g .1 in
-        let at-frame : frameAt (further .division) (further .sum) ≡ event .frame = ap (λ (d : ℕ). frameAt d (further .sum)) (f .same-division) ∙ sym (s .frame) in
-        let r = subst (λ (x : ℕ). RisingSong x (songFrom n b further)) at-frame (more further) in
-        given (frameAt (c .division) (c .sum)) event (songFrom n b further) (rw (s .frame) (frame-rises (c .division) (c .sum) (further .sum) (f .rises))) r
+    go more (Given message further) e =
+        let f = meet-given b c message further e .0 in
+        given (frameAt (c .division) (c .sum)) (eventOf message further) (songFrom n b further) (rw (f .same-division) (frame-rises (c .division) (c .sum) (further .sum) (f .rises))) (more further)
 
 -- an event of a rising list is not below the frame
 rising-at : (low : ℕ) (es : List Event) (k : ℕ) (e : Event) → Rising low es → eventAt es k ≡ Offer.Given e → low ≤ e .frame

@@ -9,6 +9,7 @@ use lib.Dec.{ltb, lit≤}
 use lib.ListN.{length}
 use Rattle.smf.specs.declared.Cursor.{Cursor}
 use Rattle.smf.specs.declared.Event.{Event}
+use Rattle.smf.specs.declared.Message.{Message}
 use Rattle.smf.specs.declared.Met.the-variants.{Given}
 use Rattle.smf.specs.declared.Header.{Header}
 use Rattle.smf.specs.declared.Header.the-variants.{Track}
@@ -17,7 +18,7 @@ use Rattle.smf.specs.declared.Tested.{Tested}
 use Rattle.smf.specs.Faults.{Wrong}
 use Rattle.smf.specs.Faults.Wrong.{no-head, short-head, long-head, format, tracks, no-division, smpte, no-chunk, long-chunk, delta, event, late}
 use Rattle.smf.specs.Head.{headOf}
-use Rattle.smf.specs.Track.{Song, behindEvent, meetAt, songFrom, over}
+use Rattle.smf.specs.Track.{Song, eventOf, behindEvent, meetAt, songFrom, over}
 use Rattle.smf.specs.Track.Song.{Refused, Events}
 use Rattle.smf.specs.Songs.{startAt, turns, eventsOf, verdict, trackCursor, firstCursor, testOf, openingOf}
 use Rattle.smf.proofs.TrackLaws.{song-given}
@@ -29,8 +30,8 @@ verdict-behind e (Refused number place) = refl
 verdict-behind e (Events es) = refl
 
 -- a channel event is no reason to refuse
-pub test-given : (b : List ℕ) (c : Cursor) (e : Event) (further : Cursor) → meetAt b c ≡ Given e further → verdict (songFrom (turns b) b c) ≡ verdict (songFrom (turns b) b further)
-test-given b c e further h = ap verdict (song-given b c e further h) ∙ verdict-behind e (songFrom (turns b) b further)
+pub test-given : (b : List ℕ) (c : Cursor) (message : Message) (further : Cursor) → meetAt b c ≡ Given message further → verdict (songFrom (turns b) b c) ≡ verdict (songFrom (turns b) b further)
+test-given b c message further h = ap verdict (song-given b c message further h) ∙ verdict-behind (eventOf message further) (songFrom (turns b) b further)
 
 -- each case has one of the three numbers
 wrong-number : (b : List ℕ) (number place : ℕ) → Wrong b number place → 9 ≤ number

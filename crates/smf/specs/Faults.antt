@@ -7,6 +7,7 @@ use lib.ListN.{length}
 use Rattle.smf.specs.declared.Cursor.{Cursor}
 use Rattle.smf.specs.declared.Event.{Event}
 use Rattle.smf.specs.declared.Item.{Item}
+use Rattle.smf.specs.declared.Message.{Message}
 use Rattle.smf.specs.declared.Met.the-variants.{Passed, Given}
 use Rattle.smf.specs.declared.Quantity.the-variants.{Bad, Good}
 use Rattle.smf.specs.Quantities.{twoAt, fourAt, quantityAt}
@@ -37,7 +38,7 @@ pub record Tracked (b : List ℕ) (at : ℕ) : Type 0 where
 pub data Reached (b : List ℕ) : Cursor → Type 0 where
   begins : (at : ℕ) → Tracked b at → Reached b (startAt b (at + 8) (chunkEnd b at))
   behind-passed : (c further : Cursor) → Reached b c → meetAt b c ≡ Passed further → Reached b further
-  behind-given : (c : Cursor) (event : Event) (further : Cursor) → Reached b c → meetAt b c ≡ Given event further → Reached b further
+  behind-given : (c : Cursor) (message : Message) (further : Cursor) → Reached b c → meetAt b c ≡ Given message further → Reached b further
 
 -- the delta time at a cursor: so many ticks, and the place of the event behind it
 abbrev pub DeltaAt : List ℕ → Cursor → ℕ → ℕ → Type 0

@@ -1,6 +1,6 @@
 -- `done_at` meets its contract.
-use mathlib.Core.Path.{ap, ap₂}
-use Rattle.smf.specs.declared.Met.the-variants.{Passed, Given}
+use mathlib.Core.Path.{ap, refl}
+use Rattle.smf.specs.declared.Met.the-variants.{Passed}
 use Rattle.smf.specs.Track.{done}
 use borrow.Author.Needs.{needs}
 use Rattle.smf.proofs.track.done_at.Statement.{statement}
@@ -27,9 +27,6 @@ moved-to-requires-2 c κs = search needs
 enum-known-it-3 : tie.Need-enum-known-it-3
 enum-known-it-3 c = search needs
 
-event-of-requires : tie.Need-event-of-requires
-event-of-requires c κs = search needs
-
 moved-to-requires-3 : tie.Need-moved-to-requires-3
 moved-to-requires-3 c κs = search needs
 
@@ -51,7 +48,7 @@ returns-4 c = rw (c .before .before .it2 .given .1) (ap Passed (c .moved-to2 .en
 
 returns-5 : tie.Need-returns-5
 unfolding done
-returns-5 c = rw (c .before .before .before .it3 .given .1) (ap₂ Given (c .before .event-of .ensures) (c .moved-to3 .ensures))
+returns-5 c = rw (c .before .before .it3 .given .1, c .moved-to3 .ensures) refl
 
 pub done-at-spec : {M : Type 1} → statement M
 done-at-spec =
@@ -64,7 +61,6 @@ done-at-spec =
     enum-known-it-2
     moved-to-requires-2
     enum-known-it-3
-    event-of-requires
     moved-to-requires-3
     returns
     returns-2

@@ -5,7 +5,7 @@ use native.Mathlib.Omega.{arith}
 use Prim.Native.Nat.{_-_}
 use Rattle.smf.specs.Track.{edgeOf, nextFrom}
 use Rattle.smf.specs.Songs.{turns}
-use Rattle.smf.proofs.TrackLaws.{meet-passed, further-edge, next-fault, next-end, next-passed, next-given, next-edge}
+use Rattle.smf.proofs.TrackLaws.{meet-passed, meet-given, further-edge, next-fault, next-end, next-passed, next-given, next-edge}
 use Rattle.smf.proofs.track.next_from.Statement.{statement}
 use Rattle.smf.proofs.track.next_from.Tie as tie
 
@@ -76,13 +76,21 @@ loop-again c =
 enum-known-m-2 : tie.Need-enum-known-m-2 Inv-loop μ-loop
 enum-known-m-2 c = c .match .keys4
 
-returns-3 : tie.Need-returns-3 Inv-loop μ-loop
-returns-3 c =
+event-of-requires : tie.Need-event-of-requires Inv-loop μ-loop
+event-of-requires c κs =
     let k = c .before .before .before in
     let l = k .before .before .before in
     let b = l .before .before .before .args .b .now in
-    let e = sym (k .meet-at .ensures) ∙ c .before .m2 .given .1 in
-    sym (l .loop .inv .0 ∙ next-given b (l .loop .c) _ _ e)
+    let f = meet-given b (l .loop .c) _ _ (sym (k .meet-at .ensures) ∙ c .before .m2 .given .1) .0 in
+    rw (f .same-division) (f .early)
+
+returns-3 : tie.Need-returns-3 Inv-loop μ-loop
+returns-3 c =
+    let k = c .before .before .before .before in
+    let l = k .before .before .before in
+    let b = l .before .before .before .args .b .now in
+    let e = sym (k .meet-at .ensures) ∙ c .before .before .m2 .given .1 in
+    rw (c .event-of .ensures) (sym (l .loop .inv .0 ∙ next-given b (l .loop .c) _ _ e))
 
 no-event-requires-3 : tie.Need-no-event-requires-3 Inv-loop μ-loop
 no-event-requires-3 c κs = search needs
@@ -112,6 +120,7 @@ next-from-spec =
     loop-less
     loop-again
     enum-known-m-2
+    event-of-requires
     returns-3
     no-event-requires-3
     returns-4)

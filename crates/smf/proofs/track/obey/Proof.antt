@@ -24,7 +24,7 @@ sum-after-requires : tie.Need-sum-after-requires
 sum-after-requires c κs = ltb-false _ _ (sym (c .before .is-late .ensures) ∙ c .if2 .left)
 
 done-at-requires : tie.Need-done-at-requires
-done-at-requires c κs = rw (c .sum-after .ensures) (ltb-false _ _ (sym (c .before .before .is-late .ensures) ∙ c .before .if2 .left))
+done-at-requires c κs = search needs
 
 returns-3 : tie.Need-returns-3
 unfolding obeyed
