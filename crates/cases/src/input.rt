@@ -40,8 +40,8 @@ pub fn start() -> Place
     }
 }
 
-// The room is filled again where all of it is read. A read that fails counts as the end of the input.
-fn filled(room: &mut [u8; 65536], from: Place) -> Place {
+// The room is filled again where all of it is read; the place is cut where no byte is left. A read that fails counts as the end of the input.
+pub fn filled(room: &mut [u8; 65536], from: Place) -> Place {
     if from.cut || from.at < from.end {
         return from;
     }
