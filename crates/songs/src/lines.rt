@@ -9,17 +9,12 @@ fn byte(text: &mut [u8; 65536], at: usize, b: u8) -> usize {
     cases::hex(text, to, b as u64, 2)
 }
 
-// Program change and channel pressure have one data byte, the others two.
-fn is_short(status: u8) -> bool {
-    192 <= status && status < 224
-}
-
 // A channel event: its frame and its bytes.
 fn event_line(text: &mut [u8; 65536], at: usize, e: Event) -> usize {
     let mut to = cases::decimal(text, at, e.frame as u64);
     to = byte(text, to, e.status);
     to = byte(text, to, e.first);
-    if !is_short(e.status) {
+    if smf::size(e) == 3 {
         to = byte(text, to, e.second);
     }
     cases::put(text, to, b'\n')
