@@ -1,5 +1,4 @@
-// The work of crates/songs_bench in C: so many times the test of a MIDI file, its opening, which tests it again, and all its channel events with their
-// frames (M-101). Standard input: u32 rounds, u32 length, the file. It prints the number, the events of a round, and the sum (modulo 2^32) of the frames
+// The work of crates/songs_bench in C: so many times the opening of a MIDI file, which tests it, and all its channel events with their frames (M-101). Standard input: u32 rounds, u32 length, the file. It prints the number, the events of a round, and the sum (modulo 2^32) of the frames
 // and bytes of all rounds.
 #include <stdbool.h>
 #include <stdint.h>
@@ -148,10 +147,8 @@ int main(void) {
         Cursor c;
         Event e;
         ANEW;
-        number = test(length, &e);
-        ANEW;
         count = 0;
-        if (open_song(length, &c, &e)) continue;
+        if ((number = open_song(length, &c, &e))) continue;
         for (; next(&c, &e); count++) sum += frame(&c) + e.status + e.first + e.second;
     }
     printf("%u %u %u\n", number, count, sum);

@@ -1,4 +1,4 @@
-// For timing (speed/): a MIDI file, tested, opened and read to its end, as many rounds as asked.
+// For timing (speed/): a MIDI file, opened, which tests it, and read to its end, as many rounds as asked.
 // Standard input: u32 rounds, u32 and so many bytes of a file, at most 65,536. It writes the file's number, the count of its events, and the sum
 // (modulo 2^32) of the frames and bytes of all events of all rounds, in decimal.
 use smf::Cursor;
@@ -52,9 +52,8 @@ fn events(file: &[u8], number: u8, from: Cursor, before: u32) -> Heard {
 
 // One round.
 fn round(file: &[u8], before: u32) -> Heard {
-    let t = smf::test(file);
     let o = smf::open(file);
-    events(file, t.number, o.cursor, before)
+    events(file, o.number, o.cursor, before)
 }
 
 // All rounds.
