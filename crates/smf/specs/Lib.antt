@@ -4,3 +4,4 @@ pub mod Items
 pub mod Ticks
 pub mod Track
 pub mod Songs
+pub mod Behind

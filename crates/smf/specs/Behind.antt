@@ -1,0 +1,57 @@
+-- 02, M-101: what stands behind the end of track. Bytes there change nothing.
+use mathlib.Core.List.{List}
+use mathlib.Core.Path.{_≡_}
+use Prim.Native.Nat.{ℕ, zero, suc, _+_, _<_, _≤_}
+use lib.ListN.{length}
+use Rattle.arith.specs.Bytes.{u8At}
+use Rattle.smf.specs.declared.Cursor.{Cursor}
+use Rattle.smf.specs.declared.Event.{Event}
+use Rattle.smf.specs.declared.Header.{Header}
+use Rattle.smf.specs.declared.Header.the-variants.{Refused, Track}
+use Rattle.smf.specs.declared.Met.{Met}
+use Rattle.smf.specs.declared.Met.the-variants.{Fault, End, Passed, Given}
+use Rattle.smf.specs.declared.Quantity.{Quantity}
+use Rattle.smf.specs.declared.Quantity.the-variants.{Bad, Good}
+use Rattle.smf.specs.Quantities.{quantityAt}
+use Rattle.smf.specs.Head.{headOf}
+use Rattle.smf.specs.Track.{Song, edgeOf, meetAt}
+use Rattle.smf.specs.Track.Song.{Events}
+use Rattle.smf.specs.Songs.{eventsOf, startAt, turns}
+
+-- behind the end of track event at a place: FF, 2F, its length, and so many bytes
+unfoldable pub behindEnd : List ℕ → ℕ → ℕ → ℕ
+behindEnd b edge at = elim (quantityAt b edge (at + 2)) [ Bad ↦ at | Good n p ↦ p + n ]
+
+-- behind the delta time at a cursor and the end of track event that follows it
+unfoldable pub behindMet : List ℕ → Cursor → ℕ
+behindMet b c = elim (quantityAt b (edgeOf b c) (c .at)) [ Bad ↦ c .at | Good ticks place ↦ behindEnd b (edgeOf b c) place ]
+
+-- behind the end of track, from a cursor on, over at most n events
+unfoldable pub endFrom : ℕ → List ℕ → Cursor → ℕ
+endFrom zero b c = c .at
+endFrom (suc n) b c =
+    elim (meetAt b c) [
+      | Fault number place ↦ c .at
+      | End ↦ behindMet b c
+      | Passed further ↦ endFrom n b further
+      | Given event further ↦ endFrom n b further
+    ]
+
+-- the place behind the end of track event of a file that is not refused
+unfoldable pub endOfTrack : List ℕ → ℕ
+endOfTrack b = elim (headOf b) [ Refused number place ↦ 0 | Track at end ↦ endFrom (turns b) b (startAt b at end) ]
+
+-- where the track's chunk ends, by its length field
+unfoldable pub chunkOfTrack : List ℕ → ℕ
+chunkOfTrack b = elim (headOf b) [ Refused number place ↦ 0 | Track at end ↦ end ]
+
+-- another file has the same bytes in front of a place
+abbrev pub SameBelow : List ℕ → List ℕ → ℕ → Type 0
+SameBelow b other place = (i : ℕ) → i < place → u8At other i ≡ u8At b i
+
+-- a file that is not refused, and any other that has the same bytes up to the end of track event, is not cut off in front of the end of the track's chunk, and is
+-- not too long: it gives the same events
+abbrev pub BehindChangesNothing : Type 0
+BehindChangesNothing =
+    (b other : List ℕ) (es : List Event) → eventsOf b ≡ Events es → SameBelow b other (endOfTrack b) → chunkOfTrack b ≤ length other → length other ≤ 65536
+    → eventsOf other ≡ Events es
