@@ -1,1 +1,5 @@
+pub mod QuantitiesLaws
+pub mod ItemsLaws
+pub mod TicksLaws
+pub mod TrackLaws
 pub mod BehindLaws
