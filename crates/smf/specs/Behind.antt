@@ -1,5 +1,5 @@
 -- 02, M-101: what stands behind the end of track. Bytes there change nothing.
-use mathlib.Core.List.{List}
+use mathlib.Core.List.{List, _++_}
 use mathlib.Core.Path.{_≡_}
 use Prim.Native.Nat.{ℕ, zero, suc, _+_, _<_, _≤_}
 use lib.ListN.{length}
@@ -20,7 +20,7 @@ use Rattle.smf.specs.Songs.{eventsOf, startAt, turns}
 
 -- behind the end of track event at a place: FF, 2F, its length, and so many bytes
 unfoldable pub behindEnd : List ℕ → ℕ → ℕ → ℕ
-behindEnd b edge at = elim (quantityAt b edge (at + 2)) [ Bad ↦ at | Good n p ↦ p + n ]
+behindEnd b edge at = elim (quantityAt b edge (at + 2)) [ Bad ↦ at + 2 | Good n p ↦ p + n ]
 
 -- behind the delta time at a cursor and the end of track event that follows it
 unfoldable pub behindMet : List ℕ → Cursor → ℕ
@@ -55,3 +55,9 @@ abbrev pub BehindChangesNothing : Type 0
 BehindChangesNothing =
     (b other : List ℕ) (es : List Event) → eventsOf b ≡ Events es → SameBelow b other (endOfTrack b) → chunkOfTrack b ≤ length other → length other ≤ 65536
     → eventsOf other ≡ Events es
+
+-- the same of a file in two parts, with its end of track in the first: any other second part, chunks among it, will do
+abbrev pub TailChangesNothing : Type 0
+TailChangesNothing =
+    (front tail other : List ℕ) (es : List Event) → eventsOf (front ++ tail) ≡ Events es → endOfTrack (front ++ tail) ≤ length front
+    → chunkOfTrack (front ++ tail) ≤ length (front ++ other) → length (front ++ other) ≤ 65536 → eventsOf (front ++ other) ≡ Events es
