@@ -328,7 +328,7 @@ meet-same b other c f n s = go (quantityAt b (edgeOf b c) (c .at)) refl
 -- ---- 6. The song from a cursor on
 
 -- the song by what is met first
-abbrev songBy : ℕ → List ℕ → Met → Song
+abbrev pub songBy : ℕ → List ℕ → Met → Song
 songBy n b m =
     elim m [
       | Met.Fault number place ↦ Refused number place
@@ -348,7 +348,7 @@ endBy n b c m =
     ]
 
 -- the song, where it is known what is met
-song-is : (n : ℕ) (b : List ℕ) (c : Cursor) (m : Met) → meetAt b c ≡ m → songFrom (suc n) b c ≡ songBy n b m
+pub song-is : (n : ℕ) (b : List ℕ) (c : Cursor) (m : Met) → meetAt b c ≡ m → songFrom (suc n) b c ≡ songBy n b m
 unfolding songFrom
 song-is n b c m e = ap (songBy n b) e
 

@@ -3,3 +3,4 @@ pub mod ItemsLaws
 pub mod TicksLaws
 pub mod TrackLaws
 pub mod BehindLaws
+pub mod SpellingLaws

@@ -5,3 +5,4 @@ pub mod Ticks
 pub mod Track
 pub mod Songs
 pub mod Behind
+pub mod Spelling

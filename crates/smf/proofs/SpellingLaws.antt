@@ -1,0 +1,652 @@
+-- Files that are written from a score: each definition reads back what is written, with running status and without.
+use mathlib.Core.Bool.{Bool, true, false, cond, true≢false, not, _&&_, _||_, and-true}
+use mathlib.Core.List.{List, [], _∷_, _++_, append-assoc}
+use mathlib.Core.Path.{_≡_, refl, sym, ap, subst, _∙_}
+use Prim.Native.Nat.{ℕ, zero, suc, _+_, _*_, _-_, _/_, _%_, _<_, _≤_}
+use native.Mathlib.Numerals.{add-one}
+use native.Mathlib.Nat.{not-suc-le-zero, le-of-suc-le-suc, div-div-eq-div-mul}
+use native.Mathlib.Omega.{arith}
+use lib.Dec.{ltb, leb, eqb}
+use lib.ListN.{length, drop, getD, length-drop, length-append}
+use lib.Seq.{drop-cons}
+use borrow.Author.Tests.{ltb-true, ltb-false, eqb-true, lt-ltb, le-ltb, le-leb, lt-leb, ne-eqb}
+use Rattle.arith.specs.Bytes.{u8At}
+use Rattle.arith.specs.Holds.{between}
+use Rattle.smf.specs.declared.Cursor.{Cursor}
+use Rattle.smf.specs.declared.Event.{Event}
+use Rattle.smf.specs.declared.Header.{Header}
+use Rattle.smf.specs.declared.Item.{Item}
+use Rattle.smf.specs.declared.Met.{Met}
+use Rattle.smf.specs.declared.Quantity.{Quantity}
+use Rattle.smf.specs.declared.Quantity.the-variants.{Good}
+use Rattle.smf.specs.Quantities.{twoAt, threeAt, fourAt, quantityFrom, quantityAt}
+use Rattle.smf.specs.Head.{chunkEnd, trackFrom, headOf}
+use Rattle.smf.specs.Items.{isChannel, isShort, shortAt, longAt, channelAt, metaOf, metaAt, itemAt}
+use Rattle.smf.specs.Ticks.{sumAfter, isLate, frameAt}
+use Rattle.smf.specs.Track.{Song, edgeOf, isBad, moved, eventOf, done, obeyed, meetAt, behindEvent, songFrom}
+use Rattle.smf.specs.Track.Song.{Refused, Events}
+use Rattle.smf.specs.Songs.{startAt, turns, eventsOf, verdict, testOf}
+use Rattle.smf.specs.Spelling.{Mark, Score, GoodMark, GoodMarks, GoodScore, playedFrom, inTimeFrom, played, inTime, twoBytes, threeBytes, fourBytes, quantityBytes, statusBytes, dataBytes, markBytes, runningBehind, trackBytes, trackOf, fileBytes, AllBytes, WrittenInBytes, WrittenIsPlayed, WrittenTooLate, RunningIsSpelling}
+use Rattle.smf.proofs.QuantitiesLaws.{from-last, from-more}
+use Rattle.smf.proofs.BehindLaws.{meet-is, songBy, song-is, events-is}
+
+-- ---- 1. Bytes one after the other
+
+-- the byte at a place from which on the rest of a file is known, and the rest behind it
+pub record Next (b : List ℕ) (at x : ℕ) (rest : List ℕ) : Type 0 where
+  pub inside : at < length b
+  pub byte : u8At b at ≡ x
+  pub behind : drop (at + 1) b ≡ rest
+
+-- so it is where the rest begins with a byte
+pub next : (b : List ℕ) (at x : ℕ) (rest : List ℕ) → drop at b ≡ x ∷ rest → Next b at x rest
+unfolding u8At
+next b at x rest e =
+    let long : length b - at ≡ suc (length rest) = sym (length-drop at b) ∙ ap length e in
+    let h : at < length b = omega arith in
+    let d : getD b at 0 ∷ drop (suc at) b ≡ x ∷ rest = sym (drop-cons b at 0 h) ∙ e in
+    record { inside = h; byte = cc; behind = rw add-one (cc) }
+
+-- ---- 2. Quantities
+
+-- a quantity that is read back, with the rest of the file behind it
+record Quantity-read (b : List ℕ) (at n : ℕ) (rest : List ℕ) : Type 0 where
+  place : ℕ
+  reads : quantityAt b (length b) at ≡ Good n place
+  behind : drop place b ≡ rest
+
+-- a quantity of one byte
+quantity-small : (b : List ℕ) (at n : ℕ) → at < length b → u8At b at ≡ n → n < 128 → quantityAt b (length b) at ≡ Good n (at + 1)
+unfolding quantityAt
+quantity-small b at n h e l =
+    let small : u8At b at < 128 = omega arith in
+    let value : 0 * 128 + u8At b at ≡ n = omega arith in
+    from-last 3 b (length b) at 0 h small ∙ ap (λ (v : ℕ). Good v (at + 1)) value
+
+-- a quantity below 128 is written in one byte
+one-byte : (n : ℕ) → n < 128 → quantityBytes n ≡ n ∷ []
+unfolding quantityBytes
+one-byte n h = rw (lt-ltb n 128 h) refl
+
+-- .. below 16,384 in two
+two-bytes : (n : ℕ) → 128 ≤ n → n < 16384 → quantityBytes n ≡ (128 + n / 128) ∷ n % 128 ∷ []
+unfolding quantityBytes
+two-bytes n h k = rw (le-ltb n 128 h, lt-ltb n 16384 k) refl
+
+-- .. below 2,097,152 in three
+three-bytes : (n : ℕ) → 16384 ≤ n → n < 2097152 → quantityBytes n ≡ (128 + n / 16384) ∷ (128 + n / 128 % 128) ∷ n % 128 ∷ []
+unfolding quantityBytes
+three-bytes n h k =
+    let l : 128 ≤ n = omega arith in
+    rw (le-ltb n 128 l, le-ltb n 16384 h, lt-ltb n 2097152 k) refl
+
+-- .. and others in four
+four-bytes : (n : ℕ) → 2097152 ≤ n → quantityBytes n ≡ (128 + n / 2097152) ∷ (128 + n / 16384 % 128) ∷ (128 + n / 128 % 128) ∷ n % 128 ∷ []
+unfolding quantityBytes
+four-bytes n h =
+    let l : 128 ≤ n = omega arith in
+    let m : 16384 ≤ n = omega arith in
+    rw (le-ltb n 128 l, le-ltb n 16384 m, le-ltb n 2097152 h) refl
+
+module _ (b : List ℕ) (at n : ℕ) (rest : List ℕ) (e : drop at b ≡ quantityBytes n ++ rest) where
+  -- one byte is read back
+  read-one : n < 128 → Quantity-read b at n rest
+  read-one h =
+      let x = next b at n rest (e ∙ ap (λ (q : List ℕ). q ++ rest) (one-byte n h)) in
+      record { place = at + 1; reads = quantity-small b at n (x .inside) (x .byte) h; behind = x .behind }
+
+  -- two bytes
+  read-two : 128 ≤ n → n < 16384 → Quantity-read b at n rest
+  unfolding quantityAt
+  read-two h k =
+      let x = next b at (128 + n / 128) (n % 128 ∷ rest) (e ∙ ap (λ (q : List ℕ). q ++ rest) (two-bytes n h k)) in
+      let y = next b (at + 1) (n % 128) rest (x .behind) in
+      let u : 128 ≤ u8At b at = omega (arith, x .byte) in
+      let v : u8At b (at + 1) < 128 = omega (arith, y .byte) in
+      let value : (0 * 128 + (u8At b at - 128)) * 128 + u8At b (at + 1) ≡ n = omega (arith, x .byte, y .byte) in
+      record {
+        place = at + 1 + 1;
+        reads =
+            from-more 3 b (length b) at 0 (x .inside) u
+            ∙ from-last 2 b (length b) (at + 1) (0 * 128 + (u8At b at - 128)) (y .inside) v
+            ∙ ap (λ (z : ℕ). Good z (at + 1 + 1)) value;
+        behind = y .behind;
+      }
+
+  -- three bytes
+  read-three : 16384 ≤ n → n < 2097152 → Quantity-read b at n rest
+  unfolding quantityAt
+  read-three h k =
+      let x = next b at (128 + n / 16384) ((128 + n / 128 % 128) ∷ n % 128 ∷ rest) (e ∙ ap (λ (q : List ℕ). q ++ rest) (three-bytes n h k)) in
+      let y = next b (at + 1) (128 + n / 128 % 128) (n % 128 ∷ rest) (x .behind) in
+      let z = next b (at + 1 + 1) (n % 128) rest (y .behind) in
+      let u : 128 ≤ u8At b at = omega (arith, x .byte) in
+      let v : 128 ≤ u8At b (at + 1) = omega (arith, y .byte) in
+      let w : u8At b (at + 1 + 1) < 128 = omega (arith, z .byte) in
+      let value : ((0 * 128 + (u8At b at - 128)) * 128 + (u8At b (at + 1) - 128)) * 128 + u8At b (at + 1 + 1) ≡ n = omega (arith, x .byte, y .byte, z .byte) in
+      record {
+        place = at + 1 + 1 + 1;
+        reads =
+            from-more 3 b (length b) at 0 (x .inside) u
+            ∙ from-more 2 b (length b) (at + 1) (0 * 128 + (u8At b at - 128)) (y .inside) v
+            ∙ from-last 1 b (length b) (at + 1 + 1) ((0 * 128 + (u8At b at - 128)) * 128 + (u8At b (at + 1) - 128)) (z .inside) w
+            ∙ ap (λ (z : ℕ). Good z (at + 1 + 1 + 1)) value;
+        behind = z .behind;
+      }
+
+  -- four bytes
+  read-four : 2097152 ≤ n → n < 268435456 → Quantity-read b at n rest
+  unfolding quantityAt
+  read-four h k =
+      let x = next b at (128 + n / 2097152) ((128 + n / 16384 % 128) ∷ (128 + n / 128 % 128) ∷ n % 128 ∷ rest) (e ∙ ap (λ (q : List ℕ). q ++ rest) (four-bytes n h)) in
+      let y = next b (at + 1) (128 + n / 16384 % 128) ((128 + n / 128 % 128) ∷ n % 128 ∷ rest) (x .behind) in
+      let z = next b (at + 1 + 1) (128 + n / 128 % 128) (n % 128 ∷ rest) (y .behind) in
+      let l = next b (at + 1 + 1 + 1) (n % 128) rest (z .behind) in
+      let u : 128 ≤ u8At b at = omega (arith, x .byte) in
+      let v : 128 ≤ u8At b (at + 1) = omega (arith, y .byte) in
+      let w : 128 ≤ u8At b (at + 1 + 1) = omega (arith, z .byte) in
+      let m : u8At b (at + 1 + 1 + 1) < 128 = omega (arith, l .byte) in
+      let high : n / 16384 / 128 ≡ n / 2097152 = div-div-eq-div-mul n 16384 128 in
+      let low : n / 128 / 128 ≡ n / 16384 = div-div-eq-div-mul n 128 128 in
+      let v1 : 0 * 128 + (u8At b at - 128) ≡ n / 2097152 = omega (arith, x .byte) in
+      let v2 : n / 2097152 * 128 + (u8At b (at + 1) - 128) ≡ n / 16384 = omega (arith, y .byte) in
+      let v3 : n / 16384 * 128 + (u8At b (at + 1 + 1) - 128) ≡ n / 128 = omega (arith, z .byte) in
+      let v4 : n / 128 * 128 + u8At b (at + 1 + 1 + 1) ≡ n = omega (arith, l .byte) in
+      let value : (((0 * 128 + (u8At b at - 128)) * 128 + (u8At b (at + 1) - 128)) * 128 + (u8At b (at + 1 + 1) - 128)) * 128 + u8At b (at + 1 + 1 + 1) ≡ n = rw (v1, v2, v3) v4 in
+      record {
+        place = at + 1 + 1 + 1 + 1;
+        reads =
+            from-more 3 b (length b) at 0 (x .inside) u
+            ∙ from-more 2 b (length b) (at + 1) (0 * 128 + (u8At b at - 128)) (y .inside) v
+            ∙ from-more 1 b (length b) (at + 1 + 1) ((0 * 128 + (u8At b at - 128)) * 128 + (u8At b (at + 1) - 128)) (z .inside) w
+            ∙ from-last 0 b (length b) (at + 1 + 1 + 1) (((0 * 128 + (u8At b at - 128)) * 128 + (u8At b (at + 1) - 128)) * 128 + (u8At b (at + 1 + 1) - 128)) (l .inside) m
+            ∙ ap (λ (z : ℕ). Good z (at + 1 + 1 + 1 + 1)) value;
+        behind = l .behind;
+      }
+
+  -- a quantity is read back
+  read-quantity : n < 268435456 → Quantity-read b at n rest
+  read-quantity h = one (ltb n 128) refl
+    where
+      three : 16384 ≤ n → (t : Bool) → ltb n 2097152 ≡ t → Quantity-read b at n rest
+      three l true f = read-three l (ltb-true n 2097152 f)
+      three l false f = read-four (ltb-false n 2097152 f) h
+
+      two : 128 ≤ n → (t : Bool) → ltb n 16384 ≡ t → Quantity-read b at n rest
+      two l true f = read-two l (ltb-true n 16384 f)
+      two l false f = three (ltb-false n 16384 f) (ltb n 2097152) refl
+
+      one : (t : Bool) → ltb n 128 ≡ t → Quantity-read b at n rest
+      one true f = read-one (ltb-true n 128 f)
+      one false f = two (ltb-false n 128 f) (ltb n 16384) refl
+
+-- ---- 3. Events
+
+-- of two tests that hold, the second
+both : (s t : Bool) → (s && t) ≡ true → t ≡ true
+both true t e = e
+both false t e = absurd (true≢false (sym e))
+
+-- a channel event that is read back, with the rest of the file behind it
+record Channel-read (b : List ℕ) (x : Item) (status first second : ℕ) (rest : List ℕ) : Type 0 where
+  place : ℕ
+  reads : x ≡ Item.Channel status first second place
+  behind : drop place b ≡ rest
+
+module _ (b : List ℕ) (status first second : ℕ) (rest : List ℕ) (low : 128 ≤ status) (high : status ≤ 239) (small : first < 128) (small2 : second < 128) (short : isShort status ≡ true → second ≡ 0) where
+  -- its data bytes, by how many there are
+  data-read : (at : ℕ) → drop at b ≡ dataBytes status first second ++ rest
+      → (u8At b at ≡ first) × (at < length b) × Channel-read b (channelAt b (length b) status at) status first second rest
+  unfolding dataBytes channelAt shortAt longAt
+  data-read at e = go (isShort status) refl
+    where
+      go : (t : Bool) → isShort status ≡ t → (u8At b at ≡ first) × (at < length b) × Channel-read b (channelAt b (length b) status at) status first second rest
+      go true f =
+          let x = next b at first rest (rw f at e) in
+          let none = le-ltb (length b) (at + 1) (omega (arith, x .inside)) in
+          let fine = le-ltb 127 first (omega arith) in
+          (x .byte, x .inside, record { place = at + 1; reads = rw (f, none, x .byte, fine, short f) refl; behind = x .behind })
+      go false f =
+          let x = next b at first (second ∷ rest) (rw f at e) in
+          let y = next b (at + 1) second rest (x .behind) in
+          let none = le-ltb (length b) (at + 2) (omega (arith, y .inside)) in
+          let fine = le-ltb 127 first (omega arith) in
+          let fine2 = le-ltb 127 second (omega arith) in
+          let z : at + 1 + 1 ≡ at + 2 = omega arith in
+          (x .byte, x .inside, record { place = at + 2; reads = rw (f, none, x .byte, y .byte, fine, fine2) refl; behind = rw z at (y .behind) })
+
+  -- with its status
+  written-read : (running at : ℕ) → drop at b ≡ status ∷ (dataBytes status first second ++ rest)
+      → Channel-read b (itemAt b (length b) running at) status first second rest
+  unfolding itemAt
+  written-read running at e =
+      let x = next b at status (dataBytes status first second ++ rest) e in
+      let d = data-read (at + 1) (x .behind) .2 in
+      let t1 = lt-leb (length b) at (x .inside) in
+      let t2 = le-ltb status 128 low in
+      let t3 = lt-ltb status 240 (omega arith) in
+      record { place = d .place; reads = rw (x .byte, t1, t2, t3) (d .reads); behind = d .behind }
+
+  -- its status is one of a channel event
+  is-channel : isChannel status ≡ true
+  unfolding between
+  is-channel = rw (le-leb 128 status low, le-leb status 239 high) refl
+
+  -- without it, where it runs
+  omitted-read : (at : ℕ) → drop at b ≡ dataBytes status first second ++ rest → Channel-read b (itemAt b (length b) status at) status first second rest
+  unfolding itemAt
+  omitted-read at e =
+      let d = data-read at e in
+      let t1 = lt-leb (length b) at (d .1) in
+      let t2 = lt-ltb first 128 small in
+      record { place = d .2 .place; reads = rw (d .0, t1, t2, is-channel) (d .2 .reads); behind = d .2 .behind }
+
+  -- in either way
+  channel-read : (omit : Bool) (running at : ℕ) → drop at b ≡ (statusBytes omit running status ++ dataBytes status first second) ++ rest
+      → Channel-read b (itemAt b (length b) running at) status first second rest
+  unfolding statusBytes
+  channel-read omit running at e = go (omit && eqb status running) refl
+    where
+      go : (t : Bool) → (omit && eqb status running) ≡ t → Channel-read b (itemAt b (length b) running at) status first second rest
+      go true f =
+          let r : status ≡ running = eqb-true status running (both omit (eqb status running) f) in
+          subst (λ (q : ℕ). Channel-read b (itemAt b (length b) q at) status first second rest) r (omitted-read at (rw f at e))
+      go false f = written-read running at (rw f at e)
+
+module _ (b : List ℕ) (running at : ℕ) where
+  -- a meta event by its type and its length, which is one byte long
+  meta-read : (kind n : ℕ) (rest : List ℕ) → drop at b ≡ 255 ∷ kind ∷ n ∷ rest → kind < 128 → n < 128 → at + 1 + 1 + 1 + n ≤ length b
+      → itemAt b (length b) running at ≡ metaOf b kind n (at + 1 + 1 + 1)
+  unfolding itemAt metaAt
+  meta-read kind n rest e h k l =
+      let x = next b at 255 (kind ∷ n ∷ rest) e in
+      let y = next b (at + 1) kind (n ∷ rest) (x .behind) in
+      let z = next b (at + 1 + 1) n rest (y .behind) in
+      let q = quantity-small b (at + 1 + 1) n (z .inside) (z .byte) k in
+      let t1 = lt-leb (length b) at (x .inside) in
+      let t2 = le-ltb 127 kind (omega arith) in
+      let t3 = le-ltb (length b) (at + 1 + 1 + 1 + n) l in
+      rw (x .byte, t1) (rw (q, metaAt) (rw (y .byte, t2, t3) refl))
+
+  -- the end of track
+  end-read : drop at b ≡ 255 ∷ 47 ∷ 0 ∷ [] → itemAt b (length b) running at ≡ Item.End
+  unfolding metaOf
+  end-read e =
+      let x = next b at 255 (47 ∷ 0 ∷ []) e in
+      let y = next b (at + 1) 47 (0 ∷ []) (x .behind) in
+      let z = next b (at + 1 + 1) 0 [] (y .behind) in
+      meta-read 47 0 [] e (omega arith) (omega arith) (omega (arith, z .inside))
+
+  -- a tempo
+  tempo-read : (tempo : ℕ) (rest : List ℕ) → drop at b ≡ (255 ∷ 81 ∷ 3 ∷ threeBytes tempo) ++ rest
+      → (itemAt b (length b) running at ≡ Item.Tempo tempo (at + 1 + 1 + 1 + 3)) × (drop (at + 1 + 1 + 1 + 3) b ≡ rest)
+  unfolding metaOf threeAt twoAt threeBytes
+  tempo-read tempo rest e =
+      let p = at + 1 + 1 + 1 in
+      let bytes = tempo / 65536 ∷ tempo / 256 % 256 ∷ tempo % 256 ∷ rest in
+      let x = next b at 255 (81 ∷ 3 ∷ bytes) e in
+      let y = next b (at + 1) 81 (3 ∷ bytes) (x .behind) in
+      let z = next b (at + 1 + 1) 3 bytes (y .behind) in
+      let u = next b p (tempo / 65536) (tempo / 256 % 256 ∷ tempo % 256 ∷ rest) (z .behind) in
+      let v = next b (p + 1) (tempo / 256 % 256) (tempo % 256 ∷ rest) (u .behind) in
+      let w = next b (p + 1 + 1) (tempo % 256) rest (v .behind) in
+      let two : p + 1 + 1 ≡ p + 2 = omega arith in
+      let three : p + 1 + 1 + 1 ≡ p + 3 = omega arith in
+      let last : u8At b (p + 2) ≡ tempo % 256 = rw two at (w .byte) in
+      let parts : tempo / 256 / 256 ≡ tempo / 65536 = div-div-eq-div-mul tempo 256 256 in
+      let value : (u8At b p * 256 + u8At b (p + 1)) * 256 + u8At b (p + 2) ≡ tempo = omega (arith, u .byte, v .byte) in (
+        meta-read 81 3 bytes e (omega arith) (omega arith) (omega (arith, w .inside)) ∙ ap (λ (t : ℕ). Item.Tempo t (p + 3)) value,
+        rw three at (w .behind),
+      )
+
+-- ---- 4. The song
+
+-- a song that is in time has these events; one that is not is refused with 11
+abbrev Told : Bool → List Event → Song → Type 0
+Told true es x = x ≡ Events es
+Told false es x = (place : ℕ) × (x ≡ Refused 11 place)
+
+-- an event in front
+told-behind : (t : Bool) (e : Event) (es : List Event) (x : Song) → Told t es x → Told t (e ∷ es) (behindEvent e x)
+told-behind true e es x h = ap (behindEvent e) h
+told-behind false e es x h = (h .0, ap (behindEvent e) (h .1))
+
+-- one event: it is past an hour, or the song goes on behind it
+step : (n : ℕ) (b : List ℕ) (c : Cursor) (x : Item) (sum place : ℕ) (t : Bool) (es : List Event) → isBad x ≡ false → meetAt b c ≡ obeyed x c sum place
+    → Told t es (songBy n b (done x c sum place)) → Told (not (isLate (c .division) sum) && t) es (songFrom (suc n) b c)
+unfolding obeyed
+step n b c x sum place t es good e h = go (isLate (c .division) sum) refl
+  where
+    go : (l : Bool) → isLate (c .division) sum ≡ l → Told (not l && t) es (songFrom (suc n) b c)
+    go true f = (place, song-is n b c (Met.Fault 11 place) (e ∙ rw (good, f) refl))
+    go false f = subst (λ (y : Song). Told t es y) (sym (song-is n b c (done x c sum place) (e ∙ rw (good, f) refl))) h
+
+-- what is met, by the delta time that is read
+met : (b : List ℕ) (c : Cursor) (ticks : ℕ) (rest : List ℕ) → c .end ≡ length b → (q : Quantity-read b (c .at) ticks rest)
+    → meetAt b c ≡ obeyed (itemAt b (length b) (c .running) (q .place)) c (sumAfter c ticks) (q .place)
+met b c ticks rest whole q =
+    let edge : edgeOf b c ≡ length b = omega arith in
+    meet-is b c ticks (q .place) (subst (λ (n : ℕ). quantityAt b n (c .at) ≡ Good ticks (q .place)) (sym edge) (q .reads))
+    ∙ ap (λ (n : ℕ). obeyed (itemAt b n (c .running) (q .place)) c (sumAfter c ticks) (q .place)) edge
+
+-- the song of a track that is written from a score
+song-told : (ms : List Mark) (omits : ℕ → Bool) (k last n : ℕ) (b : List ℕ) (c : Cursor) → c .end ≡ length b → drop (c .at) b ≡ trackBytes omits k (c .running) ms last
+    → GoodMarks ms → last < 268435456 → length ms < n
+    → Told (inTimeFrom (c .division) (c .tempo) (c .sum) ms last) (playedFrom (c .division) (c .tempo) (c .sum) ms) (songFrom n b c)
+unfolding trackBytes markBytes playedFrom inTimeFrom done
+song-told [] omits k last zero b c whole e g l h = absurd (not-suc-le-zero h)
+song-told [] omits k last (suc n) b c whole e g l h =
+    let q = read-quantity b (c .at) last (255 ∷ 47 ∷ 0 ∷ []) e l in
+    let x = end-read b (c .running) (q .place) (q .behind) in
+    let m = met b c last (255 ∷ 47 ∷ 0 ∷ []) whole q ∙ ap (λ (i : Item). obeyed i c (sumAfter c last) (q .place)) x in
+    subst (λ (t : Bool). Told t [] (songFrom (suc n) b c)) (and-true (not (isLate (c .division) (sumAfter c last))))
+    (step n b c Item.End (sumAfter c last) (q .place) true [] refl m refl)
+song-told (m ∷ ms) omits k last zero b c whole e g l h = absurd (not-suc-le-zero h)
+song-told (Mark.Channel ticks status first second ∷ ms) omits k last (suc n) b c whole e g l h =
+    let track = trackBytes omits (suc k) status ms last in
+    let event = statusBytes (omits k) (c .running) status ++ dataBytes status first second in
+    let g0 = g .0 in
+    let q = read-quantity b (c .at) ticks (event ++ track) (e ∙ append-assoc (quantityBytes ticks) event track) (g0 .0) in
+    let r = channel-read b status first second track (g0 .1) (g0 .2) (g0 .3) (g0 .4) (g0 .5) (omits k) (c .running) (q .place) (q .behind) in
+    let m = met b c ticks (event ++ track) whole q ∙ ap (λ (i : Item). obeyed i c (sumAfter c ticks) (q .place)) (r .reads) in
+    let sum = sumAfter c ticks in
+    let further = moved c sum (r .place) status (c .tempo) in
+    let more = song-told ms omits (suc k) last n b further whole (r .behind) (g .1) l (le-of-suc-le-suc h) in
+    let t = inTimeFrom (c .division) (c .tempo) sum ms last in
+    step n b c (Item.Channel status first second (r .place)) sum (q .place) t
+    (eventOf c sum status first second ∷ playedFrom (c .division) (c .tempo) sum ms) refl m
+    (told-behind t (eventOf c sum status first second) (playedFrom (c .division) (c .tempo) sum ms) (songFrom n b further) more)
+song-told (Mark.Tempo ticks tempo ∷ ms) omits k last (suc n) b c whole e g l h =
+    let track = trackBytes omits (suc k) 0 ms last in
+    let event : List ℕ = 255 ∷ 81 ∷ 3 ∷ threeBytes tempo in
+    let q = read-quantity b (c .at) ticks (event ++ track) (e ∙ append-assoc (quantityBytes ticks) event track) (g .0 .0) in
+    let r = tempo-read b (c .running) (q .place) tempo track (q .behind) in
+    let m = met b c ticks (event ++ track) whole q ∙ ap (λ (i : Item). obeyed i c (sumAfter c ticks) (q .place)) (r .0) in
+    let sum = sumAfter c ticks in
+    let place = q .place + 1 + 1 + 1 + 3 in
+    let further = moved c sum place 0 tempo in
+    let more = song-told ms omits (suc k) last n b further whole (r .1) (g .1) l (le-of-suc-le-suc h) in
+    step n b c (Item.Tempo tempo place) sum (q .place) (inTimeFrom (c .division) tempo sum ms last) (playedFrom (c .division) tempo sum ms) refl m more
+
+-- ---- 5. The file
+
+-- a quantity has a byte
+quantity-some : (n : ℕ) → 1 ≤ length (quantityBytes n)
+unfolding quantityBytes
+quantity-some n =
+    some (ltb n 128) (n ∷ []) (cond (ltb n 16384) two (cond (ltb n 2097152) three four)) (omega arith)
+    (some (ltb n 16384) two (cond (ltb n 2097152) three four) (omega arith) (some (ltb n 2097152) three four (omega arith) (omega arith)))
+  where
+    some : (t : Bool) (x y : List ℕ) → 1 ≤ length x → 1 ≤ length y → 1 ≤ length (cond t x y)
+    some true x y h k = h
+    some false x y h k = k
+
+    two : List ℕ
+    two = (128 + n / 128) ∷ n % 128 ∷ []
+
+    three : List ℕ
+    three = (128 + n / 16384) ∷ (128 + n / 128 % 128) ∷ n % 128 ∷ []
+
+    four : List ℕ
+    four = (128 + n / 2097152) ∷ (128 + n / 16384 % 128) ∷ (128 + n / 128 % 128) ∷ n % 128 ∷ []
+
+-- a mark has one
+mark-some : (omit : Bool) (running : ℕ) (m : Mark) → 1 ≤ length (markBytes omit running m)
+unfolding markBytes
+mark-some omit running (Mark.Channel ticks status first second) = simp length-append (omega (arith, quantity-some ticks))
+mark-some omit running (Mark.Tempo ticks tempo) = simp length-append (omega (arith, quantity-some ticks))
+
+-- so there are not more marks than bytes
+marks-fit : (ms : List Mark) (omits : ℕ → Bool) (k running last : ℕ) → length ms ≤ length (trackBytes omits k running ms last)
+unfolding trackBytes
+marks-fit [] omits k running last = omega arith
+marks-fit (m ∷ ms) omits k running last =
+    simp length-append (omega (arith, mark-some (omits k) running m, marks-fit ms omits (suc k) (runningBehind m) last))
+
+-- a track that is the first chunk looked at
+track-here : (n : ℕ) (b : List ℕ) (p : ℕ) → p + 8 ≤ length b → fourAt b p ≡ 1297379947 → chunkEnd b p ≤ length b
+    → trackFrom (suc n) b p ≡ Header.Track (p + 8) (chunkEnd b p)
+unfolding trackFrom
+track-here n b p h name k =
+    let t1 = le-ltb (length b) (p + 4) (omega arith) in
+    let t2 = le-ltb (length b) (chunkEnd b p) k in
+    rw (t1, t2, name) refl
+
+-- a head of six bytes, format 0, one track
+head-here : (b : List ℕ) (n division : ℕ) → length b ≡ suc n → fourAt b 0 ≡ 1297377380 → fourAt b 4 ≡ 6 → twoAt b 8 ≡ 0 → twoAt b 10 ≡ 1 → twoAt b 12 ≡ division
+    → 1 ≤ division → division ≤ 32767 → 22 ≤ length b → fourAt b 14 ≡ 1297379947 → chunkEnd b 14 ≡ length b → headOf b ≡ Header.Track 22 (length b)
+unfolding headOf
+head-here b n division size f0 f4 f8 f10 f12 low high long name whole =
+    let c0 : chunkEnd b 0 ≡ 14 = unfold chunkEnd in rw f4 refl in
+    let t1 = le-ltb (length b) 14 (omega arith) in
+    let t2 = ne-eqb division 0 (λ z. omega arith) in
+    let t3 = le-ltb 32767 division high in
+    let t : trackFrom (length b) b 14 ≡ Header.Track 22 (length b) =
+    ap (λ (k : ℕ). trackFrom k b 14) size ∙ track-here n b 14 (omega arith) name (omega arith) ∙ ap (λ (k : ℕ). Header.Track 22 k) whole in
+    rw (f0, f4, c0, t1, f8, f10, f12, t2, t3) t
+
+-- what the head of a written file says
+record Written (b : List ℕ) (s : Score) (track : List ℕ) : Type 0 where
+  size : length b ≡ 22 + length track
+  name : fourAt b 0 ≡ 1297377380
+  six : fourAt b 4 ≡ 6
+  format : twoAt b 8 ≡ 0
+  one : twoAt b 10 ≡ 1
+  division : twoAt b 12 ≡ s .division
+  track-name : fourAt b 14 ≡ 1297379947
+  track-size : fourAt b 18 ≡ length track
+  behind : drop 22 b ≡ track
+
+-- a number in four bytes is read back
+four-back : (n : ℕ) → (n / 16777216 * 256 + n / 65536 % 256) * 65536 + (n / 256 % 256 * 256 + n % 256) ≡ n
+four-back n =
+    let high : n / 65536 / 256 ≡ n / 16777216 = div-div-eq-div-mul n 65536 256 in
+    let low : n / 256 / 256 ≡ n / 65536 = div-div-eq-div-mul n 256 256 in
+    let v1 : n / 16777216 * 256 + n / 65536 % 256 ≡ n / 65536 = omega arith in
+    rw v1 (omega arith)
+
+-- so it says
+written : (omits : ℕ → Bool) (s : Score) → Written (fileBytes omits s) s (trackOf omits s)
+unfolding fileBytes twoBytes fourBytes fourAt twoAt u8At
+written omits s =
+    record {
+      size = omega arith;
+      name = refl;
+      six = refl;
+      format = refl;
+      one = refl;
+      division = omega arith;
+      track-name = refl;
+      track-size = four-back (length (trackOf omits s));
+      behind = refl;
+    }
+
+-- the head of a written file leads to its track, which ends with the file
+written-head : (b : List ℕ) (s : Score) (track : List ℕ) → GoodScore s → Written b s track → headOf b ≡ Header.Track 22 (length b)
+unfolding chunkEnd
+written-head b s track g w =
+    let size = w .size in
+    let z : chunkEnd b 14 ≡ length b = rw (w .track-size) (omega arith) in
+    head-here b (21 + length track) (s .division) (omega arith) (w .name) (w .six) (w .format) (w .one) (w .division) (g .low) (g .high) (omega arith) (w .track-name) z
+
+-- the song of a written file
+written-told : (omits : ℕ → Bool) (s : Score) → GoodScore s → length (fileBytes omits s) ≤ 65536 → Told (inTime s) (played s) (eventsOf (fileBytes omits s))
+unfolding startAt
+written-told omits s g short =
+    let b = fileBytes omits s in
+    let w = written omits s in
+    let c : Cursor = record { at = 22; end = length b; running = 0; division = s .division; tempo = 500000; sum = 0 } in
+    let size = w .size in
+    let few = marks-fit (s .marks) omits 0 0 (s .last) in
+    let start : startAt b 22 (length b) ≡ c =
+    ap (λ (d : ℕ). let x : Cursor = record { at = 22; end = length b; running = 0; division = d; tempo = 500000; sum = 0 } in x) (w .division) in
+    let song = song-told (s .marks) omits 0 (s .last) (turns b) b c refl (w .behind) (g .marks) (g .last) (omega arith) in
+    subst (λ (x : Song). Told (inTime s) (played s) x) (sym (events-is b 22 (length b) short (written-head b s (trackOf omits s) g w) ∙ ap (songFrom (turns b) b) start)) song
+
+-- in time: the file's events are the score's
+pub written-is-played : WrittenIsPlayed
+written-is-played omits s g short t = subst (λ (x : Bool). Told x (played s) (eventsOf (fileBytes omits s))) t (written-told omits s g short)
+
+-- not in time: 11
+pub written-too-late : WrittenTooLate
+unfolding testOf
+written-too-late omits s g short t =
+    let r : Told false (played s) (eventsOf (fileBytes omits s)) = subst (λ (x : Bool). Told x (played s) (eventsOf (fileBytes omits s))) t (written-told omits s g short) in
+    ap (λ (x : Song). verdict x .number) (r .1)
+
+-- running status is a matter of spelling
+pub running-is-spelling : RunningIsSpelling
+unfolding testOf
+running-is-spelling one other s g short short2 = go (inTime s) refl
+  where
+    go : (t : Bool) → inTime s ≡ t
+        → ((es : List Event) → eventsOf (fileBytes one s) ≡ Events es → eventsOf (fileBytes other s) ≡ Events es)
+        × (testOf (fileBytes one s) .number ≡ testOf (fileBytes other s) .number)
+    go true t =
+        let x = written-is-played one s g short t in
+        let y = written-is-played other s g short2 t in
+        (λ es e. y ∙ sym x ∙ e, ap (λ (z : Song). verdict z .number) (x ∙ sym y))
+    go false t =
+        let x = written-too-late one s g short t in
+        let y = written-too-late other s g short2 t in
+        (λ es e. let z : _≡_ {A = ℕ} 11 0 = sym x ∙ ap (λ (q : Song). verdict q .number) e in absurd (omega arith), x ∙ sym y)
+
+-- ---- 6. Bytes
+
+-- two lists of bytes
+all-append : (xs ys : List ℕ) → AllBytes xs → AllBytes ys → AllBytes (xs ++ ys)
+all-append [] ys p q = q
+all-append (x ∷ xs) ys p q = (p .0, all-append xs ys (p .1) q)
+
+-- by a test
+all-cond : (t : Bool) (xs ys : List ℕ) → (t ≡ true → AllBytes xs) → (t ≡ false → AllBytes ys) → AllBytes (cond t xs ys)
+all-cond true xs ys p q = p refl
+all-cond false xs ys p q = q refl
+
+-- a quantity is written in bytes
+quantity-bytes : (n : ℕ) → n < 268435456 → AllBytes (quantityBytes n)
+unfolding quantityBytes
+quantity-bytes n h =
+    all-cond (ltb n 128) _ _ (λ e. (omega (arith, ltb-true n 128 e), tt))
+    (λ e.
+    all-cond (ltb n 16384) _ _ (λ f. (omega (arith, ltb-true n 16384 f), (omega arith, tt)))
+    (λ f.
+    all-cond (ltb n 2097152) _ _ (λ g. (omega (arith, ltb-true n 2097152 g), (omega arith, (omega arith, tt))))
+    (λ g. (omega arith, (omega arith, (omega arith, (omega arith, tt)))))))
+
+-- so is a mark
+mark-bytes : (omit : Bool) (running : ℕ) (m : Mark) → GoodMark m → AllBytes (markBytes omit running m)
+unfolding markBytes statusBytes dataBytes threeBytes
+mark-bytes omit running (Mark.Channel ticks status first second) g =
+    all-append (quantityBytes ticks) (statusBytes omit running status ++ dataBytes status first second) (quantity-bytes ticks (g .0))
+    (all-append (statusBytes omit running status) (dataBytes status first second)
+    (all-cond (omit && eqb status running) [] (status ∷ []) (λ e. tt) (λ e. (omega (arith, g .2), tt)))
+    (all-cond (isShort status) (first ∷ []) (first ∷ second ∷ []) (λ e. (omega (arith, g .3), tt)) (λ e. (omega (arith, g .3), (omega (arith, g .4), tt)))))
+mark-bytes omit running (Mark.Tempo ticks tempo) g =
+    all-append (quantityBytes ticks) (255 ∷ 81 ∷ 3 ∷ threeBytes tempo) (quantity-bytes ticks (g .0))
+    (omega arith, (omega arith, (omega arith, (omega (arith, g .1), (omega arith, (omega arith, tt))))))
+
+-- so is a track
+track-bytes : (ms : List Mark) (omits : ℕ → Bool) (k running last : ℕ) → GoodMarks ms → last < 268435456 → AllBytes (trackBytes omits k running ms last)
+unfolding trackBytes
+track-bytes [] omits k running last g l =
+    all-append (quantityBytes last) (255 ∷ 47 ∷ 0 ∷ []) (quantity-bytes last l) (omega arith, (omega arith, (omega arith, tt)))
+track-bytes (m ∷ ms) omits k running last g l =
+    all-append (markBytes (omits k) running m) (trackBytes omits (suc k) (runningBehind m) ms last) (mark-bytes (omits k) running m (g .0))
+    (track-bytes ms omits (suc k) (runningBehind m) last (g .1) l)
+
+-- so is a file
+pub written-in-bytes : WrittenInBytes
+unfolding fileBytes twoBytes fourBytes
+written-in-bytes omits s g short =
+    let n = length (trackOf omits s) in
+    let few : n ≤ 65536 = omega (arith, written omits s .size) in (
+      omega arith,
+      (omega arith, (omega arith, (omega arith, (omega arith, (omega arith, (omega arith, (omega arith, (omega arith, (omega arith, (omega arith, (omega arith, (omega (arith, g .high), (omega arith, (omega arith, (omega arith, (omega arith, (omega arith, (omega arith, (omega arith, (omega arith, (omega arith, track-bytes (s .marks) omits 0 0 (s .last) (g .marks) (g .last)))))))))))))))))))))),
+    )
+
+-- ---- 7. A score of which this speaks
+
+-- a bell struck twice and left twice, the second time at half the pace: the running status is written out, or left out where it runs
+abbrev tune : Score
+tune =
+    record {
+      division = 96;
+      marks =
+          Mark.Channel 0 144 60 100 ∷ Mark.Channel 96 144 60 0 ∷ Mark.Channel 0 192 5 0 ∷ Mark.Tempo 0 1000000 ∷ Mark.Channel 0 144 62 100 ∷ Mark.Channel 16480 144 62 0 ∷ [];
+      last = 0;
+    }
+
+-- its numbers are good
+tune-good : GoodScore tune
+unfolding between
+tune-good =
+    record {
+      low = omega arith;
+      high = omega arith;
+      marks = (
+        (omega arith, omega arith, omega arith, omega arith, omega arith, never),
+        (
+          (omega arith, omega arith, omega arith, omega arith, omega arith, never),
+          ((omega arith, omega arith, omega arith, omega arith, omega arith, λ z. refl), ((omega arith, omega arith), ((omega arith, omega arith, omega arith, omega arith, omega arith, never), ((omega arith, omega arith, omega arith, omega arith, omega arith, never), tt)))),
+        ),
+      );
+      last = omega arith;
+    }
+  where
+    never : {n : ℕ} → false ≡ true → n ≡ 0
+    never z = absurd (true≢false (sym z))
+
+-- its events
+abbrev rung : List Event
+rung =
+    record { frame = 0; status = 144; first = 60; second = 100 } ∷
+    record { frame = 22050; status = 144; first = 60; second = 0 } ∷
+    record { frame = 22050; status = 192; first = 5; second = 0 } ∷
+    record { frame = 22050; status = 144; first = 62; second = 100 } ∷
+    record { frame = 7592550; status = 144; first = 62; second = 0 } ∷ []
+
+-- what the definitions say of it, computed: two status bytes can be left out
+record Tune-shown : Type 0 where
+  written-out : length (fileBytes (λ k. false) tune) ≡ 54
+  left-out : length (fileBytes (λ k. true) tune) ≡ 52
+  in-time : inTime tune ≡ true
+  events : played tune ≡ rung
+
+-- so it is
+tune-shown : Tune-shown
+unfolding fileBytes trackBytes markBytes quantityBytes statusBytes dataBytes twoBytes threeBytes fourBytes between inTimeFrom playedFrom frameAt
+tune-shown = record { written-out = refl; left-out = refl; in-time = refl; events = refl }
+
+-- its two files, and their events
+pub record Two-files : Type 0 where
+  pub written-out : eventsOf (fileBytes (λ k. false) tune) ≡ Events rung
+  pub left-out : eventsOf (fileBytes (λ k. true) tune) ≡ Events rung
+
+-- the one by the law of written files, the other by that of spelling
+pub two-files : Two-files
+two-files =
+    let long : length (fileBytes (λ k. false) tune) ≤ 65536 = omega (arith, tune-shown .written-out) in
+    let short : length (fileBytes (λ k. true) tune) ≤ 65536 = omega (arith, tune-shown .left-out) in
+    let x = written-is-played (λ k. false) tune tune-good long (tune-shown .in-time) ∙ ap Events (tune-shown .events) in
+    record { written-out = x; left-out = running-is-spelling (λ k. false) (λ k. true) tune tune-good long short .0 rung x }
+
+-- a score that goes on past an hour, by half a second
+abbrev slow : Score
+slow = record { division = 1; marks = []; last = 7201 }
+
+-- its numbers are good, and it is not in time
+record Slow-shown : Type 0 where
+  good : GoodScore slow
+  short : length (fileBytes (λ k. true) slow) ≡ 27
+  late : inTime slow ≡ false
+
+-- so it is
+slow-shown : Slow-shown
+unfolding fileBytes trackBytes quantityBytes twoBytes fourBytes inTimeFrom
+slow-shown =
+    record { good = record { low = omega arith; high = omega arith; marks = tt; last = omega arith }; short = refl; late = refl }
+
+-- it is refused
+pub slow-refused : testOf (fileBytes (λ k. true) slow) .number ≡ 11
+slow-refused = written-too-late (λ k. true) slow (slow-shown .good) (omega (arith, slow-shown .short)) (slow-shown .late)

@@ -1,0 +1,153 @@
+-- 02, M-101: files of format 0, written: a score as bytes, with running status and without. Both give the same events.
+use mathlib.Core.Bool.{cond, Bool, true, false, not, _&&_}
+use mathlib.Core.List.{List, [], _∷_, _++_}
+use mathlib.Core.Path.{_≡_}
+use Prim.Native.Nat.{ℕ, suc, _+_, _*_, _/_, _%_, _<_, _≤_}
+use lib.Dec.{ltb, eqb}
+use lib.ListN.{length}
+use Rattle.smf.specs.declared.Event.{Event}
+use Rattle.smf.specs.Items.{isShort}
+use Rattle.smf.specs.Ticks.{isLate, frameAt}
+use Rattle.smf.specs.Track.{Song}
+use Rattle.smf.specs.Track.Song.{Events}
+use Rattle.smf.specs.Songs.{eventsOf, testOf}
+
+-- ---- 1. A score
+
+-- so many ticks behind what is in front of it: a channel event, or a tempo in microseconds of a quarter note
+pub data Mark : Type 0 where
+  Channel : (ticks status first second : ℕ) → Mark
+  Tempo : (ticks tempo : ℕ) → Mark
+
+-- the ticks of a quarter note, the marks, and the ticks from the last of them to the end of track
+pub record Score : Type 0 where
+  pub division : ℕ
+  pub marks : List Mark
+  pub last : ℕ
+
+-- the numbers of a mark that can be written: the second data byte is 0 where the status has one
+abbrev pub GoodMark : Mark → Type 0
+GoodMark (Channel ticks status first second) =
+    (ticks < 268435456) × (128 ≤ status) × (status ≤ 239) × (first < 128) × (second < 128) × (isShort status ≡ true → second ≡ 0)
+GoodMark (Tempo ticks tempo) = (ticks < 268435456) × (tempo < 16777216)
+
+-- .. of each of some marks
+abbrev pub GoodMarks : List Mark → Type 0
+GoodMarks [] = Unit {0}
+GoodMarks (m ∷ ms) = GoodMark m × GoodMarks ms
+
+-- .. of a score
+pub record GoodScore (s : Score) : Type 0 where
+  pub low : 1 ≤ s .division
+  pub high : s .division ≤ 32767
+  pub marks : GoodMarks (s .marks)
+  pub last : s .last < 268435456
+
+-- ---- 2. Its events
+
+-- the channel events of some marks, from a tempo and a sum U on
+unfoldable pub playedFrom : ℕ → ℕ → ℕ → List Mark → List Event
+playedFrom division tempo sum [] = []
+playedFrom division tempo sum (Channel ticks status first second ∷ ms) =
+    record { frame = frameAt division (sum + ticks * tempo); status = status; first = first; second = second }
+    ∷ playedFrom division tempo (sum + ticks * tempo) ms
+playedFrom division tempo sum (Tempo ticks next ∷ ms) = playedFrom division next (sum + ticks * tempo) ms
+
+-- whether none of some marks, nor the end of track, is past an hour
+unfoldable pub inTimeFrom : ℕ → ℕ → ℕ → List Mark → ℕ → Bool
+inTimeFrom division tempo sum [] last = not (isLate division (sum + last * tempo))
+inTimeFrom division tempo sum (Channel ticks status first second ∷ ms) last =
+    not (isLate division (sum + ticks * tempo)) && inTimeFrom division tempo (sum + ticks * tempo) ms last
+inTimeFrom division tempo sum (Tempo ticks next ∷ ms) last =
+    not (isLate division (sum + ticks * tempo)) && inTimeFrom division next (sum + ticks * tempo) ms last
+
+-- the events of a score: the tempo is 500,000 at first
+abbrev pub played : Score → List Event
+played s = playedFrom (s .division) 500000 0 (s .marks)
+
+-- whether a score ends within the hour
+abbrev pub inTime : Score → Bool
+inTime s = inTimeFrom (s .division) 500000 0 (s .marks) (s .last)
+
+-- ---- 3. Its bytes
+
+-- a number in two bytes, the high one first
+unfoldable pub twoBytes : ℕ → List ℕ
+twoBytes n = n / 256 ∷ n % 256 ∷ []
+
+-- .. in three
+unfoldable pub threeBytes : ℕ → List ℕ
+threeBytes n = n / 65536 ∷ n / 256 % 256 ∷ n % 256 ∷ []
+
+-- .. in four
+unfoldable pub fourBytes : ℕ → List ℕ
+fourBytes n = n / 16777216 ∷ n / 65536 % 256 ∷ n / 256 % 256 ∷ n % 256 ∷ []
+
+-- a variable-length quantity in as few bytes as will do: seven bits in each, the high ones first; all but the last have 128 added
+unfoldable pub quantityBytes : ℕ → List ℕ
+quantityBytes n =
+    cond (ltb n 128) (n ∷ [])
+    (cond (ltb n 16384) ((128 + n / 128) ∷ n % 128 ∷ [])
+    (cond (ltb n 2097152) ((128 + n / 16384) ∷ (128 + n / 128 % 128) ∷ n % 128 ∷ [])
+    ((128 + n / 2097152) ∷ (128 + n / 16384 % 128) ∷ (128 + n / 128 % 128) ∷ n % 128 ∷ [])))
+
+-- the status byte, which may be left out where it runs
+unfoldable pub statusBytes : Bool → ℕ → ℕ → List ℕ
+statusBytes omit running status = cond (omit && eqb status running) [] (status ∷ [])
+
+-- the data bytes
+unfoldable pub dataBytes : ℕ → ℕ → ℕ → List ℕ
+dataBytes status first second = cond (isShort status) (first ∷ []) (first ∷ second ∷ [])
+
+-- a mark's delta time and event. A tempo is a meta event: FF, 51, three bytes
+unfoldable pub markBytes : Bool → ℕ → Mark → List ℕ
+markBytes omit running (Channel ticks status first second) = quantityBytes ticks ++ (statusBytes omit running status ++ dataBytes status first second)
+markBytes omit running (Tempo ticks tempo) = quantityBytes ticks ++ (255 ∷ 81 ∷ 3 ∷ threeBytes tempo)
+
+-- the status that runs behind a mark: 0, none, behind a meta event
+abbrev pub runningBehind : Mark → ℕ
+runningBehind (Channel ticks status first second) = status
+runningBehind (Tempo ticks tempo) = 0
+
+-- the track from mark k on: `omits` says of each mark by its number whether its status is left out where it may be. At its end the end of track: FF, 2F, no bytes
+unfoldable pub trackBytes : (ℕ → Bool) → ℕ → ℕ → List Mark → ℕ → List ℕ
+trackBytes omits k running [] last = quantityBytes last ++ (255 ∷ 47 ∷ 0 ∷ [])
+trackBytes omits k running (m ∷ ms) last = markBytes (omits k) running m ++ trackBytes omits (suc k) (runningBehind m) ms last
+
+-- the whole track
+abbrev pub trackOf : (ℕ → Bool) → Score → List ℕ
+trackOf omits s = trackBytes omits 0 0 (s .marks) (s .last)
+
+-- a file: MThd of six bytes (format 0, one track, the division), and MTrk
+unfoldable pub fileBytes : (ℕ → Bool) → Score → List ℕ
+fileBytes omits s =
+    77 ∷ 84 ∷ 104 ∷ 100 ∷ 0 ∷ 0 ∷ 0 ∷ 6 ∷ 0 ∷ 0 ∷ 0 ∷ 1 ∷ (twoBytes (s .division) ++ (77 ∷ 84 ∷ 114 ∷ 107 ∷ (fourBytes (length (trackOf omits s)) ++ trackOf omits s)))
+
+-- ---- 4. What is promised
+
+-- each number of a list is a byte
+abbrev pub AllBytes : List ℕ → Type 0
+AllBytes [] = Unit {0}
+AllBytes (x ∷ xs) = (x < 256) × AllBytes xs
+
+-- a file is a list of bytes
+abbrev pub WrittenInBytes : Type 0
+WrittenInBytes = (omits : ℕ → Bool) (s : Score) → GoodScore s → length (fileBytes omits s) ≤ 65536 → AllBytes (fileBytes omits s)
+
+-- a score that ends within the hour, written in any of these ways: the file's events are the score's
+abbrev pub WrittenIsPlayed : Type 0
+WrittenIsPlayed =
+    (omits : ℕ → Bool) (s : Score) → GoodScore s → length (fileBytes omits s) ≤ 65536 → inTime s ≡ true → eventsOf (fileBytes omits s) ≡ Events (played s)
+
+-- one that does not is refused, with 11
+abbrev pub WrittenTooLate : Type 0
+WrittenTooLate =
+    (omits : ℕ → Bool) (s : Score) → GoodScore s → length (fileBytes omits s) ≤ 65536 → inTime s ≡ false → testOf (fileBytes omits s) .number ≡ 11
+
+-- running status is a matter of spelling: of two files of one score, where one gives events the other gives the same, and where one is refused the other is refused with
+-- the same number
+abbrev pub RunningIsSpelling : Type 0
+RunningIsSpelling =
+    (one other : ℕ → Bool) (s : Score) → GoodScore s → length (fileBytes one s) ≤ 65536 → length (fileBytes other s) ≤ 65536
+    → ((es : List Event) → eventsOf (fileBytes one s) ≡ Events es → eventsOf (fileBytes other s) ≡ Events es)
+    × (testOf (fileBytes one s) .number ≡ testOf (fileBytes other s) .number)
