@@ -1,6 +1,7 @@
 -- Files that are written from a score: each definition reads back what is written, with running status and without.
 use mathlib.Core.Bool.{Bool, true, false, cond, true≢false, not, _&&_, _||_, and-true}
 use mathlib.Core.List.{List, [], _∷_, _++_, append-assoc}
+use mathlib.Core.Logic.{_⊎_, inl, _≢_, ⊎-elim}
 use mathlib.Core.Path.{_≡_, refl, sym, ap, subst, _∙_}
 use Prim.Native.Nat.{ℕ, zero, suc, _+_, _*_, _-_, _/_, _%_, _<_, _≤_}
 use native.Mathlib.Numerals.{add-one}
@@ -8,7 +9,7 @@ use native.Mathlib.Nat.{not-suc-le-zero, le-of-suc-le-suc, div-div-eq-div-mul}
 use native.Mathlib.Omega.{arith}
 use lib.Dec.{ltb, leb, eqb}
 use lib.ListN.{length, drop, getD, length-drop, length-append}
-use lib.Seq.{drop-cons}
+use lib.Seq.{drop-cons, drop-drop, drop-append-seam}
 use borrow.Author.Tests.{ltb-true, ltb-false, eqb-true, lt-ltb, le-ltb, le-leb, lt-leb, ne-eqb}
 use Rattle.arith.specs.Bytes.{u8At}
 use Rattle.arith.specs.Holds.{between}
@@ -21,12 +22,12 @@ use Rattle.smf.specs.declared.Quantity.{Quantity}
 use Rattle.smf.specs.declared.Quantity.the-variants.{Good}
 use Rattle.smf.specs.Quantities.{twoAt, threeAt, fourAt, quantityFrom, quantityAt}
 use Rattle.smf.specs.Head.{chunkEnd, trackFrom, headOf}
-use Rattle.smf.specs.Items.{isChannel, isShort, shortAt, longAt, channelAt, metaOf, metaAt, itemAt}
+use Rattle.smf.specs.Items.{isChannel, isShort, shortAt, longAt, channelAt, exclusiveAt, metaOf, metaAt, itemAt}
 use Rattle.smf.specs.Ticks.{sumAfter, isLate, frameAt}
 use Rattle.smf.specs.Track.{Song, edgeOf, isBad, moved, eventOf, done, obeyed, meetAt, behindEvent, songFrom}
 use Rattle.smf.specs.Track.Song.{Refused, Events}
 use Rattle.smf.specs.Songs.{startAt, turns, eventsOf, verdict, testOf}
-use Rattle.smf.specs.Spelling.{Mark, Score, GoodMark, GoodMarks, GoodScore, playedFrom, inTimeFrom, played, inTime, twoBytes, threeBytes, fourBytes, quantityBytes, statusBytes, dataBytes, markBytes, runningBehind, trackBytes, trackOf, fileBytes, AllBytes, WrittenInBytes, WrittenIsPlayed, WrittenTooLate, RunningIsSpelling}
+use Rattle.smf.specs.Spelling.{Mark, Score, GoodMark, GoodMarks, GoodScore, ticksOf, tempoBehind, sounding, playedFrom, inTimeFrom, played, inTime, twoBytes, threeBytes, fourBytes, quantityBytes, statusBytes, dataBytes, eventBytes, runningBehind, trackBytes, trackOf, fileBytes, AllBytes, WrittenInBytes, WrittenIsPlayed, WrittenTooLate, RunningIsSpelling}
 use Rattle.smf.proofs.QuantitiesLaws.{from-last, from-more}
 use Rattle.smf.proofs.BehindLaws.{meet-is, songBy, song-is, events-is}
 
@@ -253,20 +254,41 @@ module _ (b : List ℕ) (status first second : ℕ) (rest : List ℕ) (low : 128
           subst (λ (q : ℕ). Channel-read b (itemAt b (length b) q at) status first second rest) r (omitted-read at (rw f at e))
       go false f = written-read running at (rw f at e)
 
+-- so many bytes in front of a rest that is not empty
+blob : (b : List ℕ) (at : ℕ) (bytes rest : List ℕ) → 1 ≤ length rest → drop at b ≡ bytes ++ rest
+    → (at + length bytes ≤ length b) × (drop (at + length bytes) b ≡ rest)
+blob b at bytes rest h e =
+    let size : length b - at ≡ length bytes + length rest = sym (length-drop at b) ∙ ap length e ∙ length-append bytes rest in
+    (omega arith, sym (drop-drop (length bytes) at b) ∙ ap (drop (length bytes)) e ∙ drop-append-seam bytes rest)
+
+-- a meta event that is neither an end of track nor a tempo
+meta-other : (b : List ℕ) (kind n at : ℕ) → kind ≢ 47 → kind ≢ 81 → metaOf b kind n at ≡ Item.Passed (at + n)
+unfolding metaOf
+meta-other b kind n at k l = rw (ne-eqb kind 47 k, ne-eqb kind 81 l) refl
+
 module _ (b : List ℕ) (running at : ℕ) where
-  -- a meta event by its type and its length, which is one byte long
+  -- a meta event by its type and its length
+  meta-by : (kind n : ℕ) (more rest : List ℕ) → drop at b ≡ 255 ∷ kind ∷ more → (q : Quantity-read b (at + 1 + 1) n rest) → kind < 128 → q .place + n ≤ length b
+      → itemAt b (length b) running at ≡ metaOf b kind n (q .place)
+  unfolding itemAt metaAt
+  meta-by kind n more rest e q h l =
+      let x = next b at 255 (kind ∷ more) e in
+      let y = next b (at + 1) kind more (x .behind) in
+      let t1 = lt-leb (length b) at (x .inside) in
+      let t2 = le-ltb 127 kind (omega arith) in
+      let t3 = le-ltb (length b) (q .place + n) l in
+      rw (x .byte, t1) (rw (q .reads, metaAt) (rw (y .byte, t2, t3) refl))
+
+  -- the same where the length is one byte
   meta-read : (kind n : ℕ) (rest : List ℕ) → drop at b ≡ 255 ∷ kind ∷ n ∷ rest → kind < 128 → n < 128 → at + 1 + 1 + 1 + n ≤ length b
       → itemAt b (length b) running at ≡ metaOf b kind n (at + 1 + 1 + 1)
-  unfolding itemAt metaAt
   meta-read kind n rest e h k l =
       let x = next b at 255 (kind ∷ n ∷ rest) e in
       let y = next b (at + 1) kind (n ∷ rest) (x .behind) in
       let z = next b (at + 1 + 1) n rest (y .behind) in
-      let q = quantity-small b (at + 1 + 1) n (z .inside) (z .byte) k in
-      let t1 = lt-leb (length b) at (x .inside) in
-      let t2 = le-ltb 127 kind (omega arith) in
-      let t3 = le-ltb (length b) (at + 1 + 1 + 1 + n) l in
-      rw (x .byte, t1) (rw (q, metaAt) (rw (y .byte, t2, t3) refl))
+      let q : Quantity-read b (at + 1 + 1) n rest =
+      record { place = at + 1 + 1 + 1; reads = quantity-small b (at + 1 + 1) n (z .inside) (z .byte) k; behind = z .behind } in
+      meta-by kind n (n ∷ rest) rest e q h l
 
   -- the end of track
   end-read : drop at b ≡ 255 ∷ 47 ∷ 0 ∷ [] → itemAt b (length b) running at ≡ Item.End
@@ -299,6 +321,77 @@ module _ (b : List ℕ) (running at : ℕ) where
         rw three at (w .behind),
       )
 
+  -- another meta event is stepped over
+  other-read : (kind : ℕ) (bytes rest : List ℕ) → kind < 128 → kind ≢ 47 → kind ≢ 81 → length bytes < 268435456 → 1 ≤ length rest
+      → drop at b ≡ (255 ∷ kind ∷ (quantityBytes (length bytes) ++ bytes)) ++ rest
+      → (p : ℕ) × (itemAt b (length b) running at ≡ Item.Passed p) × (drop p b ≡ rest)
+  other-read kind bytes rest h k l m r e =
+      let more = (quantityBytes (length bytes) ++ bytes) ++ rest in
+      let x = next b at 255 (kind ∷ more) e in
+      let y = next b (at + 1) kind more (x .behind) in
+      let q = read-quantity b (at + 1 + 1) (length bytes) (bytes ++ rest) (y .behind ∙ append-assoc (quantityBytes (length bytes)) bytes rest) m in
+      let z = blob b (q .place) bytes rest r (q .behind) in
+      (q .place + length bytes, meta-by kind (length bytes) more (bytes ++ rest) e q h (z .0) ∙ meta-other b kind (length bytes) (q .place) k l, z .1)
+
+  -- a system exclusive event, F0 or F7
+  exclusive-by : (status n : ℕ) (more rest : List ℕ) → (eqb status 240 || eqb status 247) ≡ true → 240 ≤ status → status ≢ 255 → drop at b ≡ status ∷ more
+      → (q : Quantity-read b (at + 1) n rest) → q .place + n ≤ length b → itemAt b (length b) running at ≡ Item.Passed (q .place + n)
+  unfolding itemAt exclusiveAt
+  exclusive-by status n more rest h low k e q l =
+      let x = next b at status more e in
+      let t1 = lt-leb (length b) at (x .inside) in
+      let t2 = le-ltb status 128 (omega arith) in
+      let t3 = le-ltb status 240 low in
+      let t4 = ne-eqb status 255 k in
+      let t5 = le-ltb (length b) (q .place + n) l in
+      rw (x .byte, t1, t2, t3, t4, h) (rw (q .reads, exclusiveAt) (rw t5 refl))
+
+  -- it is stepped over
+  exclusive-read : (status : ℕ) (bytes rest : List ℕ) → ((status ≡ 240) ⊎ (status ≡ 247)) → length bytes < 268435456 → 1 ≤ length rest
+      → drop at b ≡ (status ∷ (quantityBytes (length bytes) ++ bytes)) ++ rest
+      → (p : ℕ) × (itemAt b (length b) running at ≡ Item.Passed p) × (drop p b ≡ rest)
+  exclusive-read status bytes rest h m r e =
+      let more = (quantityBytes (length bytes) ++ bytes) ++ rest in
+      let x = next b at status more e in
+      let q = read-quantity b (at + 1) (length bytes) (bytes ++ rest) (x .behind ∙ append-assoc (quantityBytes (length bytes)) bytes rest) m in
+      let z = blob b (q .place) bytes rest r (q .behind) in
+      let by : (eqb status 240 || eqb status 247) ≡ true → 240 ≤ status → status ≢ 255 → itemAt b (length b) running at ≡ Item.Passed (q .place + length bytes) =
+      λ t low k. exclusive-by status (length bytes) more (bytes ++ rest) t low k e q (z .0) in (
+        q .place + length bytes,
+        ⊎-elim (λ f. by (rw f refl) (omega arith) (omega arith)) (λ f. by (rw f refl) (omega arith) (omega arith)) h,
+        z .1,
+      )
+
+-- the event of a mark that ends at a place
+abbrev itemOf : Mark → ℕ → Item
+itemOf (Mark.Channel ticks status first second) p = Item.Channel status first second p
+itemOf (Mark.Tempo ticks tempo) p = Item.Tempo tempo p
+itemOf (Mark.Meta ticks kind bytes) p = Item.Passed p
+itemOf (Mark.Exclusive ticks status bytes) p = Item.Passed p
+
+-- a mark that is read back, with the rest of the file behind it
+record Mark-read (b : List ℕ) (running at : ℕ) (m : Mark) (rest : List ℕ) : Type 0 where
+  place : ℕ
+  reads : itemAt b (length b) running at ≡ itemOf m place
+  behind : drop place b ≡ rest
+
+-- each mark is
+mark-read : (b : List ℕ) (omit : Bool) (running at : ℕ) (m : Mark) (rest : List ℕ) → GoodMark m → 1 ≤ length rest → drop at b ≡ eventBytes omit running m ++ rest
+    → Mark-read b running at m rest
+unfolding eventBytes
+mark-read b omit running at (Mark.Channel ticks status first second) rest g r e =
+    let x = channel-read b status first second rest (g .1) (g .2) (g .3) (g .4) (g .5) omit running at e in
+    record { place = x .place; reads = x .reads; behind = x .behind }
+mark-read b omit running at (Mark.Tempo ticks tempo) rest g r e =
+    let x = tempo-read b running at tempo rest e in
+    record { place = at + 1 + 1 + 1 + 3; reads = x .0; behind = x .1 }
+mark-read b omit running at (Mark.Meta ticks kind bytes) rest g r e =
+    let x = other-read b running at kind bytes rest (g .1) (g .2) (g .3) (g .4) r e in
+    record { place = x .0; reads = x .1; behind = x .2 }
+mark-read b omit running at (Mark.Exclusive ticks status bytes) rest g r e =
+    let x = exclusive-read b running at status bytes rest (g .1) (g .2) r e in
+    record { place = x .0; reads = x .1; behind = x .2 }
+
 -- ---- 4. The song
 
 -- a song that is in time has these events; one that is not is refused with 11
@@ -329,46 +422,30 @@ met b c ticks rest whole q =
     meet-is b c ticks (q .place) (subst (λ (n : ℕ). quantityAt b n (c .at) ≡ Good ticks (q .place)) (sym edge) (q .reads))
     ∙ ap (λ (n : ℕ). obeyed (itemAt b n (c .running) (q .place)) c (sumAfter c ticks) (q .place)) edge
 
--- the song of a track that is written from a score
-song-told : (ms : List Mark) (omits : ℕ → Bool) (k last n : ℕ) (b : List ℕ) (c : Cursor) → c .end ≡ length b → drop (c .at) b ≡ trackBytes omits k (c .running) ms last
-    → GoodMarks ms → last < 268435456 → length ms < n
-    → Told (inTimeFrom (c .division) (c .tempo) (c .sum) ms last) (playedFrom (c .division) (c .tempo) (c .sum) ms) (songFrom n b c)
-unfolding trackBytes markBytes playedFrom inTimeFrom done
-song-told [] omits k last zero b c whole e g l h = absurd (not-suc-le-zero h)
-song-told [] omits k last (suc n) b c whole e g l h =
-    let q = read-quantity b (c .at) last (255 ∷ 47 ∷ 0 ∷ []) e l in
-    let x = end-read b (c .running) (q .place) (q .behind) in
-    let m = met b c last (255 ∷ 47 ∷ 0 ∷ []) whole q ∙ ap (λ (i : Item). obeyed i c (sumAfter c last) (q .place)) x in
-    subst (λ (t : Bool). Told t [] (songFrom (suc n) b c)) (and-true (not (isLate (c .division) (sumAfter c last))))
-    (step n b c Item.End (sumAfter c last) (q .place) true [] refl m refl)
-song-told (m ∷ ms) omits k last zero b c whole e g l h = absurd (not-suc-le-zero h)
-song-told (Mark.Channel ticks status first second ∷ ms) omits k last (suc n) b c whole e g l h =
-    let track = trackBytes omits (suc k) status ms last in
-    let event = statusBytes (omits k) (c .running) status ++ dataBytes status first second in
-    let g0 = g .0 in
-    let q = read-quantity b (c .at) ticks (event ++ track) (e ∙ append-assoc (quantityBytes ticks) event track) (g0 .0) in
-    let r = channel-read b status first second track (g0 .1) (g0 .2) (g0 .3) (g0 .4) (g0 .5) (omits k) (c .running) (q .place) (q .behind) in
-    let m = met b c ticks (event ++ track) whole q ∙ ap (λ (i : Item). obeyed i c (sumAfter c ticks) (q .place)) (r .reads) in
-    let sum = sumAfter c ticks in
-    let further = moved c sum (r .place) status (c .tempo) in
-    let more = song-told ms omits (suc k) last n b further whole (r .behind) (g .1) l (le-of-suc-le-suc h) in
-    let t = inTimeFrom (c .division) (c .tempo) sum ms last in
-    step n b c (Item.Channel status first second (r .place)) sum (q .place) t
-    (eventOf c sum status first second ∷ playedFrom (c .division) (c .tempo) sum ms) refl m
-    (told-behind t (eventOf c sum status first second) (playedFrom (c .division) (c .tempo) sum ms) (songFrom n b further) more)
-song-told (Mark.Tempo ticks tempo ∷ ms) omits k last (suc n) b c whole e g l h =
-    let track = trackBytes omits (suc k) 0 ms last in
-    let event : List ℕ = 255 ∷ 81 ∷ 3 ∷ threeBytes tempo in
-    let q = read-quantity b (c .at) ticks (event ++ track) (e ∙ append-assoc (quantityBytes ticks) event track) (g .0 .0) in
-    let r = tempo-read b (c .running) (q .place) tempo track (q .behind) in
-    let m = met b c ticks (event ++ track) whole q ∙ ap (λ (i : Item). obeyed i c (sumAfter c ticks) (q .place)) (r .0) in
-    let sum = sumAfter c ticks in
-    let place = q .place + 1 + 1 + 1 + 3 in
-    let further = moved c sum place 0 tempo in
-    let more = song-told ms omits (suc k) last n b further whole (r .1) (g .1) l (le-of-suc-le-suc h) in
-    step n b c (Item.Tempo tempo place) sum (q .place) (inTimeFrom (c .division) tempo sum ms last) (playedFrom (c .division) tempo sum ms) refl m more
+-- what a mark does, in front of the song behind it
+mark-told : (n : ℕ) (b : List ℕ) (c : Cursor) (m : Mark) (sum from place : ℕ) (t : Bool) (es : List Event)
+    → Told t es (songFrom n b (moved c sum place (runningBehind m) (tempoBehind (c .tempo) m)))
+    → Told t (sounding (c .division) sum m es) (songBy n b (done (itemOf m place) c sum from))
+unfolding done
+mark-told n b c (Mark.Channel ticks status first second) sum from place t es h =
+    told-behind t (eventOf c sum status first second) es (songFrom n b (moved c sum place status (c .tempo))) h
+mark-told n b c (Mark.Tempo ticks tempo) sum from place t es h = h
+mark-told n b c (Mark.Meta ticks kind bytes) sum from place t es h = h
+mark-told n b c (Mark.Exclusive ticks status bytes) sum from place t es h = h
 
--- ---- 5. The file
+-- no mark is a bad event
+mark-good : (m : Mark) (place : ℕ) → isBad (itemOf m place) ≡ false
+mark-good (Mark.Channel ticks status first second) place = refl
+mark-good (Mark.Tempo ticks tempo) place = refl
+mark-good (Mark.Meta ticks kind bytes) place = refl
+mark-good (Mark.Exclusive ticks status bytes) place = refl
+
+-- the ticks of a good mark are a quantity
+ticks-good : (m : Mark) → GoodMark m → ticksOf m < 268435456
+ticks-good (Mark.Channel ticks status first second) g = g .0
+ticks-good (Mark.Tempo ticks tempo) g = g .0
+ticks-good (Mark.Meta ticks kind bytes) g = g .0
+ticks-good (Mark.Exclusive ticks status bytes) g = g .0
 
 -- a quantity has a byte
 quantity-some : (n : ℕ) → 1 ≤ length (quantityBytes n)
@@ -390,18 +467,42 @@ quantity-some n =
     four : List ℕ
     four = (128 + n / 2097152) ∷ (128 + n / 16384 % 128) ∷ (128 + n / 128 % 128) ∷ n % 128 ∷ []
 
--- a mark has one
-mark-some : (omit : Bool) (running : ℕ) (m : Mark) → 1 ≤ length (markBytes omit running m)
-unfolding markBytes
-mark-some omit running (Mark.Channel ticks status first second) = simp length-append (omega (arith, quantity-some ticks))
-mark-some omit running (Mark.Tempo ticks tempo) = simp length-append (omega (arith, quantity-some ticks))
-
--- so there are not more marks than bytes
-marks-fit : (ms : List Mark) (omits : ℕ → Bool) (k running last : ℕ) → length ms ≤ length (trackBytes omits k running ms last)
+-- there are fewer marks than bytes
+marks-fit : (ms : List Mark) (omits : ℕ → Bool) (k running last : ℕ) → length ms < length (trackBytes omits k running ms last)
 unfolding trackBytes
-marks-fit [] omits k running last = omega arith
+marks-fit [] omits k running last = simp length-append (omega arith)
 marks-fit (m ∷ ms) omits k running last =
-    simp length-append (omega (arith, mark-some (omits k) running m, marks-fit ms omits (suc k) (runningBehind m) last))
+    simp length-append (omega (arith, quantity-some (ticksOf m), marks-fit ms omits (suc k) (runningBehind m) last))
+
+-- the song of a track that is written from a score
+song-told : (ms : List Mark) (omits : ℕ → Bool) (k last n : ℕ) (b : List ℕ) (c : Cursor) → c .end ≡ length b → drop (c .at) b ≡ trackBytes omits k (c .running) ms last
+    → GoodMarks ms → last < 268435456 → length ms < n
+    → Told (inTimeFrom (c .division) (c .tempo) (c .sum) ms last) (playedFrom (c .division) (c .tempo) (c .sum) ms) (songFrom n b c)
+unfolding trackBytes playedFrom inTimeFrom done
+song-told [] omits k last zero b c whole e g l h = absurd (not-suc-le-zero h)
+song-told [] omits k last (suc n) b c whole e g l h =
+    let q = read-quantity b (c .at) last (255 ∷ 47 ∷ 0 ∷ []) e l in
+    let x = end-read b (c .running) (q .place) (q .behind) in
+    let m = met b c last (255 ∷ 47 ∷ 0 ∷ []) whole q ∙ ap (λ (i : Item). obeyed i c (sumAfter c last) (q .place)) x in
+    subst (λ (t : Bool). Told t [] (songFrom (suc n) b c)) (and-true (not (isLate (c .division) (sumAfter c last))))
+    (step n b c Item.End (sumAfter c last) (q .place) true [] refl m refl)
+song-told (m ∷ ms) omits k last zero b c whole e g l h = absurd (not-suc-le-zero h)
+song-told (m ∷ ms) omits k last (suc n) b c whole e g l h =
+    let track = trackBytes omits (suc k) (runningBehind m) ms last in
+    let rest = eventBytes (omits k) (c .running) m ++ track in
+    let sum = sumAfter c (ticksOf m) in
+    let tempo = tempoBehind (c .tempo) m in
+    let some : 1 ≤ length track = omega (arith, marks-fit ms omits (suc k) (runningBehind m) last) in
+    let q = read-quantity b (c .at) (ticksOf m) rest e (ticks-good m (g .0)) in
+    let r = mark-read b (omits k) (c .running) (q .place) m track (g .0) some (q .behind) in
+    let x = met b c (ticksOf m) rest whole q ∙ ap (λ (i : Item). obeyed i c sum (q .place)) (r .reads) in
+    let t = inTimeFrom (c .division) tempo sum ms last in
+    let es = playedFrom (c .division) tempo sum ms in
+    let more = song-told ms omits (suc k) last n b (moved c sum (r .place) (runningBehind m) tempo) whole (r .behind) (g .1) l (le-of-suc-le-suc h) in
+    step n b c (itemOf m (r .place)) sum (q .place) t (sounding (c .division) sum m es) (mark-good m (r .place)) x
+    (mark-told n b c m sum (q .place) (r .place) t es more)
+
+-- ---- 5. The file
 
 -- a track that is the first chunk looked at
 track-here : (n : ℕ) (b : List ℕ) (p : ℕ) → p + 8 ≤ length b → fourAt b p ≡ 1297379947 → chunkEnd b p ≤ length b
@@ -534,17 +635,18 @@ quantity-bytes n h =
     all-cond (ltb n 2097152) _ _ (λ g. (omega (arith, ltb-true n 2097152 g), (omega arith, (omega arith, tt))))
     (λ g. (omega arith, (omega arith, (omega arith, (omega arith, tt)))))))
 
--- so is a mark
-mark-bytes : (omit : Bool) (running : ℕ) (m : Mark) → GoodMark m → AllBytes (markBytes omit running m)
-unfolding markBytes statusBytes dataBytes threeBytes
-mark-bytes omit running (Mark.Channel ticks status first second) g =
-    all-append (quantityBytes ticks) (statusBytes omit running status ++ dataBytes status first second) (quantity-bytes ticks (g .0))
-    (all-append (statusBytes omit running status) (dataBytes status first second)
+-- so is an event
+event-bytes : (omit : Bool) (running : ℕ) (m : Mark) → GoodMark m → AllBytes (eventBytes omit running m)
+unfolding eventBytes statusBytes dataBytes threeBytes
+event-bytes omit running (Mark.Channel ticks status first second) g =
+    all-append (statusBytes omit running status) (dataBytes status first second)
     (all-cond (omit && eqb status running) [] (status ∷ []) (λ e. tt) (λ e. (omega (arith, g .2), tt)))
-    (all-cond (isShort status) (first ∷ []) (first ∷ second ∷ []) (λ e. (omega (arith, g .3), tt)) (λ e. (omega (arith, g .3), (omega (arith, g .4), tt)))))
-mark-bytes omit running (Mark.Tempo ticks tempo) g =
-    all-append (quantityBytes ticks) (255 ∷ 81 ∷ 3 ∷ threeBytes tempo) (quantity-bytes ticks (g .0))
-    (omega arith, (omega arith, (omega arith, (omega (arith, g .1), (omega arith, (omega arith, tt))))))
+    (all-cond (isShort status) (first ∷ []) (first ∷ second ∷ []) (λ e. (omega (arith, g .3), tt)) (λ e. (omega (arith, g .3), (omega (arith, g .4), tt))))
+event-bytes omit running (Mark.Tempo ticks tempo) g = (omega arith, (omega arith, (omega arith, (omega (arith, g .1), (omega arith, (omega arith, tt))))))
+event-bytes omit running (Mark.Meta ticks kind bytes) g =
+    (omega arith, (omega (arith, g .1), all-append (quantityBytes (length bytes)) bytes (quantity-bytes (length bytes) (g .4)) (g .5)))
+event-bytes omit running (Mark.Exclusive ticks status bytes) g =
+    (⊎-elim (λ e. omega arith) (λ e. omega arith) (g .1), all-append (quantityBytes (length bytes)) bytes (quantity-bytes (length bytes) (g .2)) (g .3))
 
 -- so is a track
 track-bytes : (ms : List Mark) (omits : ℕ → Bool) (k running last : ℕ) → GoodMarks ms → last < 268435456 → AllBytes (trackBytes omits k running ms last)
@@ -552,8 +654,9 @@ unfolding trackBytes
 track-bytes [] omits k running last g l =
     all-append (quantityBytes last) (255 ∷ 47 ∷ 0 ∷ []) (quantity-bytes last l) (omega arith, (omega arith, (omega arith, tt)))
 track-bytes (m ∷ ms) omits k running last g l =
-    all-append (markBytes (omits k) running m) (trackBytes omits (suc k) (runningBehind m) ms last) (mark-bytes (omits k) running m (g .0))
-    (track-bytes ms omits (suc k) (runningBehind m) last (g .1) l)
+    all-append (quantityBytes (ticksOf m)) (eventBytes (omits k) running m ++ trackBytes omits (suc k) (runningBehind m) ms last) (quantity-bytes (ticksOf m) (ticks-good m (g .0)))
+    (all-append (eventBytes (omits k) running m) (trackBytes omits (suc k) (runningBehind m) ms last) (event-bytes (omits k) running m (g .0))
+    (track-bytes ms omits (suc k) (runningBehind m) last (g .1) l))
 
 -- so is a file
 pub written-in-bytes : WrittenInBytes
@@ -567,35 +670,61 @@ written-in-bytes omits s g short =
 
 -- ---- 7. A score of which this speaks
 
--- a bell struck twice and left twice, the second time at half the pace: the running status is written out, or left out where it runs
+-- a name, a bell struck and left, a program; then at half the pace another bell, with a system exclusive event between its strokes
 abbrev tune : Score
 tune =
     record {
       division = 96;
       marks =
-          Mark.Channel 0 144 60 100 ∷ Mark.Channel 96 144 60 0 ∷ Mark.Channel 0 192 5 0 ∷ Mark.Tempo 0 1000000 ∷ Mark.Channel 0 144 62 100 ∷ Mark.Channel 16480 144 62 0 ∷ [];
+          Mark.Meta 0 3 (66 ∷ 101 ∷ 108 ∷ 108 ∷ []) ∷
+          Mark.Channel 0 144 60 100 ∷
+          Mark.Channel 96 144 60 0 ∷
+          Mark.Channel 0 192 5 0 ∷
+          Mark.Tempo 0 1000000 ∷
+          Mark.Channel 0 144 62 100 ∷
+          Mark.Channel 0 144 64 100 ∷
+          Mark.Exclusive 0 240 (126 ∷ 127 ∷ 9 ∷ 1 ∷ 247 ∷ []) ∷ Mark.Channel 16480 144 62 0 ∷ [];
       last = 0;
     }
 
+-- a channel event of status 90 hex
+struck : (ticks first second : ℕ) → ticks < 268435456 → first < 128 → second < 128 → GoodMark (Mark.Channel ticks 144 first second)
+unfolding between
+struck ticks first second h k l = (h, omega arith, omega arith, k, l, λ z. absurd (true≢false (sym z)))
+
 -- its numbers are good
 tune-good : GoodScore tune
-unfolding between
 tune-good =
     record {
       low = omega arith;
       high = omega arith;
       marks = (
-        (omega arith, omega arith, omega arith, omega arith, omega arith, never),
+        (omega arith, omega arith, omega arith, omega arith, omega arith, (omega arith, (omega arith, (omega arith, (omega arith, tt))))),
         (
-          (omega arith, omega arith, omega arith, omega arith, omega arith, never),
-          ((omega arith, omega arith, omega arith, omega arith, omega arith, λ z. refl), ((omega arith, omega arith), ((omega arith, omega arith, omega arith, omega arith, omega arith, never), ((omega arith, omega arith, omega arith, omega arith, omega arith, never), tt)))),
+          struck 0 60 100 (omega arith) (omega arith) (omega arith),
+          (
+            struck 96 60 0 (omega arith) (omega arith) (omega arith),
+            (
+              (omega arith, omega arith, omega arith, omega arith, omega arith, λ z. refl),
+              (
+                (omega arith, omega arith),
+                (
+                  struck 0 62 100 (omega arith) (omega arith) (omega arith),
+                  (
+                    struck 0 64 100 (omega arith) (omega arith) (omega arith),
+                    (
+                      (omega arith, inl refl, omega arith, (omega arith, (omega arith, (omega arith, (omega arith, (omega arith, tt)))))),
+                      (struck 16480 62 0 (omega arith) (omega arith) (omega arith), tt),
+                    ),
+                  ),
+                ),
+              ),
+            ),
+          ),
         ),
       );
       last = omega arith;
     }
-  where
-    never : {n : ℕ} → false ≡ true → n ≡ 0
-    never z = absurd (true≢false (sym z))
 
 -- its events
 abbrev rung : List Event
@@ -604,18 +733,19 @@ rung =
     record { frame = 22050; status = 144; first = 60; second = 0 } ∷
     record { frame = 22050; status = 192; first = 5; second = 0 } ∷
     record { frame = 22050; status = 144; first = 62; second = 100 } ∷
+    record { frame = 22050; status = 144; first = 64; second = 100 } ∷
     record { frame = 7592550; status = 144; first = 62; second = 0 } ∷ []
 
 -- what the definitions say of it, computed: two status bytes can be left out
 record Tune-shown : Type 0 where
-  written-out : length (fileBytes (λ k. false) tune) ≡ 54
-  left-out : length (fileBytes (λ k. true) tune) ≡ 52
+  written-out : length (fileBytes (λ k. false) tune) ≡ 74
+  left-out : length (fileBytes (λ k. true) tune) ≡ 72
   in-time : inTime tune ≡ true
   events : played tune ≡ rung
 
 -- so it is
 tune-shown : Tune-shown
-unfolding fileBytes trackBytes markBytes quantityBytes statusBytes dataBytes twoBytes threeBytes fourBytes between inTimeFrom playedFrom frameAt
+unfolding fileBytes trackBytes eventBytes quantityBytes statusBytes dataBytes twoBytes threeBytes fourBytes between inTimeFrom playedFrom frameAt
 tune-shown = record { written-out = refl; left-out = refl; in-time = refl; events = refl }
 
 -- its two files, and their events

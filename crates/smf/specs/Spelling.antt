@@ -1,6 +1,7 @@
 -- 02, M-101: files of format 0, written: a score as bytes, with running status and without. Both give the same events.
 use mathlib.Core.Bool.{cond, Bool, true, false, not, _&&_}
 use mathlib.Core.List.{List, [], _∷_, _++_}
+use mathlib.Core.Logic.{_⊎_, _≢_}
 use mathlib.Core.Path.{_≡_}
 use Prim.Native.Nat.{ℕ, suc, _+_, _*_, _/_, _%_, _<_, _≤_}
 use lib.Dec.{ltb, eqb}
@@ -14,10 +15,13 @@ use Rattle.smf.specs.Songs.{eventsOf, testOf}
 
 -- ---- 1. A score
 
--- so many ticks behind what is in front of it: a channel event, or a tempo in microseconds of a quarter note
+-- so many ticks behind what is in front of it: a channel event; a tempo in microseconds of a quarter note; another meta event, as a text; or a system exclusive event,
+-- F0 or F7
 pub data Mark : Type 0 where
   Channel : (ticks status first second : ℕ) → Mark
   Tempo : (ticks tempo : ℕ) → Mark
+  Meta : (ticks kind : ℕ) → List ℕ → Mark
+  Exclusive : (ticks status : ℕ) → List ℕ → Mark
 
 -- the ticks of a quarter note, the marks, and the ticks from the last of them to the end of track
 pub record Score : Type 0 where
@@ -25,11 +29,22 @@ pub record Score : Type 0 where
   pub marks : List Mark
   pub last : ℕ
 
--- the numbers of a mark that can be written: the second data byte is 0 where the status has one
+-- each number of a list is a byte
+abbrev pub AllBytes : List ℕ → Type 0
+AllBytes [] = Unit {0}
+AllBytes (x ∷ xs) = (x < 256) × AllBytes xs
+
+-- a quantity has at most 28 bits
+abbrev pub IsQuantity : ℕ → Type 0
+IsQuantity n = n < 268435456
+
+-- what a mark may be: the second data byte is 0 where the status has one; the end of track and tempos are no other meta events
 abbrev pub GoodMark : Mark → Type 0
 GoodMark (Channel ticks status first second) =
-    (ticks < 268435456) × (128 ≤ status) × (status ≤ 239) × (first < 128) × (second < 128) × (isShort status ≡ true → second ≡ 0)
-GoodMark (Tempo ticks tempo) = (ticks < 268435456) × (tempo < 16777216)
+    IsQuantity ticks × (128 ≤ status) × (status ≤ 239) × (first < 128) × (second < 128) × (isShort status ≡ true → second ≡ 0)
+GoodMark (Tempo ticks tempo) = IsQuantity ticks × (tempo < 16777216)
+GoodMark (Meta ticks kind bytes) = IsQuantity ticks × (kind < 128) × (kind ≢ 47) × (kind ≢ 81) × IsQuantity (length bytes) × AllBytes bytes
+GoodMark (Exclusive ticks status bytes) = IsQuantity ticks × ((status ≡ 240) ⊎ (status ≡ 247)) × IsQuantity (length bytes) × AllBytes bytes
 
 -- .. of each of some marks
 abbrev pub GoodMarks : List Mark → Type 0
@@ -41,25 +56,50 @@ pub record GoodScore (s : Score) : Type 0 where
   pub low : 1 ≤ s .division
   pub high : s .division ≤ 32767
   pub marks : GoodMarks (s .marks)
-  pub last : s .last < 268435456
+  pub last : IsQuantity (s .last)
 
 -- ---- 2. Its events
+
+-- the ticks in front of a mark
+abbrev pub ticksOf : Mark → ℕ
+ticksOf (Channel ticks status first second) = ticks
+ticksOf (Tempo ticks tempo) = ticks
+ticksOf (Meta ticks kind bytes) = ticks
+ticksOf (Exclusive ticks status bytes) = ticks
+
+-- the tempo behind a mark
+abbrev pub tempoBehind : ℕ → Mark → ℕ
+tempoBehind tempo (Channel ticks status first second) = tempo
+tempoBehind tempo (Tempo ticks next) = next
+tempoBehind tempo (Meta ticks kind bytes) = tempo
+tempoBehind tempo (Exclusive ticks status bytes) = tempo
+
+-- the status that runs behind a mark: only a channel event leaves one
+abbrev pub runningBehind : Mark → ℕ
+runningBehind (Channel ticks status first second) = status
+runningBehind (Tempo ticks tempo) = 0
+runningBehind (Meta ticks kind bytes) = 0
+runningBehind (Exclusive ticks status bytes) = 0
+
+-- a mark at which U is `sum`, in front of the events behind it
+abbrev pub sounding : ℕ → ℕ → Mark → List Event → List Event
+sounding division sum (Channel ticks status first second) es =
+    record { frame = frameAt division sum; status = status; first = first; second = second } ∷ es
+sounding division sum (Tempo ticks tempo) es = es
+sounding division sum (Meta ticks kind bytes) es = es
+sounding division sum (Exclusive ticks status bytes) es = es
 
 -- the channel events of some marks, from a tempo and a sum U on
 unfoldable pub playedFrom : ℕ → ℕ → ℕ → List Mark → List Event
 playedFrom division tempo sum [] = []
-playedFrom division tempo sum (Channel ticks status first second ∷ ms) =
-    record { frame = frameAt division (sum + ticks * tempo); status = status; first = first; second = second }
-    ∷ playedFrom division tempo (sum + ticks * tempo) ms
-playedFrom division tempo sum (Tempo ticks next ∷ ms) = playedFrom division next (sum + ticks * tempo) ms
+playedFrom division tempo sum (m ∷ ms) =
+    sounding division (sum + ticksOf m * tempo) m (playedFrom division (tempoBehind tempo m) (sum + ticksOf m * tempo) ms)
 
 -- whether none of some marks, nor the end of track, is past an hour
 unfoldable pub inTimeFrom : ℕ → ℕ → ℕ → List Mark → ℕ → Bool
 inTimeFrom division tempo sum [] last = not (isLate division (sum + last * tempo))
-inTimeFrom division tempo sum (Channel ticks status first second ∷ ms) last =
-    not (isLate division (sum + ticks * tempo)) && inTimeFrom division tempo (sum + ticks * tempo) ms last
-inTimeFrom division tempo sum (Tempo ticks next ∷ ms) last =
-    not (isLate division (sum + ticks * tempo)) && inTimeFrom division next (sum + ticks * tempo) ms last
+inTimeFrom division tempo sum (m ∷ ms) last =
+    not (isLate division (sum + ticksOf m * tempo)) && inTimeFrom division (tempoBehind tempo m) (sum + ticksOf m * tempo) ms last
 
 -- the events of a score: the tempo is 500,000 at first
 abbrev pub played : Score → List Event
@@ -99,20 +139,18 @@ statusBytes omit running status = cond (omit && eqb status running) [] (status �
 unfoldable pub dataBytes : ℕ → ℕ → ℕ → List ℕ
 dataBytes status first second = cond (isShort status) (first ∷ []) (first ∷ second ∷ [])
 
--- a mark's delta time and event. A tempo is a meta event: FF, 51, three bytes
-unfoldable pub markBytes : Bool → ℕ → Mark → List ℕ
-markBytes omit running (Channel ticks status first second) = quantityBytes ticks ++ (statusBytes omit running status ++ dataBytes status first second)
-markBytes omit running (Tempo ticks tempo) = quantityBytes ticks ++ (255 ∷ 81 ∷ 3 ∷ threeBytes tempo)
-
--- the status that runs behind a mark: 0, none, behind a meta event
-abbrev pub runningBehind : Mark → ℕ
-runningBehind (Channel ticks status first second) = status
-runningBehind (Tempo ticks tempo) = 0
+-- an event without its delta time. A tempo is FF, 51, three bytes
+unfoldable pub eventBytes : Bool → ℕ → Mark → List ℕ
+eventBytes omit running (Channel ticks status first second) = statusBytes omit running status ++ dataBytes status first second
+eventBytes omit running (Tempo ticks tempo) = 255 ∷ 81 ∷ 3 ∷ threeBytes tempo
+eventBytes omit running (Meta ticks kind bytes) = 255 ∷ kind ∷ (quantityBytes (length bytes) ++ bytes)
+eventBytes omit running (Exclusive ticks status bytes) = status ∷ (quantityBytes (length bytes) ++ bytes)
 
 -- the track from mark k on: `omits` says of each mark by its number whether its status is left out where it may be. At its end the end of track: FF, 2F, no bytes
 unfoldable pub trackBytes : (ℕ → Bool) → ℕ → ℕ → List Mark → ℕ → List ℕ
 trackBytes omits k running [] last = quantityBytes last ++ (255 ∷ 47 ∷ 0 ∷ [])
-trackBytes omits k running (m ∷ ms) last = markBytes (omits k) running m ++ trackBytes omits (suc k) (runningBehind m) ms last
+trackBytes omits k running (m ∷ ms) last =
+    quantityBytes (ticksOf m) ++ (eventBytes (omits k) running m ++ trackBytes omits (suc k) (runningBehind m) ms last)
 
 -- the whole track
 abbrev pub trackOf : (ℕ → Bool) → Score → List ℕ
@@ -124,11 +162,6 @@ fileBytes omits s =
     77 ∷ 84 ∷ 104 ∷ 100 ∷ 0 ∷ 0 ∷ 0 ∷ 6 ∷ 0 ∷ 0 ∷ 0 ∷ 1 ∷ (twoBytes (s .division) ++ (77 ∷ 84 ∷ 114 ∷ 107 ∷ (fourBytes (length (trackOf omits s)) ++ trackOf omits s)))
 
 -- ---- 4. What is promised
-
--- each number of a list is a byte
-abbrev pub AllBytes : List ℕ → Type 0
-AllBytes [] = Unit {0}
-AllBytes (x ∷ xs) = (x < 256) × AllBytes xs
 
 -- a file is a list of bytes
 abbrev pub WrittenInBytes : Type 0
