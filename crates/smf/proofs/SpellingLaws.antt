@@ -628,12 +628,12 @@ all-cond false xs ys p q = q refl
 quantity-bytes : (n : ℕ) → n < 268435456 → AllBytes (quantityBytes n)
 unfolding quantityBytes
 quantity-bytes n h =
-    all-cond (ltb n 128) _ _ (λ e. (omega (arith, ltb-true n 128 e), tt))
+    all-cond (ltb n 128) _ _ (λ e. omega (arith, ltb-true n 128 e))
     (λ e.
-    all-cond (ltb n 16384) _ _ (λ f. (omega (arith, ltb-true n 16384 f), (omega arith, tt)))
+    all-cond (ltb n 16384) _ _ (λ f. omega (arith, ltb-true n 16384 f))
     (λ f.
-    all-cond (ltb n 2097152) _ _ (λ g. (omega (arith, ltb-true n 2097152 g), (omega arith, (omega arith, tt))))
-    (λ g. (omega arith, (omega arith, (omega arith, (omega arith, tt)))))))
+    all-cond (ltb n 2097152) _ _ (λ g. omega (arith, ltb-true n 2097152 g))
+    (λ g. omega arith)))
 
 -- so is an event
 event-bytes : (omit : Bool) (running : ℕ) (m : Mark) → GoodMark m → AllBytes (eventBytes omit running m)
@@ -642,7 +642,7 @@ event-bytes omit running (Mark.Channel ticks status first second) g =
     all-append (statusBytes omit running status) (dataBytes status first second)
     (all-cond (omit && eqb status running) [] (status ∷ []) (λ e. tt) (λ e. (omega (arith, g .2), tt)))
     (all-cond (isShort status) (first ∷ []) (first ∷ second ∷ []) (λ e. (omega (arith, g .3), tt)) (λ e. (omega (arith, g .3), (omega (arith, g .4), tt))))
-event-bytes omit running (Mark.Tempo ticks tempo) g = (omega arith, (omega arith, (omega arith, (omega (arith, g .1), (omega arith, (omega arith, tt))))))
+event-bytes omit running (Mark.Tempo ticks tempo) g = omega (arith, g .1)
 event-bytes omit running (Mark.Meta ticks kind bytes) g =
     (omega arith, (omega (arith, g .1), all-append (quantityBytes (length bytes)) bytes (quantity-bytes (length bytes) (g .4)) (g .5)))
 event-bytes omit running (Mark.Exclusive ticks status bytes) g =
@@ -652,7 +652,7 @@ event-bytes omit running (Mark.Exclusive ticks status bytes) g =
 track-bytes : (ms : List Mark) (omits : ℕ → Bool) (k running last : ℕ) → GoodMarks ms → last < 268435456 → AllBytes (trackBytes omits k running ms last)
 unfolding trackBytes
 track-bytes [] omits k running last g l =
-    all-append (quantityBytes last) (255 ∷ 47 ∷ 0 ∷ []) (quantity-bytes last l) (omega arith, (omega arith, (omega arith, tt)))
+    all-append (quantityBytes last) (255 ∷ 47 ∷ 0 ∷ []) (quantity-bytes last l) (omega arith)
 track-bytes (m ∷ ms) omits k running last g l =
     all-append (quantityBytes (ticksOf m)) (eventBytes (omits k) running m ++ trackBytes omits (suc k) (runningBehind m) ms last) (quantity-bytes (ticksOf m) (ticks-good m (g .0)))
     (all-append (eventBytes (omits k) running m) (trackBytes omits (suc k) (runningBehind m) ms last) (event-bytes (omits k) running m (g .0))
@@ -663,14 +663,14 @@ pub written-in-bytes : WrittenInBytes
 unfolding fileBytes twoBytes fourBytes
 written-in-bytes omits s g short =
     let n = length (trackOf omits s) in
-    let few : n ≤ 65536 = omega (arith, written omits s .size) in (
-      omega arith,
-      (omega arith, (omega arith, (omega arith, (omega arith, (omega arith, (omega arith, (omega arith, (omega arith, (omega arith, (omega arith, (omega arith, (omega (arith, g .high), (omega arith, (omega arith, (omega arith, (omega arith, (omega arith, (omega arith, (omega arith, (omega arith, (omega arith, track-bytes (s .marks) omits 0 0 (s .last) (g .marks) (g .last)))))))))))))))))))))),
-    )
+    let few : n ≤ 65536 = omega (arith, written omits s .size) in
+    all-append
+    (77 ∷ 84 ∷ 104 ∷ 100 ∷ 0 ∷ 0 ∷ 0 ∷ 6 ∷ 0 ∷ 0 ∷ 0 ∷ 1 ∷ s .division / 256 ∷ s .division % 256 ∷ 77 ∷ 84 ∷ 114 ∷ 107 ∷ fourBytes n)
+    (trackOf omits s) (omega (arith, g .high)) (track-bytes (s .marks) omits 0 0 (s .last) (g .marks) (g .last))
 
 -- ---- 7. A score of which this speaks
 
--- a name, a bell struck and left, a program; then at half the pace another bell, with a system exclusive event between its strokes
+-- a name, a bell struck and left; then, at half the pace, a program, a system exclusive event, and another program
 abbrev tune : Score
 tune =
     record {
@@ -679,52 +679,35 @@ tune =
           Mark.Meta 0 3 (66 ∷ 101 ∷ 108 ∷ 108 ∷ []) ∷
           Mark.Channel 0 144 60 100 ∷
           Mark.Channel 96 144 60 0 ∷
-          Mark.Channel 0 192 5 0 ∷
           Mark.Tempo 0 1000000 ∷
-          Mark.Channel 0 144 62 100 ∷
-          Mark.Channel 0 144 64 100 ∷
-          Mark.Exclusive 0 240 (126 ∷ 127 ∷ 9 ∷ 1 ∷ 247 ∷ []) ∷ Mark.Channel 16480 144 62 0 ∷ [];
+          Mark.Channel 0 192 5 0 ∷
+          Mark.Exclusive 0 240 (126 ∷ 127 ∷ 9 ∷ 1 ∷ 247 ∷ []) ∷
+          Mark.Channel 16480 192 6 0 ∷ [];
       last = 0;
     }
 
--- a channel event of status 90 hex
-struck : (ticks first second : ℕ) → ticks < 268435456 → first < 128 → second < 128 → GoodMark (Mark.Channel ticks 144 first second)
-unfolding between
-struck ticks first second h k l = (h, omega arith, omega arith, k, l, λ z. absurd (true≢false (sym z)))
-
 -- its numbers are good
 tune-good : GoodScore tune
-tune-good =
-    record {
-      low = omega arith;
-      high = omega arith;
-      marks = (
-        (omega arith, omega arith, omega arith, omega arith, omega arith, (omega arith, (omega arith, (omega arith, (omega arith, tt))))),
-        (
-          struck 0 60 100 (omega arith) (omega arith) (omega arith),
-          (
-            struck 96 60 0 (omega arith) (omega arith) (omega arith),
-            (
-              (omega arith, omega arith, omega arith, omega arith, omega arith, λ z. refl),
-              (
-                (omega arith, omega arith),
-                (
-                  struck 0 62 100 (omega arith) (omega arith) (omega arith),
-                  (
-                    struck 0 64 100 (omega arith) (omega arith) (omega arith),
-                    (
-                      (omega arith, inl refl, omega arith, (omega arith, (omega arith, (omega arith, (omega arith, (omega arith, tt)))))),
-                      (struck 16480 62 0 (omega arith) (omega arith) (omega arith), tt),
-                    ),
-                  ),
-                ),
-              ),
-            ),
-          ),
-        ),
-      );
-      last = omega arith;
-    }
+unfolding between
+tune-good = record { low = omega arith; high = omega arith; marks = marks; last = omega arith }
+  where
+    never : {n : ℕ} → false ≡ true → n ≡ 0
+    never z = absurd (true≢false (sym z))
+
+    exclusive : GoodMark (Mark.Exclusive 0 240 (126 ∷ 127 ∷ 9 ∷ 1 ∷ 247 ∷ []))
+    exclusive = (omega arith, inl refl, omega arith, omega arith)
+
+    program : (ticks first : ℕ) → (ticks < 268435456) × (first < 128) → GoodMark (Mark.Channel ticks 192 first 0)
+    program ticks first h = (h .0, omega arith, omega arith, h .1, omega arith, λ z. refl)
+
+    strike : (ticks second : ℕ) → (ticks < 268435456) × (second < 128) → GoodMark (Mark.Channel ticks 144 60 second)
+    strike ticks second h = (h .0, omega arith, omega arith, omega arith, h .1, never)
+
+    later : GoodMarks (Mark.Channel 0 192 5 0 ∷ Mark.Exclusive 0 240 (126 ∷ 127 ∷ 9 ∷ 1 ∷ 247 ∷ []) ∷ Mark.Channel 16480 192 6 0 ∷ [])
+    later = (program 0 5 (omega arith), (exclusive, (program 16480 6 (omega arith), tt)))
+
+    marks : GoodMarks (tune .marks)
+    marks = (omega arith, (strike 0 100 (omega arith), (strike 96 0 (omega arith), (omega arith, later))))
 
 -- its events
 abbrev rung : List Event
@@ -732,14 +715,12 @@ rung =
     record { frame = 0; status = 144; first = 60; second = 100 } ∷
     record { frame = 22050; status = 144; first = 60; second = 0 } ∷
     record { frame = 22050; status = 192; first = 5; second = 0 } ∷
-    record { frame = 22050; status = 144; first = 62; second = 100 } ∷
-    record { frame = 22050; status = 144; first = 64; second = 100 } ∷
-    record { frame = 7592550; status = 144; first = 62; second = 0 } ∷ []
+    record { frame = 7592550; status = 192; first = 6; second = 0 } ∷ []
 
--- what the definitions say of it, computed: two status bytes can be left out
+-- what the definitions say of it, computed: one status byte can be left out
 record Tune-shown : Type 0 where
-  written-out : length (fileBytes (λ k. false) tune) ≡ 74
-  left-out : length (fileBytes (λ k. true) tune) ≡ 72
+  written-out : length (fileBytes (λ k. false) tune) ≡ 65
+  left-out : length (fileBytes (λ k. true) tune) ≡ 64
   in-time : inTime tune ≡ true
   events : played tune ≡ rung
 
