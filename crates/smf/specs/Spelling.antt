@@ -6,8 +6,8 @@ use mathlib.Core.Path.{_≡_}
 use Prim.Native.Nat.{ℕ, suc, _+_, _*_, _/_, _%_, _<_, _≤_}
 use lib.Dec.{ltb, eqb}
 use lib.ListN.{length}
+use Rattle.arith.specs.Holds.{between}
 use Rattle.smf.specs.declared.Event.{Event}
-use Rattle.smf.specs.Items.{isShort}
 use Rattle.smf.specs.Ticks.{isLate, frameAt}
 use Rattle.smf.specs.Track.{Song}
 use Rattle.smf.specs.Track.Song.{Events}
@@ -38,10 +38,14 @@ AllBytes (x ∷ xs) = (x < 256) × AllBytes xs
 abbrev pub IsQuantity : ℕ → Type 0
 IsQuantity n = n < 268435456
 
--- what a mark may be: the second data byte is 0 where the status has one; the end of track and tempos are no other meta events
+-- a status with one data byte: program change and channel pressure
+abbrev pub hasOne : ℕ → Bool
+hasOne status = between 192 223 status
+
+-- what a mark may be: the second data byte is 0 where the status has one; another meta event is not of type 2F or 51
 abbrev pub GoodMark : Mark → Type 0
 GoodMark (Channel ticks status first second) =
-    IsQuantity ticks × (128 ≤ status) × (status ≤ 239) × (first < 128) × (second < 128) × (isShort status ≡ true → second ≡ 0)
+    IsQuantity ticks × (128 ≤ status) × (status ≤ 239) × (first < 128) × (second < 128) × (hasOne status ≡ true → second ≡ 0)
 GoodMark (Tempo ticks tempo) = IsQuantity ticks × (tempo < 16777216)
 GoodMark (Meta ticks kind bytes) = IsQuantity ticks × (kind < 128) × (kind ≢ 47) × (kind ≢ 81) × IsQuantity (length bytes) × AllBytes bytes
 GoodMark (Exclusive ticks status bytes) = IsQuantity ticks × ((status ≡ 240) ⊎ (status ≡ 247)) × IsQuantity (length bytes) × AllBytes bytes
@@ -135,9 +139,9 @@ quantityBytes n =
 unfoldable pub statusBytes : Bool → ℕ → ℕ → List ℕ
 statusBytes omit running status = cond (omit && eqb status running) [] (status ∷ [])
 
--- the data bytes
+-- the data bytes, one or two
 unfoldable pub dataBytes : ℕ → ℕ → ℕ → List ℕ
-dataBytes status first second = cond (isShort status) (first ∷ []) (first ∷ second ∷ [])
+dataBytes status first second = cond (hasOne status) (first ∷ []) (first ∷ second ∷ [])
 
 -- an event without its delta time. A tempo is FF, 51, three bytes
 unfoldable pub eventBytes : Bool → ℕ → Mark → List ℕ
