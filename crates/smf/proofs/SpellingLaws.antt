@@ -27,7 +27,7 @@ use Rattle.smf.specs.Ticks.{sumAfter, isLate, frameAt}
 use Rattle.smf.specs.Track.{Song, edgeOf, isBad, moved, eventOf, done, obeyed, meetAt, behindEvent, songFrom}
 use Rattle.smf.specs.Track.Song.{Refused, Events}
 use Rattle.smf.specs.Songs.{startAt, turns, eventsOf, verdict, testOf}
-use Rattle.smf.specs.Spelling.{Mark, Score, GoodMark, GoodMarks, GoodScore, ticksOf, tempoBehind, sounding, playedFrom, inTimeFrom, played, inTime, twoBytes, threeBytes, fourBytes, quantityBytes, statusBytes, dataBytes, eventBytes, runningBehind, trackBytes, trackOf, fileBytes, AllBytes, WrittenInBytes, WrittenIsPlayed, WrittenTooLate, RunningIsSpelling}
+use Rattle.smf.specs.Spelling.{Mark, Score, hasOne, GoodMark, GoodMarks, GoodScore, ticksOf, tempoBehind, sounding, playedFrom, inTimeFrom, played, inTime, twoBytes, threeBytes, fourBytes, quantityBytes, statusBytes, dataBytes, eventBytes, runningBehind, trackBytes, trackOf, fileBytes, AllBytes, WrittenInBytes, WrittenIsPlayed, WrittenTooLate, RunningIsSpelling}
 use Rattle.smf.proofs.QuantitiesLaws.{from-last, from-more}
 use Rattle.smf.proofs.BehindLaws.{meet-is, songBy, song-is, events-is}
 
@@ -641,7 +641,7 @@ unfolding eventBytes statusBytes dataBytes threeBytes
 event-bytes omit running (Mark.Channel ticks status first second) g =
     all-append (statusBytes omit running status) (dataBytes status first second)
     (all-cond (omit && eqb status running) [] (status ∷ []) (λ e. tt) (λ e. (omega (arith, g .2), tt)))
-    (all-cond (isShort status) (first ∷ []) (first ∷ second ∷ []) (λ e. (omega (arith, g .3), tt)) (λ e. (omega (arith, g .3), (omega (arith, g .4), tt))))
+    (all-cond (hasOne status) (first ∷ []) (first ∷ second ∷ []) (λ e. (omega (arith, g .3), tt)) (λ e. (omega (arith, g .3), (omega (arith, g .4), tt))))
 event-bytes omit running (Mark.Tempo ticks tempo) g = omega (arith, g .1)
 event-bytes omit running (Mark.Meta ticks kind bytes) g =
     (omega arith, (omega (arith, g .1), all-append (quantityBytes (length bytes)) bytes (quantity-bytes (length bytes) (g .4)) (g .5)))
