@@ -19,7 +19,7 @@ pub const OUTPUT_ROOM: u32 = 8_448;
 const BEFORE: u32 = 0x1234_5678;
 
 /// Why a run ends: the case is damaged, or reading or writing failed.
-enum Stop {
+pub(crate) enum Stop {
     Bad,
     Failed(io::Error),
 }
@@ -35,13 +35,13 @@ impl From<io::Error> for Stop {
 }
 
 /// The numbers of a command, little-endian.
-struct Commands<R: Read> {
-    input: R,
+pub(crate) struct Commands<R: Read> {
+    pub(crate) input: R,
 }
 
 impl<R: Read> Commands<R> {
     /// The next command's letter, nothing at the end of the case.
-    fn letter(&mut self) -> Result<Option<u8>, Stop> {
+    pub(crate) fn letter(&mut self) -> Result<Option<u8>, Stop> {
         match self.byte() {
             Ok(letter) => Ok(Some(letter)),
             Err(Stop::Bad) => Ok(None),
@@ -49,7 +49,7 @@ impl<R: Read> Commands<R> {
         }
     }
 
-    fn byte(&mut self) -> Result<u8, Stop> {
+    pub(crate) fn byte(&mut self) -> Result<u8, Stop> {
         let mut bytes = [0; 1];
         self.input.read_exact(&mut bytes)?;
         Ok(bytes[0])
@@ -67,7 +67,7 @@ impl<R: Read> Commands<R> {
         Ok(u32::from_le_bytes(bytes))
     }
 
-    fn bytes(&mut self, count: usize) -> Result<Vec<u8>, Stop> {
+    pub(crate) fn bytes(&mut self, count: usize) -> Result<Vec<u8>, Stop> {
         let mut bytes = vec![0; count];
         self.input.read_exact(&mut bytes)?;
         Ok(bytes)
@@ -147,6 +147,11 @@ pub fn play(input: impl Read, mut output: impl Write) -> io::Result<()> {
             Err(stop) => break Some(stop),
         }
     };
+    end_run(stop, output)
+}
+
+/// The end of a run: what is damaged ends with the line `bad`.
+pub(crate) fn end_run(stop: Option<Stop>, mut output: impl Write) -> io::Result<()> {
     match stop {
         None => {}
         Some(Stop::Bad) => output.write_all(b"bad\n")?,

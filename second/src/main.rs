@@ -1,12 +1,15 @@
-//! The second program's commands: play a case, make the stored cases and their traces, make cases of real files.
+//! The second program's commands: play a case, read songs, damage songs, make the stored cases and their traces, make
+//! cases of real files.
 
-use second::{case, make, real};
+use second::{case, make, real, songs};
 use std::fs;
 use std::io::{self, BufReader, BufWriter};
 use std::path::Path;
 use std::process::ExitCode;
 
 const USAGE: &str = "usage: second play < CASE > TRACE
+       second songs < FILES > LINES
+       second damage SEED COUNT [FILE.mid ..] > FILES
        second make DIR
        second real BANK.sf2 PIECE.mid SECONDS > CASE
        second struck BANK.sf2 > CASE";
@@ -17,6 +20,8 @@ fn main() -> ExitCode {
     let words: Vec<&str> = arguments.iter().map(String::as_str).collect();
     let done = match words.as_slice() {
         ["play"] => case::play(BufReader::new(io::stdin().lock()), BufWriter::new(io::stdout().lock())),
+        ["songs"] => songs::play(BufReader::new(io::stdin().lock()), BufWriter::new(io::stdout().lock())),
+        ["damage", seed, count, files @ ..] => damaged_songs(seed, count, files),
         ["make", directory] => make::write_all(Path::new(directory)),
         ["real", bank, piece, seconds] => real_case(bank, piece, seconds),
         ["struck", bank] => {
@@ -41,12 +46,22 @@ fn bytes_of(name: &str) -> io::Result<Vec<u8>> {
     fs::read(name).map_err(|error| io::Error::new(error.kind(), format!("{name}: {error}")))
 }
 
+fn number(text: &str, what: &str) -> io::Result<u64> {
+    text.parse().map_err(|_| io::Error::other(format!("{text}: not {what}")))
+}
+
 fn real_bank(name: &str) -> io::Result<real::RealBank> {
     real::bank(&bytes_of(name)?).map_err(|error| io::Error::other(format!("{name}: {error}")))
 }
 
 fn real_case(bank: &str, piece: &str, seconds: &str) -> io::Result<()> {
-    let seconds = seconds.parse().map_err(|_| io::Error::other(format!("{seconds}: not a number of seconds")))?;
+    let seconds = number(seconds, "a number of seconds")?;
     let events = real::midi(&bytes_of(piece)?).map_err(|error| io::Error::other(format!("{piece}: {error}")))?;
     real::write_case(&real_bank(bank)?, &events, seconds, &mut BufWriter::new(io::stdout().lock()))
+}
+
+fn damaged_songs(seed: &str, count: &str, files: &[&str]) -> io::Result<()> {
+    let (seed, count) = (number(seed, "a seed")?, number(count, "a number of files")?);
+    let files: Vec<Vec<u8>> = files.iter().map(|name| bytes_of(name)).collect::<io::Result<_>>()?;
+    make::song_damage::write(seed, count, &files, &mut BufWriter::new(io::stdout().lock()))
 }

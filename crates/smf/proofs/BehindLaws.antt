@@ -8,7 +8,7 @@ use native.Mathlib.Nat.{le-refl, le-of-eq}
 use native.Mathlib.Omega.{arith}
 use lib.Dec.{ltb, leb, eqb}
 use lib.ListN.{length, List·getD-append}
-use borrow.Author.Tests.{ltb-true, ltb-false, le-ltb}
+use borrow.Author.Tests.{ltb-false, le-ltb, eqb-true, eqb-false, not-false}
 use Rattle.arith.specs.Bytes.{u8At}
 use Rattle.arith.specs.Holds.{between}
 use Rattle.smf.specs.declared.Cursor.{Cursor}
@@ -26,6 +26,8 @@ use Rattle.smf.specs.Track.{Song, edgeOf, isBad, moved, eventOf, done, o
 use Rattle.smf.specs.Track.Song.{Refused, Events}
 use Rattle.smf.specs.Songs.{startAt, turns, eventsOf}
 use Rattle.smf.specs.Behind.{behindEnd, behindMet, endFrom, endOfTrack, chunkOfTrack, SameBelow, BehindChangesNothing, TailChangesNothing}
+use Rattle.smf.proofs.HeadLaws.{Named, Held, Formatted, Single, end-after, head-good}
+use Rattle.smf.proofs.MeetingLaws.{meet-bad, meet-good}
 use Rattle.smf.proofs.QuantitiesLaws.{bad-good, from-behind, quantity-behind}
 use Rattle.smf.proofs.ItemsLaws.{either, neither, Placed, item-placed}
 use Rattle.smf.proofs.TrackLaws.{Further, meet-passed, meet-given, song-enough}
@@ -248,14 +250,14 @@ abbrev reachMet : Met → ℕ → ℕ
 reachMet (Met.Fault number place) end = end
 reachMet Met.End end = end
 reachMet (Met.Passed further) end = further .at
-reachMet (Met.Given event further) end = further .at
+reachMet (Met.Given message further) end = further .at
 
 -- a fault is met
 abbrev isFault : Met → Bool
 isFault (Met.Fault number place) = true
 isFault Met.End = false
 isFault (Met.Passed further) = false
-isFault (Met.Given event further) = false
+isFault (Met.Given message further) = false
 
 -- a test that leads to no fault
 unfault : (t : Bool) (place : ℕ) (x : Met) → isFault (cond t (Met.Fault 11 place) x) ≡ false → t ≡ false
@@ -273,22 +275,9 @@ obeyed-reach (Item.Passed behind) c sum place end n =
 obeyed-reach (Item.Tempo tempo behind) c sum place end n =
     (refl, rw (unfault (isLate (c .division) sum) place (Met.Passed (moved c sum behind 0 tempo)) n) refl)
 obeyed-reach (Item.Channel status first second behind) c sum place end n =
-    (refl, rw (unfault (isLate (c .division) sum) place (Met.Given (eventOf c sum status first second) (moved c sum behind status (c .tempo))) n) refl)
+    (refl, rw (unfault (isLate (c .division) sum) place (Met.Given (record { status = status; first = first; second = second }) (moved c sum behind status (c .tempo))) n) refl)
 
 module _ (b : List ℕ) (c : Cursor) where
-  -- by the delta time
-  pub meet-is : (ticks place : ℕ) → quantityAt b (edgeOf b c) (c .at) ≡ Good ticks place
-      → meetAt b c ≡ obeyed (itemAt b (edgeOf b c) (c .running) place) c (sumAfter c ticks) place
-  unfolding meetAt
-  meet-is ticks place e =
-      ap (λ (q : Quantity). elim q as (λ x. Met) [ Quantity.Bad ↦ Met.Fault 9 (c .at) | Good ticks place ↦ obeyed (itemAt b (edgeOf b c) (c .running) place) c (sumAfter c ticks) place ]) e
-
-  -- a delta time that is at fault
-  meet-bad : quantityAt b (edgeOf b c) (c .at) ≡ Quantity.Bad → meetAt b c ≡ Met.Fault 9 (c .at)
-  unfolding meetAt
-  meet-bad e =
-      ap (λ (q : Quantity). elim q as (λ x. Met) [ Quantity.Bad ↦ Met.Fault 9 (c .at) | Good ticks place ↦ obeyed (itemAt b (edgeOf b c) (c .running) place) c (sumAfter c ticks) place ]) e
-
   -- behind the end of track, by the delta time
   behind-is : (ticks place : ℕ) → quantityAt b (edgeOf b c) (c .at) ≡ Good ticks place → behindMet b c ≡ behindEnd b (edgeOf b c) place
   unfolding behindMet
@@ -314,13 +303,13 @@ meet-same b other c f n s = go (quantityAt b (edgeOf b c) (c .at)) refl
         let edge = edgeOf b c in
         let end = behindEnd b edge place in
         let x = itemAt b edge (c .running) place in
-        let whole = meet-is b c ticks place e in
+        let whole = meet-good b c ticks place e in
         let o = obeyed-reach x c (sumAfter c ticks) place end (subst (λ (m : Met). isFault m ≡ false) whole n) in
         let low : SameBelow b other (reach x end) = subst (λ (p : ℕ). SameBelow b other p) (ap₂ reachMet whole (behind-is b c ticks place e) ∙ o .1) s in
         let past = reach-ahead edge place end x (item-placed b edge (c .running) place) (o .0) (end-ahead b edge place) in
         let q : quantityAt other edge (c .at) ≡ Good ticks place = quantity-at-same b other edge (c .at) ticks place e (same-le b other place (reach x end) low (omega (arith, past))) in
         let i = item-same b other edge end (c .running) place (end-ahead b edge place) (behind-end b edge place) (o .0) low in
-        meet-is other c ticks place (subst (λ (e : ℕ). quantityAt other e (c .at) ≡ Good ticks place) (sym f) q)
+        meet-good other c ticks place (subst (λ (e : ℕ). quantityAt other e (c .at) ≡ Good ticks place) (sym f) q)
         ∙ ap (λ (e : ℕ). obeyed (itemAt other e (c .running) place) c (sumAfter c ticks) place) f
         ∙ ap (λ (y : Item). obeyed y c (sumAfter c ticks) place) i
         ∙ sym whole
@@ -334,7 +323,7 @@ songBy n b m =
       | Met.Fault number place ↦ Refused number place
       | Met.End ↦ Events []
       | Met.Passed further ↦ songFrom n b further
-      | Met.Given event further ↦ behindEvent event (songFrom n b further)
+      | Met.Given message further ↦ behindEvent (eventOf message further) (songFrom n b further)
     ]
 
 -- the place behind its end of track, in the same way
@@ -344,7 +333,7 @@ endBy n b c m =
       | Met.Fault number place ↦ c .at
       | Met.End ↦ behindMet b c
       | Met.Passed further ↦ endFrom n b further
-      | Met.Given event further ↦ endFrom n b further
+      | Met.Given message further ↦ endFrom n b further
     ]
 
 -- the song, where it is known what is met
@@ -376,8 +365,8 @@ song-ahead (suc n) b c = go (λ f. song-ahead n b f) (meetAt b c) refl
     go more (Met.Fault number place) e = rw (end-is n b c (Met.Fault number place) e) (le-refl (c .at))
     go more Met.End e = rw (end-is n b c Met.End e) (met-ahead b c)
     go more (Met.Passed further) e = rw (end-is n b c (Met.Passed further) e) (omega (arith, more further, meet-passed b c further e .after))
-    go more (Met.Given event further) e =
-        rw (end-is n b c (Met.Given event further) e) (omega (arith, more further, meet-given b c event further e .0 .after))
+    go more (Met.Given message further) e =
+        rw (end-is n b c (Met.Given message further) e) (omega (arith, more further, meet-given b c message further e .0 .after))
 
 -- the other file has the same song from a cursor on
 song-same : (n : ℕ) (b other : List ℕ) (c : Cursor) → c .end ≤ length b → c .end ≤ length other → refuses (songFrom n b c) ≡ false
@@ -405,13 +394,13 @@ song-same (suc n) b other c h k r s = go (λ f. song-same n b other f) (meetAt b
         song-is n other c (Met.Passed further) (met (Met.Passed further) e refl (rw ends (song-ahead n b further)))
         ∙ more further (omega arith) (omega arith) (subst (λ (x : Song). refuses x ≡ false) whole r) (subst (λ (q : ℕ). SameBelow b other q) ends s)
         ∙ sym whole
-    go more (Met.Given event further) e =
-        let ends = end-is n b c (Met.Given event further) e in
-        let same = meet-given b c event further e .0 .same-end in
-        let whole = song-is n b c (Met.Given event further) e in
-        let fine = sym (refuses-behind event (songFrom n b further)) ∙ subst (λ (x : Song). refuses x ≡ false) whole r in
-        song-is n other c (Met.Given event further) (met (Met.Given event further) e refl (rw ends (song-ahead n b further)))
-        ∙ ap (behindEvent event) (more further (omega arith) (omega arith) fine (subst (λ (q : ℕ). SameBelow b other q) ends s))
+    go more (Met.Given message further) e =
+        let ends = end-is n b c (Met.Given message further) e in
+        let same = meet-given b c message further e .0 .same-end in
+        let whole = song-is n b c (Met.Given message further) e in
+        let fine = sym (refuses-behind (eventOf message further) (songFrom n b further)) ∙ subst (λ (x : Song). refuses x ≡ false) whole r in
+        song-is n other c (Met.Given message further) (met (Met.Given message further) e refl (rw ends (song-ahead n b further)))
+        ∙ ap (behindEvent (eventOf message further)) (more further (omega arith) (omega arith) fine (subst (λ (q : ℕ). SameBelow b other q) ends s))
         ∙ sym whole
 
 -- ---- 7. The head
@@ -421,32 +410,38 @@ unrefused : (t : Bool) (number place at end : ℕ) (x : Header) → cond t (Head
 unrefused true number place at end x e = let z : _≡_ {A = ℕ} 0 1 = cc in absurd (omega arith)
 unrefused false number place at end x e = (refl, e)
 
--- a chunk is eight bytes long or longer
-chunk-ahead : (b : List ℕ) (at : ℕ) → at + 8 ≤ chunkEnd b at
-unfolding chunkEnd
-chunk-ahead b at = omega arith
-
 -- the same chunk
 chunk-same : (b other : List ℕ) (at q : ℕ) → SameBelow b other q → at + 8 ≤ q → chunkEnd other at ≡ chunkEnd b at
 unfolding chunkEnd
 chunk-same b other at q s h = rw (four-same b other (at + 4) q s (omega arith)) refl
 
+-- a test that two numbers are not the same
+same-number : (m n : ℕ) → not (eqb m n) ≡ false → m ≡ n
+same-number m n e = eqb-true m n (not-false (eqb m n) e)
+
+-- the fields of a head of format 0 with one track
+pub single-head : (b : List ℕ) → fourAt b 0 ≡ 1297377380 → 6 ≤ fourAt b 4 → chunkEnd b 0 ≤ length b → twoAt b 8 ≡ 0 → twoAt b 10 ≡ 1 → Single b
+single-head b name six inside format one =
+    let named : Named b = record { name = name } in
+    let held : Held b = record { named = named; six = six; in-file = inside } in
+    record { formatted = record { held = held; zero-format = format }; one = one }
+
 -- the track lies behind the chunks in front of it, and in the file
-track-found : (n : ℕ) (b : List ℕ) (p at end : ℕ) → trackFrom n b p ≡ Header.Track at end → (p + 8 ≤ at) × (at ≤ end) × (end ≤ length b)
+track-lies : (n : ℕ) (b : List ℕ) (p at end : ℕ) → trackFrom n b p ≡ Header.Track at end → (p + 8 ≤ at) × (at ≤ end) × (end ≤ length b)
 unfolding trackFrom
-track-found zero b p at end e = let z : _≡_ {A = ℕ} 0 1 = cc in absurd (omega arith)
-track-found (suc n) b p at end e =
+track-lies zero b p at end e = let z : _≡_ {A = ℕ} 0 1 = cc in absurd (omega arith)
+track-lies (suc n) b p at end e =
     let u = unrefused (ltb (length b) (p + 4)) 9 p at end _ e in
     let v = unrefused (ltb (length b) (chunkEnd b p)) 9 (p + 4) at end _ (u .1) in
     let fits = ltb-false (length b) (chunkEnd b p) (v .0) in
-    let past = chunk-ahead b p in
+    let past = end-after b p in
     ⊎-elim
     (λ k.
     let x : p + 8 ≡ at = cc (k .1) in
     let y : chunkEnd b p ≡ end = cc (k .1) in
     (omega arith, omega arith, omega arith))
     (λ k.
-    let r = track-found n b (chunkEnd b p) at end (k .1) in
+    let r = track-lies n b (chunkEnd b p) at end (k .1) in
     (omega arith, r .1, r .2))
     (split (eqb (fourAt b p) 1297379947) (v .1))
 
@@ -455,12 +450,12 @@ track-same : (n m : ℕ) (b other : List ℕ) (p at end : ℕ) → trackFrom n b
     → trackFrom m other p ≡ Header.Track at end
 unfolding trackFrom
 track-same zero m b other p at end e h k s = let z : _≡_ {A = ℕ} 0 1 = cc in absurd (omega arith)
-track-same (suc n) zero b other p at end e h k s = absurd (omega (arith, track-found (suc n) b p at end e .0))
+track-same (suc n) zero b other p at end e h k s = absurd (omega (arith, track-lies (suc n) b p at end e .0))
 track-same (suc n) (suc m) b other p at end e h k s =
-    let found = track-found (suc n) b p at end e in
+    let found = track-lies (suc n) b p at end e in
     let u = unrefused (ltb (length b) (p + 4)) 9 p at end _ e in
     let v = unrefused (ltb (length b) (chunkEnd b p)) 9 (p + 4) at end _ (u .1) in
-    let past = chunk-ahead b p in
+    let past = end-after b p in
     let named = le-ltb (length other) (p + 4) (omega arith) in
     let ends = chunk-same b other p at s (found .0) in
     let name = four-same b other p at s (omega arith) in
@@ -469,19 +464,15 @@ track-same (suc n) (suc m) b other p at end e h k s =
     let y : chunkEnd b p ≡ end = cc (w .1) in
     rw (named, ends, le-ltb (length other) (chunkEnd b p) (omega arith), name, w .0) (w .1))
     (λ w.
-    let r = track-found n b (chunkEnd b p) at end (w .1) in
+    let r = track-lies n b (chunkEnd b p) at end (w .1) in
     rw (named, ends, le-ltb (length other) (chunkEnd b p) (omega arith), name, w .0) (track-same n m b other (chunkEnd b p) at end (w .1) (omega arith) k s))
     (split (eqb (fourAt b p) 1297379947) (v .1))
 
--- the tests of a good head
+-- a good head, and the track that it leads to
 record Good-head (b : List ℕ) (at end : ℕ) : Type 0 where
-  name : not (eqb (fourAt b 0) 1297377380) ≡ false
-  six : ltb (fourAt b 4) 6 ≡ false
-  whole : ltb (length b) (chunkEnd b 0) ≡ false
-  format : not (eqb (twoAt b 8) 0) ≡ false
-  one : not (eqb (twoAt b 10) 1) ≡ false
-  some : eqb (twoAt b 12) 0 ≡ false
-  ticks : ltb 32767 (twoAt b 12) ≡ false
+  single : Single b
+  some : twoAt b 12 ≡ 0 → ⊥
+  ticks : twoAt b 12 ≤ 32767
   track : trackFrom (length b) b (chunkEnd b 0) ≡ Header.Track at end
 
 -- a head that leads to a track passes its tests
@@ -495,30 +486,41 @@ good-head b at end e =
     let u5 = unrefused (eqb (twoAt b 12) 0) 9 12 at end _ (u4 .1) in
     let u6 = unrefused (ltb 32767 (twoAt b 12)) 10 12 at end _ (u5 .1) in
     let w = neither (ltb (fourAt b 4) 6) (ltb (length b) (chunkEnd b 0)) (u2 .0) in
-    record { name = u1 .0; six = w .0; whole = w .1; format = u3 .0; one = u4 .0; some = u5 .0; ticks = u6 .0; track = u6 .1 }
+    record {
+      single = single-head b (same-number (fourAt b 0) 1297377380 (u1 .0)) (ltb-false (fourAt b 4) 6 (w .0)) (ltb-false (length b) (chunkEnd b 0) (w .1)) (same-number (twoAt b 8) 0 (u3 .0)) (same-number (twoAt b 10) 1 (u4 .0));
+      some = eqb-false (twoAt b 12) 0 (u5 .0);
+      ticks = ltb-false 32767 (twoAt b 12) (u6 .0);
+      track = u6 .1;
+    }
 
 -- what follows a good head begins at byte 14 or later
-head-long : (b : List ℕ) → ltb (fourAt b 4) 6 ≡ false → 14 ≤ chunkEnd b 0
+head-ends : (b : List ℕ) → 6 ≤ fourAt b 4 → 14 ≤ chunkEnd b 0
 unfolding chunkEnd
-head-long b e = omega (arith, ltb-false (fourAt b 4) 6 e)
+head-ends b h = omega arith
 
 -- the track that the head leads to lies in the file
 head-found : (b : List ℕ) (at end : ℕ) → headOf b ≡ Header.Track at end → (22 ≤ at) × (at ≤ end) × (end ≤ length b)
 head-found b at end e =
     let g = good-head b at end e in
-    let r = track-found (length b) b (chunkEnd b 0) at end (g .track) in
-    let l = head-long b (g .six) in
+    let r = track-lies (length b) b (chunkEnd b 0) at end (g .track) in
+    let l = head-ends b (g .single .formatted .held .six) in
     (omega arith, r .1, r .2)
 
 -- the same head
 head-same : (b other : List ℕ) (at end : ℕ) → headOf b ≡ Header.Track at end → end ≤ length other → SameBelow b other at → headOf other ≡ Header.Track at end
-unfolding headOf
 head-same b other at end e k s =
     let g = good-head b at end e in
-    let r = track-found (length b) b (chunkEnd b 0) at end (g .track) in
-    let l = head-long b (g .six) in
-    rw (four-same b other 0 at s (omega arith), four-same b other 4 at s (omega arith), chunk-same b other 0 at s (omega arith), two-same b other 8 at s (omega arith), two-same b other 10 at s (omega arith), two-same b other 12 at s (omega arith), le-ltb (length other) (chunkEnd b 0) (omega arith), g .name, g .six, g .format, g .one, g .some, g .ticks)
-    (track-same (length b) (length other) b other (chunkEnd b 0) at end (g .track) (omega arith) k s)
+    let f = g .single .formatted in
+    let r = track-lies (length b) b (chunkEnd b 0) at end (g .track) in
+    let l = head-ends b (f .held .six) in
+    let length-field = four-same b other 4 at s (omega arith) in
+    let division = two-same b other 12 at s (omega arith) in
+    let ends = chunk-same b other 0 at s (omega arith) in
+    let six : 6 ≤ fourAt other 4 = omega (arith, f .held .six) in
+    let single = single-head other (four-same b other 0 at s (omega arith) ∙ f .held .named .name) six (omega arith) (two-same b other 8 at s (omega arith) ∙ f .zero-format) (two-same b other 10 at s (omega arith) ∙ g .single .one) in
+    head-good other single (λ z. g .some (sym division ∙ z)) (omega (arith, g .ticks))
+    ∙ ap (trackFrom (length other) other) ends
+    ∙ track-same (length b) (length other) b other (chunkEnd b 0) at end (g .track) (omega arith) k s
 
 -- ---- 8. The whole file
 
@@ -562,21 +564,13 @@ songs-same b other c h k r s =
 
 -- the same cursor in front of the track
 start-same : (b other : List ℕ) (at end : ℕ) → 22 ≤ at → SameBelow b other at → startAt other at end ≡ startAt b at end
-unfolding startAt
 start-same b other at end h s = rw (two-same b other 12 at s (omega arith)) refl
-
--- where it stands
-start-at : (b : List ℕ) (at end : ℕ) → (startAt b at end .at ≡ at) × (startAt b at end .end ≡ end)
-unfolding startAt
-start-at b at end = (refl, refl)
 
 -- bytes behind the end of track change nothing
 pub behind-changes-nothing : BehindChangesNothing
 behind-changes-nothing b other es e s h k =
     let o = opened b es e in
     let c = startAt b (o .at) (o .end) in
-    let c-at = start-at b (o .at) (o .end) .0 in
-    let c-end = start-at b (o .at) (o .end) .1 in
     let found = head-found b (o .at) (o .end) (o .head) in
     let long : o .end ≤ length other = subst (λ (n : ℕ). n ≤ length other) (chunk-of-track-is b (o .at) (o .end) (o .head)) h in
     let all : SameBelow b other (endFrom (turns b) b c) = subst (λ (n : ℕ). SameBelow b other n) (end-of-track-is b (o .at) (o .end) (o .head)) s in
@@ -626,7 +620,7 @@ record Shown : Type 0 where
 
 -- so it is
 shown : Shown
-unfolding eventsOf headOf trackFrom chunkEnd fourAt twoAt threeAt u8At quantityFrom quantityAt itemAt metaAt metaOf channelAt shortAt longAt exclusiveAt between done obeyed meetAt songFrom startAt frameAt behindEnd behindMet endFrom endOfTrack chunkOfTrack
+unfolding eventsOf headOf trackFrom chunkEnd fourAt twoAt threeAt u8At quantityFrom quantityAt itemAt metaAt metaOf channelAt shortAt longAt exclusiveAt between done obeyed meetAt songFrom frameAt behindEnd behindMet endFrom endOfTrack chunkOfTrack
 shown = record { events = refl; end = refl; chunk = refl }
 
 -- and so those of the other

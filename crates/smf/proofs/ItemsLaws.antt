@@ -17,7 +17,7 @@ use Rattle.smf.specs.Items.{isChannel, isShort, shortAt, longAt, channel
 use Rattle.smf.proofs.QuantitiesLaws.{quantity-behind}
 
 -- what is so of both answers of a test is so of the answer
-pub either : (P : Item → Type 0) (t : Bool) (x y : Item) → (t ≡ true → P x) → (t ≡ false → P y) → P (cond t x y)
+pub either : {A : Type 0} (P : A → Type 0) (t : Bool) (x y : A) → (t ≡ true → P x) → (t ≡ false → P y) → P (cond t x y)
 either P true x y yes' no' = yes' refl
 either P false x y yes' no' = no' refl
 
@@ -55,6 +55,7 @@ Placed edge at (Tempo tempo behind) = (at < behind) × (behind ≤ edge)
 Placed edge at (Channel status first second behind) = Sound edge at status first second behind
 
 module _ (b : List ℕ) (edge : ℕ) where
+  -- one data byte
   short-placed : (status from at : ℕ) → 128 ≤ status → status ≤ 239 → from ≤ at → Placed edge from (shortAt b edge status at)
   unfolding shortAt
   short-placed status from at low high h =
@@ -67,6 +68,7 @@ module _ (b : List ℕ) (edge : ℕ) where
           let y = ltb-false 127 (u8At b at) (t .1) in
           record { after = omega arith; before = x; low = low; high = high; first-in = omega arith; second-in = omega arith; short = λ s. refl }
 
+  -- two data bytes
   long-placed : (status from at : ℕ) → isShort status ≡ false → 128 ≤ status → status ≤ 239 → from ≤ at → Placed edge from (longAt b edge status at)
   unfolding longAt
   long-placed status from at long low high h =
@@ -84,12 +86,14 @@ module _ (b : List ℕ) (edge : ℕ) where
           not-both : isShort status ≡ true → u8At b (at + 1) ≡ 0
           not-both q = let z : _≡_ {A = ℕ} 0 1 = cc in absurd (omega arith)
 
+  -- a channel event
   channel-placed : (status from at : ℕ) → 128 ≤ status → status ≤ 239 → from ≤ at → Placed edge from (channelAt b edge status at)
   unfolding channelAt
   channel-placed status from at low high h =
       either (Placed edge from) (isShort status) (shortAt b edge status at) (longAt b edge status at)
       (λ e. short-placed status from at low high h) (λ e. long-placed status from at e low high h)
 
+  -- a system exclusive event
   exclusive-placed : (from at : ℕ) → from ≤ at → Placed edge from (exclusiveAt b edge at)
   unfolding exclusiveAt
   exclusive-placed from at h = go (quantityAt b edge at) refl
@@ -100,6 +104,7 @@ module _ (b : List ℕ) (edge : ℕ) where
           let q = quantity-behind b edge at n p e in
           either (Placed edge from) (ltb edge (p + n)) Bad (Passed (p + n)) (λ t. tt) (λ t. (omega arith, ltb-false edge (p + n) t))
 
+  -- a meta event by its type
   meta-of-placed : (from kind n at : ℕ) → from < at → at + n ≤ edge → Placed edge from (metaOf b kind n at)
   unfolding metaOf
   meta-of-placed from kind n at h k =
@@ -108,6 +113,7 @@ module _ (b : List ℕ) (edge : ℕ) where
       (λ f. either (Placed edge from) (ltb n 3) Bad (Tempo (threeAt b at) (at + n)) (λ g. tt) (λ g. (omega arith, k)))
       (λ f. (omega arith, k)))
 
+  -- a meta event
   meta-placed : (from at : ℕ) → from ≤ at → Placed edge from (metaAt b edge at)
   unfolding metaAt
   meta-placed from at h = go (quantityAt b edge (at + 1)) refl

@@ -1,6 +1,11 @@
 pub mod QuantitiesLaws
+pub mod HeadLaws
 pub mod ItemsLaws
 pub mod TicksLaws
+pub mod MeetingLaws
 pub mod TrackLaws
+pub mod SongsLaws
+pub mod FirstFaultLaws
+pub mod ReadingLaws
 pub mod BehindLaws
 pub mod SpellingLaws

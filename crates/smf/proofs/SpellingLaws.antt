@@ -29,7 +29,9 @@ use Rattle.smf.specs.Track.Song.{Refused, Events}
 use Rattle.smf.specs.Songs.{startAt, turns, eventsOf, verdict, testOf}
 use Rattle.smf.specs.Spelling.{Mark, Score, hasOne, GoodMark, GoodMarks, GoodScore, ticksOf, tempoBehind, sounding, playedFrom, inTimeFrom, played, inTime, twoBytes, threeBytes, fourBytes, quantityBytes, statusBytes, dataBytes, eventBytes, runningBehind, trackBytes, trackOf, fileBytes, AllBytes, WrittenInBytes, WrittenIsPlayed, WrittenTooLate, RunningIsSpelling}
 use Rattle.smf.proofs.QuantitiesLaws.{from-last, from-more}
-use Rattle.smf.proofs.BehindLaws.{meet-is, songBy, song-is, events-is}
+use Rattle.smf.proofs.MeetingLaws.{meet-good}
+use Rattle.smf.proofs.HeadLaws.{track-found, track-turn, head-good}
+use Rattle.smf.proofs.BehindLaws.{songBy, song-is, single-head, events-is}
 
 -- ---- 1. Bytes one after the other
 
@@ -419,7 +421,7 @@ met : (b : List ℕ) (c : Cursor) (ticks : ℕ) (rest : List ℕ) → c .end ≡
     → meetAt b c ≡ obeyed (itemAt b (length b) (c .running) (q .place)) c (sumAfter c ticks) (q .place)
 met b c ticks rest whole q =
     let edge : edgeOf b c ≡ length b = omega arith in
-    meet-is b c ticks (q .place) (subst (λ (n : ℕ). quantityAt b n (c .at) ≡ Good ticks (q .place)) (sym edge) (q .reads))
+    meet-good b c ticks (q .place) (subst (λ (n : ℕ). quantityAt b n (c .at) ≡ Good ticks (q .place)) (sym edge) (q .reads))
     ∙ ap (λ (n : ℕ). obeyed (itemAt b n (c .running) (q .place)) c (sumAfter c ticks) (q .place)) edge
 
 -- what a mark does, in front of the song behind it
@@ -428,7 +430,7 @@ mark-told : (n : ℕ) (b : List ℕ) (c : Cursor) (m : Mark) (sum from place : �
     → Told t (sounding (c .division) sum m es) (songBy n b (done (itemOf m place) c sum from))
 unfolding done
 mark-told n b c (Mark.Channel ticks status first second) sum from place t es h =
-    told-behind t (eventOf c sum status first second) es (songFrom n b (moved c sum place status (c .tempo))) h
+    told-behind t (eventOf (record { status = status; first = first; second = second }) (moved c sum place status (c .tempo))) es (songFrom n b (moved c sum place status (c .tempo))) h
 mark-told n b c (Mark.Tempo ticks tempo) sum from place t es h = h
 mark-told n b c (Mark.Meta ticks kind bytes) sum from place t es h = h
 mark-told n b c (Mark.Exclusive ticks status bytes) sum from place t es h = h
@@ -504,28 +506,6 @@ song-told (m ∷ ms) omits k last (suc n) b c whole e g l h =
 
 -- ---- 5. The file
 
--- a track that is the first chunk looked at
-track-here : (n : ℕ) (b : List ℕ) (p : ℕ) → p + 8 ≤ length b → fourAt b p ≡ 1297379947 → chunkEnd b p ≤ length b
-    → trackFrom (suc n) b p ≡ Header.Track (p + 8) (chunkEnd b p)
-unfolding trackFrom
-track-here n b p h name k =
-    let t1 = le-ltb (length b) (p + 4) (omega arith) in
-    let t2 = le-ltb (length b) (chunkEnd b p) k in
-    rw (t1, t2, name) refl
-
--- a head of six bytes, format 0, one track
-head-here : (b : List ℕ) (n division : ℕ) → length b ≡ suc n → fourAt b 0 ≡ 1297377380 → fourAt b 4 ≡ 6 → twoAt b 8 ≡ 0 → twoAt b 10 ≡ 1 → twoAt b 12 ≡ division
-    → 1 ≤ division → division ≤ 32767 → 22 ≤ length b → fourAt b 14 ≡ 1297379947 → chunkEnd b 14 ≡ length b → headOf b ≡ Header.Track 22 (length b)
-unfolding headOf
-head-here b n division size f0 f4 f8 f10 f12 low high long name whole =
-    let c0 : chunkEnd b 0 ≡ 14 = unfold chunkEnd in rw f4 refl in
-    let t1 = le-ltb (length b) 14 (omega arith) in
-    let t2 = ne-eqb division 0 (λ z. omega arith) in
-    let t3 = le-ltb 32767 division high in
-    let t : trackFrom (length b) b 14 ≡ Header.Track 22 (length b) =
-    ap (λ (k : ℕ). trackFrom k b 14) size ∙ track-here n b 14 (omega arith) name (omega arith) ∙ ap (λ (k : ℕ). Header.Track 22 k) whole in
-    rw (f0, f4, c0, t1, f8, f10, f12, t2, t3) t
-
 -- what the head of a written file says
 record Written (b : List ℕ) (s : Score) (track : List ℕ) : Type 0 where
   size : length b ≡ 22 + length track
@@ -567,12 +547,18 @@ written-head : (b : List ℕ) (s : Score) (track : List ℕ) → GoodScore s →
 unfolding chunkEnd
 written-head b s track g w =
     let size = w .size in
-    let z : chunkEnd b 14 ≡ length b = rw (w .track-size) (omega arith) in
-    head-here b (21 + length track) (s .division) (omega arith) (w .name) (w .six) (w .format) (w .one) (w .division) (g .low) (g .high) (omega arith) (w .track-name) z
+    let six = w .six in
+    let division = w .division in
+    let head : chunkEnd b 0 ≡ 14 = rw six refl in
+    let whole : chunkEnd b 14 ≡ length b = rw (w .track-size) (omega arith) in
+    let single = single-head b (w .name) (omega arith) (omega arith) (w .format) (w .one) in
+    head-good b single (λ z. absurd (omega (arith, g .low))) (omega (arith, g .high))
+    ∙ ap (trackFrom (length b) b) head
+    ∙ track-turn b 14 (Header.Track 22 (chunkEnd b 14)) (omega arith) (λ n. track-found b 14 n (omega arith) (omega arith) (w .track-name))
+    ∙ ap (Header.Track 22) whole
 
 -- the song of a written file
 written-told : (omits : ℕ → Bool) (s : Score) → GoodScore s → length (fileBytes omits s) ≤ 65536 → Told (inTime s) (played s) (eventsOf (fileBytes omits s))
-unfolding startAt
 written-told omits s g short =
     let b = fileBytes omits s in
     let w = written omits s in

@@ -1,7 +1,6 @@
 -- Laws of frames: they rise with U, and within an hour they are at most 158,760,000.
-use mathlib.Core.Path.{_≡_}
-use Prim.Native.Nat.{ℕ, zero, suc, _*_, _/_, _≤_}
-use native.Mathlib.Nat.{div-zero, div-le-of-le-mul, le-div-iff-mul-le, div-mul-le-self, le-trans}
+use Prim.Native.Nat.{ℕ, zero, suc, _*_, _/_, _<_, _≤_}
+use native.Mathlib.Nat.{div-zero, div-le-of-le-mul, le-div-iff-mul-le, div-mul-le-self, le-trans, le-of-lt, mul-le-mul}
 use native.Mathlib.Omega.{arith}
 use Rattle.smf.specs.Ticks.{frameAt}
 
@@ -19,3 +18,7 @@ frame-rises division low high h = quotient-rises (division * 1000000) (low * 441
 pub frame-in : (division sum : ℕ) → sum ≤ 3600000000 * division → frameAt division sum ≤ 158760000
 unfolding frameAt
 frame-in division sum h = div-le-of-le-mul (division * 1000000) (omega arith)
+
+-- a delta time in any tempo
+pub delta-in : (ticks tempo : ℕ) → ticks < 268435456 → tempo < 4294967296 → ticks * tempo ≤ 1152921504606846976
+delta-in ticks tempo h k = mul-le-mul (le-of-lt h) (le-of-lt k)

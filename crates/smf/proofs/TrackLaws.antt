@@ -7,12 +7,10 @@ use native.Mathlib.Nat.{min-le-right}
 use native.Mathlib.Numerals.{add-one}
 use native.Mathlib.Omega.{arith}
 use borrow.Author.Tests.{ltb-false}
-use lib.Dec.{ltb}
 use lib.ListN.{length}
 use Rattle.smf.specs.declared.Cursor.{Cursor}
-use Rattle.smf.specs.declared.Event.{Event}
-use Rattle.smf.specs.declared.Handed.{Handed}
 use Rattle.smf.specs.declared.Item.{Item}
+use Rattle.smf.specs.declared.Message.{Message}
 use Rattle.smf.specs.declared.Met.{Met}
 use Rattle.smf.specs.declared.Met.the-variants.{Fault, End, Passed, Given}
 use Rattle.smf.specs.declared.Offer.{Offer}
@@ -20,8 +18,8 @@ use Rattle.smf.specs.declared.Quantity.{Quantity}
 use Rattle.smf.specs.declared.Quantity.the-variants.{Bad, Good}
 use Rattle.smf.specs.Quantities.{quantityAt}
 use Rattle.smf.specs.Items.{isShort, itemAt}
-use Rattle.smf.specs.Ticks.{sumAfter, isLate, frameAt}
-use Rattle.smf.specs.Track.{Song, edgeOf, moved, eventOf, isBad, done, obeyed, meetAt, behindEvent, songFrom, nextFrom, nothing}
+use Rattle.smf.specs.Ticks.{sumAfter, isLate}
+use Rattle.smf.specs.Track.{edgeOf, moved, eventOf, done, obeyed, meetAt, behindEvent, songFrom, nextFrom, nothing}
 use Rattle.smf.specs.Track.Song.{Refused, Events}
 use Rattle.smf.specs.Songs.{turns}
 use Rattle.smf.proofs.QuantitiesLaws.{quantity-behind, quantity-edge}
@@ -36,23 +34,23 @@ pub record Further (b : List ℕ) (c further : Cursor) : Type 0 where
   pub rises : c .sum ≤ further .sum
   pub early : further .sum ≤ 3600000000 * c .division
 
--- an event that is given: its frame is that of U, and its bytes are in their ranges
-pub record Sounds (c : Cursor) (event : Event) (further : Cursor) : Type 0 where
-  pub frame : event .frame ≡ frameAt (c .division) (further .sum)
-  pub low : 128 ≤ event .status
-  pub high : event .status ≤ 239
-  pub first-in : event .first < 128
-  pub second-in : event .second < 128
-  pub short : isShort (event .status) ≡ true → event .second ≡ 0
+-- a message that is given: its bytes are in their ranges
+pub record Sounds (message : Message) : Type 0 where
+  pub low : 128 ≤ message .status
+  pub high : message .status ≤ 239
+  pub first-in : message .first < 128
+  pub second-in : message .second < 128
+  pub short : isShort (message .status) ≡ true → message .second ≡ 0
 
 -- what holds of what is met at a cursor
 abbrev pub Led : List ℕ → Cursor → Met → Type 0
 Led b c (Fault number place) = c .at ≤ place
 Led b c End = c .at < edgeOf b c
 Led b c (Passed further) = Further b c further
-Led b c (Given event further) = Further b c further × Sounds c event further
+Led b c (Given message further) = Further b c further × Sounds message
 
 module _ (b : List ℕ) (c : Cursor) where
+  -- the test of the hour
   late-or : (sum place : ℕ) (x : Met) → c .at ≤ place → (sum ≤ 3600000000 * c .division → Led b c x) → Led b c (cond (isLate (c .division) sum) (Fault 11 place) x)
   late-or sum place x h led = go (isLate (c .division) sum) refl
     where
@@ -60,6 +58,7 @@ module _ (b : List ℕ) (c : Cursor) where
       go true e = h
       go false e = led (ltb-false (3600000000 * c .division) sum e)
 
+  -- each kind of event
   obeyed-led : (item : Item) (sum place : ℕ) → c .at < place → c .sum ≤ sum → Placed (edgeOf b c) place item → Led b c (obeyed item c sum place)
   unfolding obeyed done
   obeyed-led Item.Bad sum place h r p = omega arith
@@ -71,10 +70,10 @@ module _ (b : List ℕ) (c : Cursor) where
       late-or sum place (Passed (moved c sum behind 0 tempo)) (omega arith)
       (λ early. record { after = omega arith; before = p .1; same-end = refl; same-division = refl; rises = r; early = early })
   obeyed-led (Item.Channel status first second behind) sum place h r p =
-      late-or sum place (Given (eventOf c sum status first second) (moved c sum behind status (c .tempo))) (omega arith)
+      late-or sum place (Given (record { status = status; first = first; second = second }) (moved c sum behind status (c .tempo))) (omega arith)
       (λ early. (
         record { after = omega arith; before = p .before; same-end = refl; same-division = refl; rises = r; early = early },
-        record { frame = refl; low = p .low; high = p .high; first-in = p .first-in; second-in = p .second-in; short = p .short },
+        record { low = p .low; high = p .high; first-in = p .first-in; second-in = p .second-in; short = p .short },
       ))
 
   -- what is met at a cursor leads further, and no event is past an hour
@@ -93,8 +92,8 @@ module _ (b : List ℕ) (c : Cursor) where
   meet-passed further e = subst (λ (m : Met). Led b c m) e meet-led
 
   -- an event that is given
-  pub meet-given : (event : Event) (further : Cursor) → meetAt b c ≡ Given event further → Further b c further × Sounds c event further
-  meet-given event further e = subst (λ (m : Met). Led b c m) e meet-led
+  pub meet-given : (message : Message) (further : Cursor) → meetAt b c ≡ Given message further → Further b c further × Sounds message
+  meet-given message further e = subst (λ (m : Met). Led b c m) e meet-led
 
   -- a fault does not lie in front of the cursor
   pub meet-fault : (number place : ℕ) → meetAt b c ≡ Fault number place → c .at ≤ place
@@ -109,38 +108,45 @@ module _ (b : List ℕ) (c : Cursor) where
   pub edge-in : edgeOf b c ≤ length b
   edge-in = min-le-right (c .end) (length b)
 
-  -- one turn, whatever is met
+  -- one turn of a song: a fault
   turn-fault : (n number place : ℕ) → meetAt b c ≡ Fault number place → songFrom (suc n) b c ≡ Refused number place
   unfolding songFrom
   turn-fault n number place e = rw (e, songFrom) refl
 
+  -- an end of track
   turn-end : (n : ℕ) → meetAt b c ≡ End → songFrom (suc n) b c ≡ Events []
   unfolding songFrom
   turn-end n e = rw (e, songFrom) refl
 
+  -- an event that gives none
   turn-passed : (n : ℕ) (further : Cursor) → meetAt b c ≡ Passed further → songFrom (suc n) b c ≡ songFrom n b further
   unfolding songFrom
   turn-passed n further e = rw (e, songFrom) refl
 
-  turn-given : (n : ℕ) (event : Event) (further : Cursor) → meetAt b c ≡ Given event further → songFrom (suc n) b c ≡ behindEvent event (songFrom n b further)
+  -- a channel event
+  turn-given : (n : ℕ) (message : Message) (further : Cursor) → meetAt b c ≡ Given message further → songFrom (suc n) b c ≡ behindEvent (eventOf message further) (songFrom n b further)
   unfolding songFrom
-  turn-given n event further e = rw (e, songFrom) refl
+  turn-given n message further e = rw (e, songFrom) refl
 
+  -- one look for the next event: a fault
   look-fault : (n number place : ℕ) → meetAt b c ≡ Fault number place → nextFrom (suc n) b c ≡ nothing
   unfolding nextFrom
   look-fault n number place e = rw (e, nextFrom) refl
 
+  -- an end of track
   look-end : (n : ℕ) → meetAt b c ≡ End → nextFrom (suc n) b c ≡ nothing
   unfolding nextFrom
   look-end n e = rw (e, nextFrom) refl
 
+  -- an event that gives none
   look-passed : (n : ℕ) (further : Cursor) → meetAt b c ≡ Passed further → nextFrom (suc n) b c ≡ nextFrom n b further
   unfolding nextFrom
   look-passed n further e = rw (e, nextFrom) refl
 
-  look-given : (n : ℕ) (event : Event) (further : Cursor) → meetAt b c ≡ Given event further → nextFrom (suc n) b c ≡ record { offer = Offer.Given event; cursor = further }
+  -- a channel event
+  look-given : (n : ℕ) (message : Message) (further : Cursor) → meetAt b c ≡ Given message further → nextFrom (suc n) b c ≡ record { offer = Offer.Given (eventOf message further); cursor = further }
   unfolding nextFrom
-  look-given n event further e = rw (e, nextFrom) refl
+  look-given n message further e = rw (e, nextFrom) refl
 
   -- no byte is left: any number of turns refuses
   pub song-out : (n : ℕ) → edgeOf b c ≤ c .at → songFrom n b c ≡ Refused 9 (c .at)
@@ -171,10 +177,10 @@ song-enough (suc n) (suc m) b c h k = go (λ further. song-enough n m b further)
         let f = meet-passed b c further e in
         let same = further-edge b c further f in
         turn-passed b c n further e ∙ more further (omega arith) (omega arith) ∙ sym (turn-passed b c m further e)
-    go more (Given event further) e =
-        let f = meet-given b c event further e .0 in
+    go more (Given message further) e =
+        let f = meet-given b c message further e .0 in
         let same = further-edge b c further f in
-        turn-given b c n event further e ∙ ap (behindEvent event) (more further (omega arith) (omega arith)) ∙ sym (turn-given b c m event further e)
+        turn-given b c n message further e ∙ ap (behindEvent (eventOf message further)) (more further (omega arith) (omega arith)) ∙ sym (turn-given b c m message further e)
 
 -- the same of the next event
 pub next-enough : (n m : ℕ) (b : List ℕ) (c : Cursor) → edgeOf b c < c .at + n → edgeOf b c < c .at + m → nextFrom n b c ≡ nextFrom m b c
@@ -189,7 +195,7 @@ next-enough (suc n) (suc m) b c h k = go (λ further. next-enough n m b further)
         let f = meet-passed b c further e in
         let same = further-edge b c further f in
         look-passed b c n further e ∙ more further (omega arith) (omega arith) ∙ sym (look-passed b c m further e)
-    go more (Given event further) e = look-given b c n event further e ∙ sym (look-given b c m event further e)
+    go more (Given message further) e = look-given b c n message further e ∙ sym (look-given b c m message further e)
 
 module _ (b : List ℕ) (c : Cursor) where
   -- behind an event a turn less is enough
@@ -198,6 +204,7 @@ module _ (b : List ℕ) (c : Cursor) where
       let room = edge-in b further in
       song-enough (length b) (turns b) b further (omega (arith, f .after)) (omega arith)
 
+  -- the same of the next event
   less-next : (further : Cursor) → Further b c further → nextFrom (length b) b further ≡ nextFrom (turns b) b further
   less-next further f =
       let room = edge-in b further in
@@ -216,9 +223,9 @@ module _ (b : List ℕ) (c : Cursor) where
   song-passed further e = (rw add-one (turn-passed b c (length b) further e)) ∙ less further (meet-passed b c further e)
 
   -- a channel event stands in front of the rest
-  pub song-given : (event : Event) (further : Cursor) → meetAt b c ≡ Given event further → songFrom (turns b) b c ≡ behindEvent event (songFrom (turns b) b further)
-  song-given event further e =
-      (rw add-one (turn-given b c (length b) event further e)) ∙ ap (behindEvent event) (less further (meet-given b c event further e .0))
+  pub song-given : (message : Message) (further : Cursor) → meetAt b c ≡ Given message further → songFrom (turns b) b c ≡ behindEvent (eventOf message further) (songFrom (turns b) b further)
+  song-given message further e =
+      (rw add-one (turn-given b c (length b) message further e)) ∙ ap (behindEvent (eventOf message further)) (less further (meet-given b c message further e .0))
 
   -- where no byte is left it is refused
   pub song-edge : edgeOf b c ≤ c .at → songFrom (turns b) b c ≡ Refused 9 (c .at)
@@ -237,8 +244,8 @@ module _ (b : List ℕ) (c : Cursor) where
   next-passed further e = (rw add-one (look-passed b c (length b) further e)) ∙ less-next further (meet-passed b c further e)
 
   -- a channel event is given, with the cursor behind it
-  pub next-given : (event : Event) (further : Cursor) → meetAt b c ≡ Given event further → nextFrom (turns b) b c ≡ record { offer = Offer.Given event; cursor = further }
-  next-given event further e = rw add-one (look-given b c (length b) event further e)
+  pub next-given : (message : Message) (further : Cursor) → meetAt b c ≡ Given message further → nextFrom (turns b) b c ≡ record { offer = Offer.Given (eventOf message further); cursor = further }
+  next-given message further e = rw add-one (look-given b c (length b) message further e)
 
   -- where no byte is left there is none
   pub next-edge : edgeOf b c ≤ c .at → nextFrom (turns b) b c ≡ nothing

@@ -34,7 +34,7 @@ endFrom (suc n) b c =
       | Fault number place ↦ c .at
       | End ↦ behindMet b c
       | Passed further ↦ endFrom n b further
-      | Given event further ↦ endFrom n b further
+      | Given message further ↦ endFrom n b further
     ]
 
 -- the place behind the end of track event of a file that is not refused

@@ -19,6 +19,10 @@ isChannel status = between 128 239 status
 abbrev pub isShort : ℕ → Bool
 isShort status = between 192 223 status
 
+-- a first byte of a system exclusive event, F0 or F7
+abbrev pub isExclusive : ℕ → Bool
+isExclusive x = eqb x 240 || eqb x 247
+
 -- one data byte at a place
 unfoldable pub shortAt : List ℕ → ℕ → ℕ → ℕ → Item
 shortAt b edge status at = cond (ltb edge (at + 1) || ltb 127 (u8At b at)) Bad (Channel status (u8At b at) 0 (at + 1))
@@ -45,8 +49,8 @@ unfoldable pub metaAt : List ℕ → ℕ → ℕ → Item
 metaAt b edge at =
     elim (quantityAt b edge (at + 1)) [ Quantity.Bad ↦ Bad | Good n p ↦ cond (ltb 127 (u8At b at) || ltb edge (p + n)) Bad (metaOf b (u8At b at) n p) ]
 
--- the event at a place, where a status runs (0: none): a data byte takes the running status; F0 and F7 are system exclusive, FF is meta
+-- the event at a place, where a status runs (0: none): a data byte takes the running status; FF is a meta event
 unfoldable pub itemAt : List ℕ → ℕ → ℕ → ℕ → Item
 itemAt b edge running at =
     let x = u8At b at in
-    cond (leb edge at) Bad (cond (ltb x 128) (cond (isChannel running) (channelAt b edge running at) Bad) (cond (ltb x 240) (channelAt b edge x (at + 1)) (cond (eqb x 255) (metaAt b edge (at + 1)) (cond (eqb x 240 || eqb x 247) (exclusiveAt b edge (at + 1)) Bad))))
+    cond (leb edge at) Bad (cond (ltb x 128) (cond (isChannel running) (channelAt b edge running at) Bad) (cond (ltb x 240) (channelAt b edge x (at + 1)) (cond (eqb x 255) (metaAt b edge (at + 1)) (cond (isExclusive x) (exclusiveAt b edge (at + 1)) Bad))))

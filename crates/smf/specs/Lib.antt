@@ -4,5 +4,8 @@ pub mod Items
 pub mod Ticks
 pub mod Track
 pub mod Songs
+pub mod Faults
+pub mod Reading
 pub mod Behind
 pub mod Spelling
+pub mod Internal

@@ -18,7 +18,7 @@ use Rattle.smf.specs.Track.{Song, songFrom, nextFrom, over}
 use Rattle.smf.specs.Track.Song.{Refused, Events}
 
 -- at the track's first delta time: no status runs, the tempo is 500,000 and U is 0
-unfoldable pub startAt : List ℕ → ℕ → ℕ → Cursor
+abbrev pub startAt : List ℕ → ℕ → ℕ → Cursor
 startAt b at end = record { at = at; end = end; running = 0; division = twoAt b 12; tempo = 500000; sum = 0 }
 
 -- how many events a track has at most, with one more for its end: each takes a byte or more

@@ -7,6 +7,7 @@ use Rattle.smf.specs.declared.Cursor.{Cursor}
 use Rattle.smf.specs.declared.Event.{Event}
 use Rattle.smf.specs.declared.Handed.{Handed}
 use Rattle.smf.specs.declared.Item.{Item}
+use Rattle.smf.specs.declared.Message.{Message}
 use Rattle.smf.specs.declared.Met.{Met}
 use Rattle.smf.specs.declared.Offer.{Offer}
 use Rattle.smf.specs.declared.Quantity.{Quantity}
@@ -25,9 +26,9 @@ abbrev pub moved : Cursor → ℕ → ℕ → ℕ → ℕ → Cursor
 moved c sum behind running tempo =
     record { at = behind; end = c .end; running = running; division = c .division; tempo = tempo; sum = sum }
 
--- a channel event at which U is `sum`
-abbrev pub eventOf : Cursor → ℕ → ℕ → ℕ → ℕ → Event
-eventOf c sum status first second = record { frame = frameAt (c .division) sum; status = status; first = first; second = second }
+-- a channel event: a message in front of a cursor, at the frame of the cursor's U
+abbrev pub eventOf : Message → Cursor → Event
+eventOf m further = record { frame = frameAt (further .division) (further .sum); status = m .status; first = m .first; second = m .second }
 
 -- whether an event is not well formed
 abbrev pub isBad : Item → Bool
@@ -43,7 +44,8 @@ done Item.Bad c sum place = Fault 9 place
 done Item.End c sum place = End
 done (Item.Passed behind) c sum place = Passed (moved c sum behind 0 (c .tempo))
 done (Item.Tempo tempo behind) c sum place = Passed (moved c sum behind 0 tempo)
-done (Item.Channel status first second behind) c sum place = Given (eventOf c sum status first second) (moved c sum behind status (c .tempo))
+done (Item.Channel status first second behind) c sum place =
+    Given (record { status = status; first = first; second = second }) (moved c sum behind status (c .tempo))
 
 -- the same with its refusals, of which 9 goes before 11
 unfoldable pub obeyed : Item → Cursor → ℕ → ℕ → Met
@@ -75,7 +77,7 @@ songFrom (suc n) b c =
       | Fault number place ↦ Refused number place
       | End ↦ Events []
       | Passed further ↦ songFrom n b further
-      | Given event further ↦ behindEvent event (songFrom n b further)
+      | Given message further ↦ behindEvent (eventOf message further) (songFrom n b further)
     ]
 
 -- a cursor from which no event comes
@@ -94,5 +96,5 @@ nextFrom (suc n) b c =
       | Fault number place ↦ nothing
       | End ↦ nothing
       | Passed further ↦ nextFrom n b further
-      | Given event further ↦ record { offer = Offer.Given event; cursor = further }
+      | Given message further ↦ record { offer = Offer.Given (eventOf message further); cursor = further }
     ]

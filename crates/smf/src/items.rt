@@ -2,7 +2,7 @@
 ghost use mathlib.Core.Path.{_≡_};
 ghost use mathlib.Core.Bool.{cond};
 ghost use Prim.Native.Nat.{_+_, _≤_};
-ghost use Rattle.smf.specs.Items.{isChannel, isShort, shortAt, longAt, channelAt, exclusiveAt, metaOf, metaAt, itemAt};
+ghost use Rattle.smf.specs.Items.{isChannel, isShort, isExclusive, shortAt, longAt, channelAt, exclusiveAt, metaOf, metaAt, itemAt};
 use crate::Item;
 use crate::Quantity;
 use crate::quantities::quantity_at;
@@ -20,6 +20,13 @@ fn is_short(status: u8) -> bool
     ensures { λ r. ⌜ r ≡ isShort status ⌝ }
 {
     192 <= status && status <= 223
+}
+
+// A first byte of a system exclusive event.
+fn is_exclusive(x: u8) -> bool
+    ensures { λ r. ⌜ r ≡ isExclusive x ⌝ }
+{
+    x == 240 || x == 247
 }
 
 // One data byte.
@@ -45,12 +52,15 @@ fn short_at(b: &[u8], edge: u32, status: u8, at: u32) -> Item
 fn long_at(b: &[u8], edge: u32, status: u8, at: u32) -> Item
     ensures { λ r. ⌜ r ≡ longAt (now (b .entry)) edge status at ⌝ }
 {
-    if edge <= at || edge - at < 2 {
+    if (edge as usize) < (at as usize) + 2 {
         return Item::Bad;
     }
     let first = arith::byte(b, at as usize);
+    if 127 < first {
+        return Item::Bad;
+    }
     let second = arith::byte(b, (at + 1) as usize);
-    if 127 < first || 127 < second {
+    if 127 < second {
         return Item::Bad;
     }
     Item::Channel {
@@ -79,7 +89,7 @@ fn exclusive_at(b: &[u8], edge: u32, at: u32) -> Item
     match q {
         Quantity::Bad => Item::Bad,
         Quantity::Good { value, behind } => {
-            if edge - behind < value {
+            if (edge as usize) < (behind as usize) + (value as usize) {
                 return Item::Bad;
             }
             Item::Passed {
@@ -122,7 +132,10 @@ fn meta_at(b: &[u8], edge: u32, at: u32) -> Item
     match q {
         Quantity::Bad => Item::Bad,
         Quantity::Good { value, behind } => {
-            if 127 < kind || edge - behind < value {
+            if 127 < kind {
+                return Item::Bad;
+            }
+            if (edge as usize) < (behind as usize) + (value as usize) {
                 return Item::Bad;
             }
             meta_of(b, kind, value, behind)
@@ -144,11 +157,13 @@ pub fn item_at(b: &[u8], edge: u32, running: u8, at: u32) -> Item
     if x < 240 {
         return channel_at(b, edge, x, at + 1);
     }
-    match x {
-        255 => meta_at(b, edge, at + 1),
-        240 | 247 => exclusive_at(b, edge, at + 1),
-        _ => Item::Bad,
+    if x == 255 {
+        return meta_at(b, edge, at + 1);
     }
+    if is_exclusive(x) {
+        return exclusive_at(b, edge, at + 1);
+    }
+    Item::Bad
 }
 
 // A data byte where a status runs.

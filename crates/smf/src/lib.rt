@@ -42,7 +42,14 @@ pub enum Item {
     },
 }
 
-// A channel event: its frame from the song's start, its status, written out where it ran, and its data; the second is 0 where there is one.
+// A channel message: its status, written out where it ran, and its data; the second is 0 where there is one.
+pub struct Message {
+    pub status: u8,
+    pub first: u8,
+    pub second: u8,
+}
+
+// A channel event: a message, and its frame from the song's start.
 pub struct Event {
     pub frame: u32,
     pub status: u8,
@@ -66,7 +73,7 @@ pub enum Met {
     Fault { number: u8, place: u32 },
     End,
     Passed { further: Cursor },
-    Given { event: Event, further: Cursor },
+    Given { message: Message, further: Cursor },
 }
 
 // 02's number, 0 for a good file, and the place of the fault.

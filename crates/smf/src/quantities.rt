@@ -1,7 +1,8 @@
 // Numbers of fixed size, the high byte first, and variable-length quantities.
 ghost use mathlib.Core.Path.{_≡_};
-ghost use Prim.Native.Nat.{_+_, _*_, _≤_};
+ghost use Prim.Native.Nat.{_+_, _*_, _<_, _≤_};
 ghost use Rattle.smf.specs.Quantities.{twoAt, threeAt, fourAt, quantityAt};
+ghost use Rattle.smf.specs.Internal.Quantities.{valueOf};
 use crate::Quantity;
 
 // Two bytes, the high one first.
@@ -51,12 +52,15 @@ pub fn four_at(b: &[u8], at: usize) -> u32
 
 // The quantity at a place, of at most four bytes in front of the edge.
 pub fn quantity_at(b: &[u8], edge: u32, at: u32) -> Quantity
-    ensures { λ r. ⌜ r ≡ quantityAt (now (b .entry)) edge at ⌝ }
+    ensures { λ r. ⌜ (r ≡ quantityAt (now (b .entry)) edge at) × (valueOf r < 268435456) ⌝ }
 {
     let mut value: u32 = 0;
     let mut p = at;
     let mut n: u32 = 0;
-    while n < 4 && p < edge {
+    while n < 4 {
+        if edge <= p {
+            return Quantity::Bad;
+        }
         let x = arith::byte(b, p as usize);
         if x < 128 {
             return Quantity::Good {

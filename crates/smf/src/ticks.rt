@@ -1,6 +1,6 @@
 // Ticks to frames.
 ghost use mathlib.Core.Path.{_≡_};
-ghost use Prim.Native.Nat.{_<_, _≤_, _*_};
+ghost use Prim.Native.Nat.{_+_, _*_, _<_, _≤_};
 ghost use Rattle.smf.specs.Ticks.{sumAfter, isLate, frameAt};
 use crate::Cursor;
 
@@ -11,16 +11,16 @@ fn limit(division: u16) -> u64
     3600000000 * (division as u64)
 }
 
-// U too high, so many ticks behind a cursor.
-pub fn is_late(c: Cursor, ticks: u32) -> bool
+// U too high, so many ticks of a tempo behind a sum.
+pub fn is_late(division: u16, sum: u64, ticks: u32, tempo: u32) -> bool
     requires { ⌜ ticks < 268435456 ⌝ }
-    ensures { λ r. ⌜ r ≡ isLate (c .division) (sumAfter c ticks) ⌝ }
+    ensures { λ r. ⌜ r ≡ isLate division (sum + ticks * tempo) ⌝ }
 {
-    let high = limit(c.division);
-    if high < c.sum {
+    let high = limit(division);
+    if high < sum {
         return true;
     }
-    high < c.sum + (ticks as u64) * (c.tempo as u64)
+    high < sum + (ticks as u64) * (tempo as u64)
 }
 
 // U, so many ticks behind a cursor, where it is not too high.

@@ -9,6 +9,7 @@ use crate::Cursor;
 use crate::Event;
 use crate::Handed;
 use crate::Item;
+use crate::Message;
 use crate::Met;
 use crate::Offer;
 use crate::Quantity;
@@ -43,16 +44,16 @@ fn moved_to(c: Cursor, sum: u64, behind: u32, running: u8, tempo: u32) -> Cursor
     }
 }
 
-// A channel event.
-fn event_of(c: Cursor, sum: u64, status: u8, first: u8, second: u8) -> Event
-    requires { ⌜ sum ≤ 3600000000 * c .division ⌝ }
-    ensures { λ r. ⌜ r ≡ eventOf c sum status first second ⌝ }
+// The channel event in front of a cursor.
+fn event_of(m: Message, further: Cursor) -> Event
+    requires { ⌜ further .sum ≤ 3600000000 * further .division ⌝ }
+    ensures { λ r. ⌜ r ≡ eventOf m further ⌝ }
 {
     Event {
-        frame: frame_at(c.division, sum),
-        status,
-        first,
-        second,
+        frame: frame_at(further.division, further.sum),
+        status: m.status,
+        first: m.first,
+        second: m.second,
     }
 }
 
@@ -62,13 +63,23 @@ fn is_bad(it: Item) -> bool
 {
     match it {
         Item::Bad => true,
-        _ => false,
+        Item::End => false,
+        Item::Passed { behind: _ } => false,
+        Item::Tempo {
+            tempo: _,
+            behind: _,
+        } => false,
+        Item::Channel {
+            status: _,
+            first: _,
+            second: _,
+            behind: _,
+        } => false,
     }
 }
 
 // What an event does.
 fn done_at(it: Item, c: Cursor, sum: u64, place: u32) -> Met
-    requires { ⌜ sum ≤ 3600000000 * c .division ⌝ }
     ensures { λ r. ⌜ r ≡ done it c sum place ⌝ }
 {
     match it {
@@ -86,7 +97,11 @@ fn done_at(it: Item, c: Cursor, sum: u64, place: u32) -> Met
             second,
             behind,
         } => Met::Given {
-            event: event_of(c, sum, status, first, second),
+            message: Message {
+                status,
+                first,
+                second,
+            },
             further: moved_to(c, sum, behind, status, c.tempo),
         },
     }
@@ -100,7 +115,7 @@ fn obey(it: Item, c: Cursor, ticks: u32, place: u32) -> Met
     if is_bad(it) {
         return Met::Fault { number: 9, place };
     }
-    if is_late(c, ticks) {
+    if is_late(c.division, c.sum, ticks, c.tempo) {
         return Met::Fault { number: 11, place };
     }
     done_at(it, c, sum_after(c, ticks), place)
@@ -140,7 +155,10 @@ pub fn test_from(b: &[u8], from: Cursor) -> Tested
                 }
             }
             Met::Passed { further } => c = further,
-            Met::Given { event: _, further } => c = further,
+            Met::Given {
+                message: _,
+                further,
+            } => c = further,
         }
     }
     Tested {
@@ -188,11 +206,12 @@ pub fn next_from(b: &[u8], from: Cursor) -> Handed
             } => return no_event(),
             Met::End => return no_event(),
             Met::Passed { further } => c = further,
-            Met::Given { event, further } => {
+            Met::Given { message, further } => {
+                let event = event_of(message, further);
                 return Handed {
                     offer: Offer::Given { event },
                     cursor: further,
-                }
+                };
             }
         }
     }

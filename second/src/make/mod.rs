@@ -31,6 +31,33 @@
 //! - how many voices sound (u): count_cases
 //! - the numbers of each layer's voice (h): strike_cases; values of the tables: number_lines
 //! - what the prover computes by the definitions: proof_examples, over the voices and runs of drawn
+//!
+//! What the songs must reach (M-101):
+//!
+//! - 65,536, 65,537 and 66,000 bytes, and 9 at 65,536 before all else: song_cases::lengths_of_files
+//! - the head cut off at every byte, its length below, at and above 6 and past the file's end, each of its fields at both
+//!   sides of its edges, and the first of several faults: song_cases (heads_cut_off, lengths_of_heads, fields_of_heads,
+//!   order_of_fields)
+//! - alien chunks (no byte, an odd number, a second head, nearly a track's name), chunks past the file's end, names and
+//!   lengths cut off, empty tracks, bytes behind the end of track: song_cases (chunks_in_front, chunks_past_the_end,
+//!   chunks_cut_off, names_of_chunks, lengths_of_tracks, behind_the_track)
+//! - quantities of one to five bytes and cut off, as delta times and as lengths: track_cases (delta_times,
+//!   delta_times_cut_off, lengths_in_events)
+//! - every kind of channel event with and without running status, data bytes at 80 hex in each place and missing:
+//!   track_cases (channel_events, data_bytes, data_bytes_missing); F1 to F6 and F8 to FE: statuses_of_no_event
+//! - running status over nothing, and over meta and system exclusive events: track_cases (running_status,
+//!   running_status_ended)
+//! - every meta type, 80 hex and above too, every byte in F0 and F7, the end of track early, late, missing and with bytes
+//!   of its own: track_cases (meta_types, exclusive_bytes, ends_of_track)
+//! - tempos from 0 to 16,777,215, of 0 to 200 bytes, and several at one tick: song_time_cases (tempos, lengths_of_tempos,
+//!   tempos_at_one_tick)
+//! - frames at the edge of rounding: song_time_cases (edges_of_frames, rounding_is_not_carried)
+//! - U at its limit, one below and one above, by delta and by tempo, for every kind of event: song_time_cases (limits,
+//!   far_past_the_limit, at_the_limit_for_long)
+//! - each fault of a track alone, and with each other behind it; 9 before 11 at one place; a song cut off at every byte:
+//!   song_fault_cases
+//! - songs from fixed seeds, whole and damaged: song_chance, over song_damage
+//! - inputs that are themselves damaged: song_streams
 
 mod admission;
 mod bad_cases;
@@ -47,34 +74,56 @@ mod number_lines;
 mod numbers_of_table;
 mod proof_examples;
 pub mod script;
+pub mod song_builder;
+mod song_cases;
+pub mod song_chance;
+pub mod song_damage;
+mod song_fault_cases;
+pub mod song_streams;
+mod song_time_cases;
 mod strike_cases;
+mod track_cases;
 mod value_cases;
 mod voice_cases;
 
-use crate::case;
+use crate::{case, songs};
 use script::Script;
 use std::fs;
 use std::io;
 use std::path::Path;
 
-/// Writes drive/, numbers/ and the examples of promises/ and voice/ into the directory.
+/// Writes drive/, songs/, numbers/ and the examples of promises/ and voice/ into the directory.
 pub fn write_all(directory: &Path) -> io::Result<()> {
     let script = all_cases();
-    write_case(&directory.join("drive"), "stdin", "stdout", &script.bytes)?;
-    for (name, bytes) in bad_cases::all() {
-        let [case, trace] = ["case", "trace"].map(|end| format!("{name}.{end}"));
-        write_case(&directory.join("drive/bad"), &case, &trace, &bytes)?;
-    }
+    write_program(&directory.join("drive"), |case, trace| case::play(case, trace), &script.bytes, bad_cases::all())?;
+    write_program(
+        &directory.join("songs"),
+        |files, lines| songs::play(files, lines),
+        &song_streams::stream(),
+        song_streams::damaged(),
+    )?;
     let numbers = number_lines::lines();
     write_file(&directory.join("numbers/stdout"), numbers.as_bytes())?;
     write_file(&directory.join("promises/proofs/Runs.antt"), proof_examples::runs().as_bytes())?;
     write_file(&directory.join("voice/proofs/Examples.antt"), proof_examples::examples().as_bytes())
 }
 
-/// A case and the trace that playing it gives.
-fn write_case(directory: &Path, case: &str, trace: &str, bytes: &[u8]) -> io::Result<()> {
+/// What reads a program's input and writes its output.
+type Play = fn(&[u8], &mut Vec<u8>) -> io::Result<()>;
+
+/// A program's cases with what playing them gives: its input, and the damaged ones each by itself.
+fn write_program(directory: &Path, play: Play, stdin: &[u8], damaged: Vec<(String, Vec<u8>)>) -> io::Result<()> {
+    write_case(directory, play, "stdin", "stdout", stdin)?;
+    for (name, bytes) in damaged {
+        let [case, trace] = ["case", "trace"].map(|end| format!("{name}.{end}"));
+        write_case(&directory.join("bad"), play, &case, &trace, &bytes)?;
+    }
+    Ok(())
+}
+
+fn write_case(directory: &Path, play: Play, case: &str, trace: &str, bytes: &[u8]) -> io::Result<()> {
     let mut played = Vec::new();
-    case::play(bytes, &mut played)?;
+    play(bytes, &mut played)?;
     write_file(&directory.join(case), bytes)?;
     write_file(&directory.join(trace), &played)
 }

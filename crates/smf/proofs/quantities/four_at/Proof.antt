@@ -1,0 +1,25 @@
+-- `four_at` meets its contract.
+use Rattle.smf.specs.Quantities.{fourAt}
+use borrow.Author.Needs.{needs}
+use Rattle.smf.proofs.quantities.four_at.Statement.{statement}
+use Rattle.smf.proofs.quantities.four_at.Tie as tie
+
+two-at-requires : tie.Need-two-at-requires
+two-at-requires c κs = search needs
+
+add-two-at : tie.Need-add-two-at
+add-two-at c = search needs
+
+two-at-requires-2 : tie.Need-two-at-requires-2
+two-at-requires-2 c κs = search needs
+
+quad-requires : tie.Need-quad-requires
+quad-requires c κs = search needs
+
+returns : tie.Need-returns
+unfolding fourAt
+returns c = search needs
+
+pub four-at-spec : {M : Type 1} → statement M
+four-at-spec =
+    tie.close (tie.spec two-at-requires add-two-at two-at-requires-2 quad-requires returns)

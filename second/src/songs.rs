@@ -1,0 +1,50 @@
+//! Songs: MIDI files one behind the other, each a length and its bytes, and the lines for each of them.
+
+use crate::case::{end_run, Commands, Stop};
+use crate::midi_file;
+use std::io::{self, Read, Write};
+
+/// The longest file that there is room for.
+pub const FILE_ROOM: u32 = 66_000;
+
+/// Writes the lines of each file. One that is cut off, or longer than there is room for, ends the run with `bad`.
+pub fn play(input: impl Read, mut output: impl Write) -> io::Result<()> {
+    let mut commands = Commands { input };
+    let stop = loop {
+        match next_file(&mut commands) {
+            Ok(None) => break None,
+            Ok(Some(file)) => output.write_all(lines(&file).as_bytes())?,
+            Err(stop) => break Some(stop),
+        }
+    };
+    end_run(stop, output)
+}
+
+/// The next file, nothing at the end of the input. The length's first byte is where the input may end.
+fn next_file<R: Read>(commands: &mut Commands<R>) -> Result<Option<Vec<u8>>, Stop> {
+    let Some(low) = commands.letter()? else { return Ok(None) };
+    let length = u32::from_le_bytes([low, commands.byte()?, commands.byte()?, commands.byte()?]);
+    if length > FILE_ROOM {
+        return Err(Stop::Bad);
+    }
+    commands.bytes(length as usize).map(Some)
+}
+
+/// The number and place of a refusal; else the channel events, each with its frame, and how many there were.
+pub fn lines(file: &[u8]) -> String {
+    let struck = match midi_file::read(file) {
+        Err(fault) => return format!("{} {}\n", fault.number, fault.place),
+        Ok(struck) => struck,
+    };
+    let mut text = String::new();
+    for (frame, bytes) in &struck {
+        let bytes: Vec<String> = bytes.iter().map(|byte| format!("{byte:02x}")).collect();
+        text += &format!("{frame} {}\n", bytes.join(" "));
+    }
+    text + &format!("0 {}\n", struck.len())
+}
+
+/// A file as it stands in the input, behind its length.
+pub fn with_length(file: &[u8]) -> Vec<u8> {
+    [&(file.len() as u32).to_le_bytes(), file].concat()
+}
