@@ -26,11 +26,11 @@ use Rattle.smf.specs.Track.{Song, edgeOf, isBad, moved, eventOf, done, o
 use Rattle.smf.specs.Track.Song.{Refused, Events}
 use Rattle.smf.specs.Songs.{startAt, turns, eventsOf}
 use Rattle.smf.specs.Behind.{behindEnd, behindMet, endFrom, endOfTrack, chunkOfTrack, SameBelow, BehindChangesNothing, TailChangesNothing}
-use Rattle.smf.proofs.HeadLaws.{Named, Held, Formatted, Single, end-after, head-good}
+use Rattle.smf.proofs.HeadLaws.{Named, Held, Single, end-after, head-good}
 use Rattle.smf.proofs.MeetingLaws.{meet-bad, meet-good}
 use Rattle.smf.proofs.QuantitiesLaws.{bad-good, from-behind, quantity-behind}
 use Rattle.smf.proofs.ItemsLaws.{either, neither, Placed, item-placed}
-use Rattle.smf.proofs.TrackLaws.{Further, meet-passed, meet-given, song-enough}
+use Rattle.smf.proofs.TrackLaws.{meet-passed, meet-given, song-enough}
 
 -- ---- 1. Tests
 

@@ -7,7 +7,7 @@ use Prim.Native.Nat.{ℕ, zero, suc, _+_, _*_, _-_, _/_, _%_, _<_, _≤_}
 use native.Mathlib.Numerals.{add-one}
 use native.Mathlib.Nat.{not-suc-le-zero, le-of-suc-le-suc, div-div-eq-div-mul}
 use native.Mathlib.Omega.{arith}
-use lib.Dec.{ltb, leb, eqb}
+use lib.Dec.{ltb, eqb}
 use lib.ListN.{length, drop, getD, length-drop, length-append}
 use lib.Seq.{drop-cons, drop-drop, drop-append-seam}
 use borrow.Author.Tests.{ltb-true, ltb-false, eqb-true, lt-ltb, le-ltb, le-leb, lt-leb, ne-eqb}
@@ -18,9 +18,8 @@ use Rattle.smf.specs.declared.Event.{Event}
 use Rattle.smf.specs.declared.Header.{Header}
 use Rattle.smf.specs.declared.Item.{Item}
 use Rattle.smf.specs.declared.Met.{Met}
-use Rattle.smf.specs.declared.Quantity.{Quantity}
 use Rattle.smf.specs.declared.Quantity.the-variants.{Good}
-use Rattle.smf.specs.Quantities.{twoAt, threeAt, fourAt, quantityFrom, quantityAt}
+use Rattle.smf.specs.Quantities.{twoAt, threeAt, fourAt, quantityAt}
 use Rattle.smf.specs.Head.{chunkEnd, trackFrom, headOf}
 use Rattle.smf.specs.Items.{isChannel, isShort, shortAt, longAt, channelAt, exclusiveAt, metaOf, metaAt, itemAt}
 use Rattle.smf.specs.Ticks.{sumAfter, isLate, frameAt}

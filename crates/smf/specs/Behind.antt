@@ -6,15 +6,12 @@ use lib.ListN.{length}
 use Rattle.arith.specs.Bytes.{u8At}
 use Rattle.smf.specs.declared.Cursor.{Cursor}
 use Rattle.smf.specs.declared.Event.{Event}
-use Rattle.smf.specs.declared.Header.{Header}
 use Rattle.smf.specs.declared.Header.the-variants.{Refused, Track}
-use Rattle.smf.specs.declared.Met.{Met}
 use Rattle.smf.specs.declared.Met.the-variants.{Fault, End, Passed, Given}
-use Rattle.smf.specs.declared.Quantity.{Quantity}
 use Rattle.smf.specs.declared.Quantity.the-variants.{Bad, Good}
 use Rattle.smf.specs.Quantities.{quantityAt}
 use Rattle.smf.specs.Head.{headOf}
-use Rattle.smf.specs.Track.{Song, edgeOf, meetAt}
+use Rattle.smf.specs.Track.{edgeOf, meetAt}
 use Rattle.smf.specs.Track.Song.{Events}
 use Rattle.smf.specs.Songs.{eventsOf, startAt, turns}
 

@@ -9,7 +9,6 @@ use lib.ListN.{length}
 use Rattle.arith.specs.Holds.{between}
 use Rattle.smf.specs.declared.Event.{Event}
 use Rattle.smf.specs.Ticks.{isLate, frameAt}
-use Rattle.smf.specs.Track.{Song}
 use Rattle.smf.specs.Track.Song.{Events}
 use Rattle.smf.specs.Songs.{eventsOf, testOf}
 
