@@ -25,12 +25,14 @@ use Rattle.smf.specs.Ticks.{sumAfter, isLate, frameAt}
 use Rattle.smf.specs.Track.{Song, edgeOf, isBad, moved, eventOf, done, obeyed, meetAt, behindEvent, songFrom}
 use Rattle.smf.specs.Track.Song.{Refused, Events}
 use Rattle.smf.specs.Songs.{startAt, turns, eventsOf}
-use Rattle.smf.specs.Behind.{behindEnd, behindMet, endFrom, endOfTrack, chunkOfTrack, SameBelow, BehindChangesNothing, TailChangesNothing}
+use Rattle.smf.specs.Reading.{entry}
+use Rattle.smf.specs.Behind.{behindEnd, behindMet, endFrom, endOfTrack, chunkOfTrack, SameBelow, BehindChangesNothing, TailChangesNothing, BehindReadsTheSame}
 use Rattle.smf.proofs.HeadLaws.{Named, Held, Single, end-after, head-good}
 use Rattle.smf.proofs.MeetingLaws.{meet-bad, meet-good}
 use Rattle.smf.proofs.QuantitiesLaws.{bad-good, from-behind, quantity-behind}
 use Rattle.smf.proofs.ItemsLaws.{either, neither, Placed, item-placed}
 use Rattle.smf.proofs.TrackLaws.{meet-passed, meet-given, song-enough}
+use Rattle.smf.proofs.ReadingLaws.{reads-all}
 
 -- ---- 1. Tests
 
@@ -591,6 +593,11 @@ front-same front tail other place h i l =
 pub tail-changes-nothing : TailChangesNothing
 tail-changes-nothing front tail other es e h k l =
     behind-changes-nothing (front ++ tail) (front ++ other) es e (front-same front tail other (endOfTrack (front ++ tail)) h) k l
+
+-- a reader hands out the same
+pub behind-reads-the-same : BehindReadsTheSame
+behind-reads-the-same b other es e s h k i =
+    reads-all other i ∙ ap (λ (x : Song). entry x i) (behind-changes-nothing b other es e s h k ∙ sym e) ∙ sym (reads-all b i)
 
 -- ---- 9. A file of which this speaks
 

@@ -26,10 +26,12 @@ use Rattle.smf.specs.Ticks.{sumAfter, isLate, frameAt}
 use Rattle.smf.specs.Track.{Song, edgeOf, isBad, moved, eventOf, done, obeyed, meetAt, behindEvent, songFrom}
 use Rattle.smf.specs.Track.Song.{Refused, Events}
 use Rattle.smf.specs.Songs.{startAt, turns, eventsOf, verdict, testOf}
-use Rattle.smf.specs.Spelling.{Mark, Score, hasOne, GoodMark, GoodMarks, GoodScore, ticksOf, tempoBehind, sounding, playedFrom, inTimeFrom, played, inTime, twoBytes, threeBytes, fourBytes, quantityBytes, statusBytes, dataBytes, eventBytes, runningBehind, trackBytes, trackOf, fileBytes, AllBytes, WrittenInBytes, WrittenIsPlayed, WrittenTooLate, RunningIsSpelling}
+use Rattle.smf.specs.Reading.{entry}
+use Rattle.smf.specs.Spelling.{Mark, Score, hasOne, GoodMark, GoodMarks, GoodScore, ticksOf, tempoBehind, sounding, playedFrom, inTimeFrom, played, inTime, twoBytes, threeBytes, fourBytes, quantityBytes, statusBytes, dataBytes, eventBytes, runningBehind, trackBytes, trackOf, fileBytes, AllBytes, WrittenInBytes, WrittenIsPlayed, WrittenTooLate, RunningIsSpelling, RunningReadsTheSame}
 use Rattle.smf.proofs.QuantitiesLaws.{from-last, from-more}
 use Rattle.smf.proofs.MeetingLaws.{meet-good}
 use Rattle.smf.proofs.HeadLaws.{track-found, track-turn, head-good}
+use Rattle.smf.proofs.ReadingLaws.{reads-all}
 use Rattle.smf.proofs.BehindLaws.{songBy, song-is, single-head, events-is}
 
 -- ---- 1. Bytes one after the other
@@ -596,6 +598,18 @@ running-is-spelling one other s g short short2 = go (inTime s) refl
         let x = written-too-late one s g short t in
         let y = written-too-late other s g short2 t in
         (λ es e. let z : _≡_ {A = ℕ} 11 0 = sym x ∙ ap (λ (q : Song). verdict q .number) e in absurd (omega arith), x ∙ sym y)
+
+-- two songs of which the same is told have the same entries
+told-entry : (t : Bool) (es : List Event) (x y : Song) → Told t es x → Told t es y → (k : ℕ) → entry x k ≡ entry y k
+told-entry true es x y h g k = ap (λ (z : Song). entry z k) (h ∙ sym g)
+told-entry false es x y h g k = ap (λ (z : Song). entry z k) (h .1) ∙ sym (ap (λ (z : Song). entry z k) (g .1))
+
+-- a reader hands out the same
+pub running-reads-the-same : RunningReadsTheSame
+running-reads-the-same one other s g short short2 k =
+    reads-all (fileBytes one s) k
+    ∙ told-entry (inTime s) (played s) (eventsOf (fileBytes one s)) (eventsOf (fileBytes other s)) (written-told one s g short) (written-told other s g short2) k
+    ∙ sym (reads-all (fileBytes other s) k)
 
 -- ---- 6. Bytes
 

@@ -14,6 +14,7 @@ use Rattle.smf.specs.Head.{headOf}
 use Rattle.smf.specs.Track.{edgeOf, meetAt}
 use Rattle.smf.specs.Track.Song.{Events}
 use Rattle.smf.specs.Songs.{eventsOf, startAt, turns}
+use Rattle.smf.specs.Reading.{offered}
 
 -- behind the end of track event at a place: FF, 2F, its length, and so many bytes
 unfoldable pub behindEnd : List ℕ → ℕ → ℕ → ℕ
@@ -58,3 +59,9 @@ abbrev pub TailChangesNothing : Type 0
 TailChangesNothing =
     (front tail other : List ℕ) (es : List Event) → eventsOf (front ++ tail) ≡ Events es → endOfTrack (front ++ tail) ≤ length front
     → chunkOfTrack (front ++ tail) ≤ length (front ++ other) → length (front ++ other) ≤ 65536 → eventsOf (front ++ other) ≡ Events es
+
+-- and a reader hands out the same, next by next
+abbrev pub BehindReadsTheSame : Type 0
+BehindReadsTheSame =
+    (b other : List ℕ) (es : List Event) → eventsOf b ≡ Events es → SameBelow b other (endOfTrack b) → chunkOfTrack b ≤ length other → length other ≤ 65536
+    → (k : ℕ) → offered other k ≡ offered b k

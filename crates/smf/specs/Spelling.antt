@@ -11,6 +11,7 @@ use Rattle.smf.specs.declared.Event.{Event}
 use Rattle.smf.specs.Ticks.{isLate, frameAt}
 use Rattle.smf.specs.Track.Song.{Events}
 use Rattle.smf.specs.Songs.{eventsOf, testOf}
+use Rattle.smf.specs.Reading.{offered}
 
 -- ---- 1. A score
 
@@ -187,3 +188,9 @@ RunningIsSpelling =
     (one other : ℕ → Bool) (s : Score) → GoodScore s → length (fileBytes one s) ≤ 65536 → length (fileBytes other s) ≤ 65536
     → ((es : List Event) → eventsOf (fileBytes one s) ≡ Events es → eventsOf (fileBytes other s) ≡ Events es)
     × (testOf (fileBytes one s) .number ≡ testOf (fileBytes other s) .number)
+
+-- and a reader hands out the same, next by next
+abbrev pub RunningReadsTheSame : Type 0
+RunningReadsTheSame =
+    (one other : ℕ → Bool) (s : Score) → GoodScore s → length (fileBytes one s) ≤ 65536 → length (fileBytes other s) ≤ 65536
+    → (k : ℕ) → offered (fileBytes one s) k ≡ offered (fileBytes other s) k
