@@ -20,18 +20,18 @@ use Rattle.smf.specs.declared.Quantity.{Quantity}
 use Rattle.smf.specs.declared.Quantity.the-variants.{Good}
 use Rattle.smf.specs.Quantities.{twoAt, threeAt, fourAt, quantityFrom, quantityAt}
 use Rattle.smf.specs.Head.{chunkEnd, trackFrom, headOf}
-use Rattle.smf.specs.Items.{isChannel, isShort, shortAt, longAt, channelAt, exclusiveAt, metaOf, metaAt, itemAt}
+use Rattle.smf.specs.Items.{isChannel, isShort, shortAt, longAt, channelAt, exclusiveAt, metaOf, metaAt, isExclusive, itemAt}
 use Rattle.smf.specs.Ticks.{sumAfter, isLate, frameAt}
 use Rattle.smf.specs.Track.{Song, edgeOf, isBad, moved, eventOf, done, obeyed, meetAt, behindEvent, songFrom}
 use Rattle.smf.specs.Track.Song.{Refused, Events}
 use Rattle.smf.specs.Songs.{startAt, turns, eventsOf}
 use Rattle.smf.specs.Reading.{entry}
-use Rattle.smf.specs.Behind.{behindEnd, behindMet, endFrom, endOfTrack, chunkOfTrack, SameBelow, BehindChangesNothing, TailChangesNothing, BehindReadsTheSame}
+use Rattle.smf.specs.Behind.{behindEnd, behindMet, endFrom, endOfTrack, chunkOfTrack, EndsInChunk, SameBelow, BehindChangesNothing, TailChangesNothing, BehindReadsTheSame}
 use Rattle.smf.proofs.HeadLaws.{Named, Held, Single, end-after, head-good}
 use Rattle.smf.proofs.MeetingLaws.{meet-bad, meet-good}
 use Rattle.smf.proofs.QuantitiesLaws.{bad-good, from-behind, quantity-behind}
 use Rattle.smf.proofs.ItemsLaws.{either, neither, Placed, item-placed}
-use Rattle.smf.proofs.TrackLaws.{meet-passed, meet-given, song-enough}
+use Rattle.smf.proofs.TrackLaws.{meet-passed, meet-given, further-edge, song-enough}
 use Rattle.smf.proofs.ReadingLaws.{reads-all}
 
 -- ---- 1. Tests
@@ -229,12 +229,12 @@ module _ (b other : List ℕ) (edge end : ℕ) where
 
 module _ (b : List ℕ) (edge at : ℕ) where
   -- behind the bytes of an end of track
-  behind-end : (n p : ℕ) → quantityAt b edge (at + 1 + 1) ≡ Good n p → p + n ≤ behindEnd b edge at
+  end-behind : (n p : ℕ) → quantityAt b edge (at + 1 + 1) ≡ Good n p → behindEnd b edge at ≡ p + n
   unfolding behindEnd
-  behind-end n p e =
+  end-behind n p e =
       let z : at + 1 + 1 ≡ at + 2 = omega arith in
       let f : quantityAt b edge (at + 2) ≡ Good n p = subst (λ (q : ℕ). quantityAt b edge q ≡ Good n p) z e in
-      le-of-eq (sym (ap (λ (q : Quantity). elim q as (λ x. ℕ) [ Quantity.Bad ↦ at + 2 | Good n p ↦ p + n ]) f))
+      ap (λ (q : Quantity). elim q as (λ x. ℕ) [ Quantity.Bad ↦ at + 2 | Good n p ↦ p + n ]) f
 
   -- an end of track ends behind its place
   end-ahead : at < behindEnd b edge at
@@ -310,7 +310,7 @@ meet-same b other c f n s = go (quantityAt b (edgeOf b c) (c .at)) refl
         let low : SameBelow b other (reach x end) = subst (λ (p : ℕ). SameBelow b other p) (ap₂ reachMet whole (behind-is b c ticks place e) ∙ o .1) s in
         let past = reach-ahead edge place end x (item-placed b edge (c .running) place) (o .0) (end-ahead b edge place) in
         let q : quantityAt other edge (c .at) ≡ Good ticks place = quantity-at-same b other edge (c .at) ticks place e (same-le b other place (reach x end) low (omega (arith, past))) in
-        let i = item-same b other edge end (c .running) place (end-ahead b edge place) (behind-end b edge place) (o .0) low in
+        let i = item-same b other edge end (c .running) place (end-ahead b edge place) (λ n p f. le-of-eq (sym (end-behind b edge place n p f))) (o .0) low in
         meet-good other c ticks place (subst (λ (e : ℕ). quantityAt other e (c .at) ≡ Good ticks place) (sym f) q)
         ∙ ap (λ (e : ℕ). obeyed (itemAt other e (c .running) place) c (sumAfter c ticks) place) f
         ∙ ap (λ (y : Item). obeyed y c (sumAfter c ticks) place) i
@@ -599,7 +599,119 @@ pub behind-reads-the-same : BehindReadsTheSame
 behind-reads-the-same b other es e s h k i =
     reads-all other i ∙ ap (λ (x : Song). entry x i) (behind-changes-nothing b other es e s h k ∙ sym e) ∙ sym (reads-all b i)
 
--- ---- 9. A file of which this speaks
+-- ---- 9. The end of track lies in the track
+
+-- an end of track
+abbrev isEnd : Item → Bool
+isEnd Item.Bad = false
+isEnd Item.End = true
+isEnd (Item.Passed behind) = false
+isEnd (Item.Tempo tempo behind) = false
+isEnd (Item.Channel status first second behind) = false
+
+module _ (b : List ℕ) (edge end : ℕ) where
+  -- where an event is an end of track, it ends in front of the edge
+  abbrev Ends : Item → Type 0
+  Ends x = isEnd x ≡ true → end ≤ edge
+
+  -- others are not meant
+  not-end : (x : Item) → isEnd x ≡ false → Ends x
+  not-end x e f = absurd (true≢false (sym f ∙ e))
+
+  -- a channel event is none
+  channel-ends : (status at : ℕ) → Ends (channelAt b edge status at)
+  unfolding channelAt shortAt longAt
+  channel-ends status at =
+      either Ends (isShort status) _ _
+      (λ e. either Ends (ltb edge (at + 1) || ltb 127 (u8At b at)) _ _ (λ f. not-end Item.Bad refl) (λ f. not-end (Item.Channel status (u8At b at) 0 (at + 1)) refl))
+      (λ e. either Ends (ltb edge (at + 2) || ltb 127 (u8At b at) || ltb 127 (u8At b (at + 1))) _ _ (λ f. not-end Item.Bad refl) (λ f. not-end (Item.Channel status (u8At b at) (u8At b (at + 1)) (at + 2)) refl))
+
+  -- nor is a system exclusive event
+  exclusive-ends : (at : ℕ) → Ends (exclusiveAt b edge at)
+  unfolding exclusiveAt
+  exclusive-ends at = go (quantityAt b edge at)
+    where
+      go : (q : Quantity) → Ends (exclusiveBy edge q)
+      go Quantity.Bad = not-end Item.Bad refl
+      go (Good n p) = either Ends (ltb edge (p + n)) _ _ (λ f. not-end Item.Bad refl) (λ f. not-end (Item.Passed (p + n)) refl)
+
+  -- a meta event lies in front of the edge
+  meta-ends : (at : ℕ) → ((n p : ℕ) → quantityAt b edge (at + 1) ≡ Good n p → end ≡ p + n) → Ends (metaAt b edge at)
+  unfolding metaAt
+  meta-ends at ends = go (quantityAt b edge (at + 1)) refl
+    where
+      go : (q : Quantity) → quantityAt b edge (at + 1) ≡ q → Ends (metaBy b edge (u8At b at) q)
+      go Quantity.Bad e = not-end Item.Bad refl
+      go (Good n p) e =
+          either Ends (ltb 127 (u8At b at) || ltb edge (p + n)) _ _ (λ f. not-end Item.Bad refl)
+          (λ f z. omega (arith, ends n p e, ltb-false edge (p + n) (neither (ltb 127 (u8At b at)) (ltb edge (p + n)) f .1)))
+
+  -- so does an event that is an end of track
+  item-ends : (running at : ℕ) → ((n p : ℕ) → quantityAt b edge (at + 1 + 1) ≡ Good n p → end ≡ p + n) → Ends (itemAt b edge running at)
+  unfolding itemAt
+  item-ends running at ends =
+      let bad = not-end Item.Bad refl in
+      let x = u8At b at in
+      either Ends (leb edge at) _ _ (λ e. bad)
+      (λ e.
+      either Ends (ltb x 128) _ _ (λ f. either Ends (isChannel running) _ _ (λ g. channel-ends running at) (λ g. bad))
+      (λ f.
+      either Ends (ltb x 240) _ _ (λ g. channel-ends x (at + 1))
+      (λ g. either Ends (eqb x 255) _ _ (λ h. meta-ends (at + 1) ends) (λ h. either Ends (isExclusive x) _ _ (λ i. exclusive-ends (at + 1)) (λ i. bad)))))
+
+-- what is met, where it is no end
+unended : (t : Bool) (place : ℕ) (m : Met) → (m ≡ Met.End → ⊥) → cond t (Met.Fault 11 place) m ≡ Met.End → ⊥
+unended true place m h e = let z : _≡_ {A = ℕ} 0 1 = cc in omega arith
+unended false place m h e = h e
+
+-- an event that ends the track is an end of track
+obeyed-end : (x : Item) (c : Cursor) (sum place : ℕ) → obeyed x c sum place ≡ Met.End → isEnd x ≡ true
+unfolding obeyed done
+obeyed-end Item.Bad c sum place e = let z : _≡_ {A = ℕ} 0 1 = cc in absurd (omega arith)
+obeyed-end Item.End c sum place e = refl
+obeyed-end (Item.Passed behind) c sum place e = absurd (unended (isLate (c .division) sum) place _ (λ f. let z : _≡_ {A = ℕ} 0 1 = cc in omega arith) e)
+obeyed-end (Item.Tempo tempo behind) c sum place e = absurd (unended (isLate (c .division) sum) place _ (λ f. let z : _≡_ {A = ℕ} 0 1 = cc in omega arith) e)
+obeyed-end (Item.Channel status first second behind) c sum place e = absurd (unended (isLate (c .division) sum) place _ (λ f. let z : _≡_ {A = ℕ} 0 1 = cc in omega arith) e)
+
+-- an end of track that is met lies in front of the edge
+met-ends : (b : List ℕ) (c : Cursor) → meetAt b c ≡ Met.End → behindMet b c ≤ edgeOf b c
+met-ends b c e = go (quantityAt b (edgeOf b c) (c .at)) refl
+  where
+    go : (q : Quantity) → quantityAt b (edgeOf b c) (c .at) ≡ q → behindMet b c ≤ edgeOf b c
+    go Quantity.Bad f = let w : Met.Fault 9 (c .at) ≡ Met.End = sym (meet-bad b c f) ∙ e in let z : _≡_ {A = ℕ} 0 1 = cc in absurd (omega arith)
+    go (Good ticks place) f =
+        let edge = edgeOf b c in
+        let x = itemAt b edge (c .running) place in
+        let is = obeyed-end x c (sumAfter c ticks) place (sym (meet-good b c ticks place f) ∙ e) in
+        rw (behind-is b c ticks place f) (item-ends b edge (behindEnd b edge place) (c .running) place (end-behind b edge place) is)
+
+-- so does that of a song
+song-ends : (n : ℕ) (b : List ℕ) (c : Cursor) → refuses (songFrom n b c) ≡ false → endFrom n b c ≤ edgeOf b c
+song-ends zero b c r = unfold songFrom in absurd (true≢false r)
+song-ends (suc n) b c r = go (λ f. song-ends n b f) (meetAt b c) refl
+  where
+    go : ((f : Cursor) → refuses (songFrom n b f) ≡ false → endFrom n b f ≤ edgeOf b f) → (m : Met) → meetAt b c ≡ m → endFrom (suc n) b c ≤ edgeOf b c
+    go more (Met.Fault number place) e = absurd (true≢false (subst (λ (x : Song). refuses x ≡ false) (song-is n b c (Met.Fault number place) e) r))
+    go more Met.End e = rw (end-is n b c Met.End e) (met-ends b c e)
+    go more (Met.Passed further) e =
+        let edge = further-edge b c further (meet-passed b c further e) in
+        let fine = subst (λ (x : Song). refuses x ≡ false) (song-is n b c (Met.Passed further) e) r in
+        rw (end-is n b c (Met.Passed further) e) (omega (arith, more further fine))
+    go more (Met.Given message further) e =
+        let edge = further-edge b c further (meet-given b c message further e .0) in
+        let fine = subst (λ (x : Song). refuses x ≡ false) (song-is n b c (Met.Given message further) e) r in
+        rw (end-is n b c (Met.Given message further) e) (omega (arith, more further (sym (refuses-behind (eventOf message further) (songFrom n b further)) ∙ fine)))
+
+-- the end of track lies in the track's chunk
+pub ends-in-chunk : EndsInChunk
+ends-in-chunk b es e =
+    let o = opened b es e in
+    let c = startAt b (o .at) (o .end) in
+    let song : songFrom (turns b) b c ≡ Events es = sym (events-is b (o .at) (o .end) (o .short) (o .head)) ∙ e in
+    let inside = song-ends (turns b) b c (ap refuses song) in
+    rw (end-of-track-is b (o .at) (o .end) (o .head), chunk-of-track-is b (o .at) (o .end) (o .head)) (omega (arith, inside))
+
+-- ---- 10. A file of which this speaks
 
 -- one note, 480 ticks, and the end of track; its chunk has room for four bytes more
 abbrev front : List ℕ

@@ -43,6 +43,10 @@ endOfTrack b = elim (headOf b) [ Refused number place ↦ 0 | Track at end ↦ e
 unfoldable pub chunkOfTrack : List ℕ → ℕ
 chunkOfTrack b = elim (headOf b) [ Refused number place ↦ 0 | Track at end ↦ end ]
 
+-- the end of track lies in the track's chunk
+abbrev pub EndsInChunk : Type 0
+EndsInChunk = (b : List ℕ) (es : List Event) → eventsOf b ≡ Events es → endOfTrack b ≤ chunkOfTrack b
+
 -- another file has the same bytes in front of a place
 abbrev pub SameBelow : List ℕ → List ℕ → ℕ → Type 0
 SameBelow b other place = (i : ℕ) → i < place → u8At other i ≡ u8At b i
