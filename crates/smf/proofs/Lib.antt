@@ -7,3 +7,5 @@ pub mod TrackLaws
 pub mod SongsLaws
 pub mod FirstFaultLaws
 pub mod ReadingLaws
+pub mod BehindLaws
+pub mod SpellingLaws

@@ -6,4 +6,6 @@ pub mod Track
 pub mod Songs
 pub mod Faults
 pub mod Reading
+pub mod Behind
+pub mod Spelling
 pub mod Internal
