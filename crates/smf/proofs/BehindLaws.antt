@@ -20,10 +20,9 @@ use Rattle.smf.specs.declared.Quantity.{Quantity}
 use Rattle.smf.specs.declared.Quantity.the-variants.{Good}
 use Rattle.smf.specs.Quantities.{twoAt, threeAt, fourAt, quantityFrom, quantityAt}
 use Rattle.smf.specs.Head.{chunkEnd, trackFrom, headOf}
-use Rattle.smf.specs.Items.{isChannel, isShort, shortAt, longAt, channelAt, exclusiveAt, metaOf, metaAt, isExclusive, itemAt}
-use Rattle.smf.specs.Ticks.{sumAfter, isLate, frameAt}
-use Rattle.smf.specs.Track.{Song, edgeOf, isBad, moved, eventOf, done, obeyed, meetAt, behindEvent, songFrom}
-use Rattle.smf.specs.Track.Song.{Refused, Events}
+use Rattle.smf.specs.Items.{isChannel, isShort, shortAt, longAt, spokenAt, exclusiveAt, metaOf, metaAt, isExclusive, itemAt}
+use Rattle.smf.specs.Ticks.{sumAfter, isLate, frameOf}
+use Rattle.smf.specs.Track.{Song, Events, Refused, edgeOf, isBad, carried, eventOf, acted, obeyed, meetAt, behindEvent, songFrom}
 use Rattle.smf.specs.Songs.{startAt, turns, eventsOf}
 use Rattle.smf.specs.Reading.{entry}
 use Rattle.smf.specs.Behind.{behindEnd, behindMet, endFrom, endOfTrack, chunkOfTrack, EndsInChunk, SameBelow, BehindChangesNothing, TailChangesNothing, BehindReadsTheSame}
@@ -122,7 +121,7 @@ metaBy b edge kind q = elim q [ Quantity.Bad ↦ Item.Bad | Good n p ↦ cond (l
 -- an event by its first byte
 abbrev itemBy : List ℕ → ℕ → ℕ → ℕ → ℕ → Item
 itemBy b edge running at x =
-    cond (leb edge at) Item.Bad (cond (ltb x 128) (cond (isChannel running) (channelAt b edge running at) Item.Bad) (cond (ltb x 240) (channelAt b edge x (at + 1)) (cond (eqb x 255) (metaAt b edge (at + 1)) (cond (eqb x 240 || eqb x 247) (exclusiveAt b edge (at + 1)) Item.Bad))))
+    cond (leb edge at) Item.Bad (cond (ltb x 128) (cond (isChannel running) (spokenAt b edge running at) Item.Bad) (cond (ltb x 240) (spokenAt b edge x (at + 1)) (cond (eqb x 255) (metaAt b edge (at + 1)) (cond (eqb x 240 || eqb x 247) (exclusiveAt b edge (at + 1)) Item.Bad))))
 
 module _ (b other : List ℕ) (edge end : ℕ) where
   -- the other file has the same event
@@ -150,8 +149,8 @@ module _ (b other : List ℕ) (edge end : ℕ) where
       rw (s at (omega arith), s (at + 1) r) refl
 
   -- the same channel event
-  channel-same : (status at : ℕ) → Kept (channelAt b edge status at) (channelAt other edge status at)
-  unfolding channelAt
+  channel-same : (status at : ℕ) → Kept (spokenAt b edge status at) (spokenAt other edge status at)
+  unfolding spokenAt
   channel-same status at =
       both Kept (isShort status) (shortAt b edge status at) (longAt b edge status at) (shortAt other edge status at) (longAt other edge status at) (short-same status at) (long-same status at)
 
@@ -269,15 +268,15 @@ unfault false place x n = refl
 -- an event that is obeyed is no bad one, and leads behind itself
 obeyed-reach : (x : Item) (c : Cursor) (sum place end : ℕ) → isFault (obeyed x c sum place) ≡ false
     → (isBad x ≡ false) × (reachMet (obeyed x c sum place) end ≡ reach x end)
-unfolding obeyed done
+unfolding obeyed acted
 obeyed-reach Item.Bad c sum place end n = absurd (true≢false n)
 obeyed-reach Item.End c sum place end n = (refl, rw (unfault (isLate (c .division) sum) place Met.End n) refl)
 obeyed-reach (Item.Passed behind) c sum place end n =
-    (refl, rw (unfault (isLate (c .division) sum) place (Met.Passed (moved c sum behind 0 (c .tempo))) n) refl)
+    (refl, rw (unfault (isLate (c .division) sum) place (Met.Passed (carried c sum behind 0 (c .tempo))) n) refl)
 obeyed-reach (Item.Tempo tempo behind) c sum place end n =
-    (refl, rw (unfault (isLate (c .division) sum) place (Met.Passed (moved c sum behind 0 tempo)) n) refl)
+    (refl, rw (unfault (isLate (c .division) sum) place (Met.Passed (carried c sum behind 0 tempo)) n) refl)
 obeyed-reach (Item.Channel status first second behind) c sum place end n =
-    (refl, rw (unfault (isLate (c .division) sum) place (Met.Given (record { status = status; first = first; second = second }) (moved c sum behind status (c .tempo))) n) refl)
+    (refl, rw (unfault (isLate (c .division) sum) place (Met.Given (record { status = status; first = first; second = second }) (carried c sum behind status (c .tempo))) n) refl)
 
 module _ (b : List ℕ) (c : Cursor) where
   -- behind the end of track, by the delta time
@@ -619,8 +618,8 @@ module _ (b : List ℕ) (edge end : ℕ) where
   not-end x e f = absurd (true≢false (sym f ∙ e))
 
   -- a channel event is none
-  channel-ends : (status at : ℕ) → Ends (channelAt b edge status at)
-  unfolding channelAt shortAt longAt
+  channel-ends : (status at : ℕ) → Ends (spokenAt b edge status at)
+  unfolding spokenAt shortAt longAt
   channel-ends status at =
       either Ends (isShort status) _ _
       (λ e. either Ends (ltb edge (at + 1) || ltb 127 (u8At b at)) _ _ (λ f. not-end Item.Bad refl) (λ f. not-end (Item.Channel status (u8At b at) 0 (at + 1)) refl))
@@ -666,7 +665,7 @@ unended false place m h e = h e
 
 -- an event that ends the track is an end of track
 obeyed-end : (x : Item) (c : Cursor) (sum place : ℕ) → obeyed x c sum place ≡ Met.End → isEnd x ≡ true
-unfolding obeyed done
+unfolding obeyed acted
 obeyed-end Item.Bad c sum place e = let z : _≡_ {A = ℕ} 0 1 = cc in absurd (omega arith)
 obeyed-end Item.End c sum place e = refl
 obeyed-end (Item.Passed behind) c sum place e = absurd (unended (isLate (c .division) sum) place _ (λ f. let z : _≡_ {A = ℕ} 0 1 = cc in omega arith) e)
@@ -739,7 +738,7 @@ record Shown : Type 0 where
 
 -- so it is
 shown : Shown
-unfolding eventsOf headOf trackFrom chunkEnd fourAt twoAt threeAt u8At quantityFrom quantityAt itemAt metaAt metaOf channelAt shortAt longAt exclusiveAt between done obeyed meetAt songFrom frameAt behindEnd behindMet endFrom endOfTrack chunkOfTrack
+unfolding eventsOf headOf trackFrom chunkEnd fourAt twoAt threeAt u8At quantityFrom quantityAt itemAt metaAt metaOf spokenAt shortAt longAt exclusiveAt between acted obeyed meetAt songFrom frameOf behindEnd behindMet endFrom endOfTrack chunkOfTrack
 shown = record { events = refl; end = refl; chunk = refl }
 
 -- and so those of the other

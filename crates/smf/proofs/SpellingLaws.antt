@@ -21,13 +21,12 @@ use Rattle.smf.specs.declared.Met.{Met}
 use Rattle.smf.specs.declared.Quantity.the-variants.{Good}
 use Rattle.smf.specs.Quantities.{twoAt, threeAt, fourAt, quantityAt}
 use Rattle.smf.specs.Head.{chunkEnd, trackFrom, headOf}
-use Rattle.smf.specs.Items.{isChannel, isShort, shortAt, longAt, channelAt, exclusiveAt, metaOf, metaAt, itemAt}
-use Rattle.smf.specs.Ticks.{sumAfter, isLate, frameAt}
-use Rattle.smf.specs.Track.{Song, edgeOf, isBad, moved, eventOf, done, obeyed, meetAt, behindEvent, songFrom}
-use Rattle.smf.specs.Track.Song.{Refused, Events}
+use Rattle.smf.specs.Items.{isChannel, isShort, shortAt, longAt, spokenAt, exclusiveAt, metaOf, metaAt, itemAt}
+use Rattle.smf.specs.Ticks.{sumAfter, isLate, frameOf}
+use Rattle.smf.specs.Track.{Song, Events, Refused, edgeOf, isBad, carried, eventOf, acted, obeyed, meetAt, behindEvent, songFrom}
 use Rattle.smf.specs.Songs.{startAt, turns, eventsOf, verdict, testOf}
 use Rattle.smf.specs.Reading.{entry}
-use Rattle.smf.specs.Spelling.{Mark, Score, hasOne, GoodMark, GoodMarks, GoodScore, ticksOf, tempoBehind, sounding, playedFrom, inTimeFrom, played, inTime, twoBytes, threeBytes, fourBytes, quantityBytes, statusBytes, dataBytes, eventBytes, runningBehind, trackBytes, trackOf, fileBytes, AllBytes, WrittenInBytes, WrittenIsPlayed, WrittenTooLate, RunningIsSpelling, RunningReadsTheSame}
+use Rattle.smf.specs.Spelling.{Mark, Score, hasOne, GoodMark, GoodMarks, GoodScore, ticksOf, tempoBehind, ringing, rungFrom, inTimeFrom, rung, inTime, twoBytes, threeBytes, fourBytes, quantityBytes, statusBytes, dataBytes, eventBytes, runningBehind, trackBytes, trackOf, fileBytes, AllBytes, WrittenInBytes, WrittenIsRung, WrittenTooLate, RunningIsSpelling, RunningReadsTheSame}
 use Rattle.smf.proofs.QuantitiesLaws.{from-last, from-more}
 use Rattle.smf.proofs.MeetingLaws.{meet-good}
 use Rattle.smf.proofs.HeadLaws.{track-found, track-turn, head-good}
@@ -200,11 +199,11 @@ record Channel-read (b : List ℕ) (x : Item) (status first second : ℕ) (rest 
 module _ (b : List ℕ) (status first second : ℕ) (rest : List ℕ) (low : 128 ≤ status) (high : status ≤ 239) (small : first < 128) (small2 : second < 128) (short : isShort status ≡ true → second ≡ 0) where
   -- its data bytes, by how many there are
   data-read : (at : ℕ) → drop at b ≡ dataBytes status first second ++ rest
-      → (u8At b at ≡ first) × (at < length b) × Channel-read b (channelAt b (length b) status at) status first second rest
-  unfolding dataBytes channelAt shortAt longAt
+      → (u8At b at ≡ first) × (at < length b) × Channel-read b (spokenAt b (length b) status at) status first second rest
+  unfolding dataBytes spokenAt shortAt longAt
   data-read at e = go (isShort status) refl
     where
-      go : (t : Bool) → isShort status ≡ t → (u8At b at ≡ first) × (at < length b) × Channel-read b (channelAt b (length b) status at) status first second rest
+      go : (t : Bool) → isShort status ≡ t → (u8At b at ≡ first) × (at < length b) × Channel-read b (spokenAt b (length b) status at) status first second rest
       go true f =
           let x = next b at first rest (rw f at e) in
           let none = le-ltb (length b) (at + 1) (omega (arith, x .inside)) in
@@ -409,13 +408,13 @@ told-behind false e es x h = (h .0, ap (behindEvent e) (h .1))
 
 -- one event: it is past an hour, or the song goes on behind it
 step : (n : ℕ) (b : List ℕ) (c : Cursor) (x : Item) (sum place : ℕ) (t : Bool) (es : List Event) → isBad x ≡ false → meetAt b c ≡ obeyed x c sum place
-    → Told t es (songBy n b (done x c sum place)) → Told (not (isLate (c .division) sum) && t) es (songFrom (suc n) b c)
+    → Told t es (songBy n b (acted x c sum place)) → Told (not (isLate (c .division) sum) && t) es (songFrom (suc n) b c)
 unfolding obeyed
 step n b c x sum place t es good e h = go (isLate (c .division) sum) refl
   where
     go : (l : Bool) → isLate (c .division) sum ≡ l → Told (not l && t) es (songFrom (suc n) b c)
     go true f = (place, song-is n b c (Met.Fault 11 place) (e ∙ rw (good, f) refl))
-    go false f = subst (λ (y : Song). Told t es y) (sym (song-is n b c (done x c sum place) (e ∙ rw (good, f) refl))) h
+    go false f = subst (λ (y : Song). Told t es y) (sym (song-is n b c (acted x c sum place) (e ∙ rw (good, f) refl))) h
 
 -- what is met, by the delta time that is read
 met : (b : List ℕ) (c : Cursor) (ticks : ℕ) (rest : List ℕ) → c .end ≡ length b → (q : Quantity-read b (c .at) ticks rest)
@@ -427,11 +426,11 @@ met b c ticks rest whole q =
 
 -- what a mark does, in front of the song behind it
 mark-told : (n : ℕ) (b : List ℕ) (c : Cursor) (m : Mark) (sum from place : ℕ) (t : Bool) (es : List Event)
-    → Told t es (songFrom n b (moved c sum place (runningBehind m) (tempoBehind (c .tempo) m)))
-    → Told t (sounding (c .division) sum m es) (songBy n b (done (itemOf m place) c sum from))
-unfolding done
+    → Told t es (songFrom n b (carried c sum place (runningBehind m) (tempoBehind (c .tempo) m)))
+    → Told t (ringing (c .division) sum m es) (songBy n b (acted (itemOf m place) c sum from))
+unfolding acted
 mark-told n b c (Mark.Channel ticks status first second) sum from place t es h =
-    told-behind t (eventOf (record { status = status; first = first; second = second }) (moved c sum place status (c .tempo))) es (songFrom n b (moved c sum place status (c .tempo))) h
+    told-behind t (eventOf (record { status = status; first = first; second = second }) (carried c sum place status (c .tempo))) es (songFrom n b (carried c sum place status (c .tempo))) h
 mark-told n b c (Mark.Tempo ticks tempo) sum from place t es h = h
 mark-told n b c (Mark.Meta ticks kind bytes) sum from place t es h = h
 mark-told n b c (Mark.Exclusive ticks status bytes) sum from place t es h = h
@@ -480,8 +479,8 @@ marks-fit (m ∷ ms) omits k running last =
 -- the song of a track that is written from a score
 song-told : (ms : List Mark) (omits : ℕ → Bool) (k last n : ℕ) (b : List ℕ) (c : Cursor) → c .end ≡ length b → drop (c .at) b ≡ trackBytes omits k (c .running) ms last
     → GoodMarks ms → last < 268435456 → length ms < n
-    → Told (inTimeFrom (c .division) (c .tempo) (c .sum) ms last) (playedFrom (c .division) (c .tempo) (c .sum) ms) (songFrom n b c)
-unfolding trackBytes playedFrom inTimeFrom done
+    → Told (inTimeFrom (c .division) (c .tempo) (c .sum) ms last) (rungFrom (c .division) (c .tempo) (c .sum) ms) (songFrom n b c)
+unfolding trackBytes rungFrom inTimeFrom acted
 song-told [] omits k last zero b c whole e g l h = absurd (not-suc-le-zero h)
 song-told [] omits k last (suc n) b c whole e g l h =
     let q = read-quantity b (c .at) last (255 ∷ 47 ∷ 0 ∷ []) e l in
@@ -500,9 +499,9 @@ song-told (m ∷ ms) omits k last (suc n) b c whole e g l h =
     let r = mark-read b (omits k) (c .running) (q .place) m track (g .0) some (q .behind) in
     let x = met b c (ticksOf m) rest whole q ∙ ap (λ (i : Item). obeyed i c sum (q .place)) (r .reads) in
     let t = inTimeFrom (c .division) tempo sum ms last in
-    let es = playedFrom (c .division) tempo sum ms in
-    let more = song-told ms omits (suc k) last n b (moved c sum (r .place) (runningBehind m) tempo) whole (r .behind) (g .1) l (le-of-suc-le-suc h) in
-    step n b c (itemOf m (r .place)) sum (q .place) t (sounding (c .division) sum m es) (mark-good m (r .place)) x
+    let es = rungFrom (c .division) tempo sum ms in
+    let more = song-told ms omits (suc k) last n b (carried c sum (r .place) (runningBehind m) tempo) whole (r .behind) (g .1) l (le-of-suc-le-suc h) in
+    step n b c (itemOf m (r .place)) sum (q .place) t (ringing (c .division) sum m es) (mark-good m (r .place)) x
     (mark-told n b c m sum (q .place) (r .place) t es more)
 
 -- ---- 5. The file
@@ -559,7 +558,7 @@ written-head b s track g w =
     ∙ ap (Header.Track 22) whole
 
 -- the song of a written file
-written-told : (omits : ℕ → Bool) (s : Score) → GoodScore s → length (fileBytes omits s) ≤ 65536 → Told (inTime s) (played s) (eventsOf (fileBytes omits s))
+written-told : (omits : ℕ → Bool) (s : Score) → GoodScore s → length (fileBytes omits s) ≤ 65536 → Told (inTime s) (rung s) (eventsOf (fileBytes omits s))
 written-told omits s g short =
     let b = fileBytes omits s in
     let w = written omits s in
@@ -569,17 +568,17 @@ written-told omits s g short =
     let start : startAt b 22 (length b) ≡ c =
     ap (λ (d : ℕ). let x : Cursor = record { at = 22; end = length b; running = 0; division = d; tempo = 500000; sum = 0 } in x) (w .division) in
     let song = song-told (s .marks) omits 0 (s .last) (turns b) b c refl (w .behind) (g .marks) (g .last) (omega arith) in
-    subst (λ (x : Song). Told (inTime s) (played s) x) (sym (events-is b 22 (length b) short (written-head b s (trackOf omits s) g w) ∙ ap (songFrom (turns b) b) start)) song
+    subst (λ (x : Song). Told (inTime s) (rung s) x) (sym (events-is b 22 (length b) short (written-head b s (trackOf omits s) g w) ∙ ap (songFrom (turns b) b) start)) song
 
 -- in time: the file's events are the score's
-pub written-is-played : WrittenIsPlayed
-written-is-played omits s g short t = subst (λ (x : Bool). Told x (played s) (eventsOf (fileBytes omits s))) t (written-told omits s g short)
+pub written-is-rung : WrittenIsRung
+written-is-rung omits s g short t = subst (λ (x : Bool). Told x (rung s) (eventsOf (fileBytes omits s))) t (written-told omits s g short)
 
 -- not in time: 11
 pub written-too-late : WrittenTooLate
 unfolding testOf
 written-too-late omits s g short t =
-    let r : Told false (played s) (eventsOf (fileBytes omits s)) = subst (λ (x : Bool). Told x (played s) (eventsOf (fileBytes omits s))) t (written-told omits s g short) in
+    let r : Told false (rung s) (eventsOf (fileBytes omits s)) = subst (λ (x : Bool). Told x (rung s) (eventsOf (fileBytes omits s))) t (written-told omits s g short) in
     ap (λ (x : Song). verdict x .number) (r .1)
 
 -- running status is a matter of spelling
@@ -591,8 +590,8 @@ running-is-spelling one other s g short short2 = go (inTime s) refl
         → ((es : List Event) → eventsOf (fileBytes one s) ≡ Events es → eventsOf (fileBytes other s) ≡ Events es)
         × (testOf (fileBytes one s) .number ≡ testOf (fileBytes other s) .number)
     go true t =
-        let x = written-is-played one s g short t in
-        let y = written-is-played other s g short2 t in
+        let x = written-is-rung one s g short t in
+        let y = written-is-rung other s g short2 t in
         (λ es e. y ∙ sym x ∙ e, ap (λ (z : Song). verdict z .number) (x ∙ sym y))
     go false t =
         let x = written-too-late one s g short t in
@@ -608,7 +607,7 @@ told-entry false es x y h g k = ap (λ (z : Song). entry z k) (h .1) ∙ sym (ap
 pub running-reads-the-same : RunningReadsTheSame
 running-reads-the-same one other s g short short2 k =
     reads-all (fileBytes one s) k
-    ∙ told-entry (inTime s) (played s) (eventsOf (fileBytes one s)) (eventsOf (fileBytes other s)) (written-told one s g short) (written-told other s g short2) k
+    ∙ told-entry (inTime s) (rung s) (eventsOf (fileBytes one s)) (eventsOf (fileBytes other s)) (written-told one s g short) (written-told other s g short2) k
     ∙ sym (reads-all (fileBytes other s) k)
 
 -- ---- 6. Bytes
@@ -709,8 +708,8 @@ tune-good = record { low = omega arith; high = omega arith; marks = marks; last 
     marks = (omega arith, (strike 0 100 (omega arith), (strike 96 0 (omega arith), (omega arith, later))))
 
 -- its events
-abbrev rung : List Event
-rung =
+abbrev tune-events : List Event
+tune-events =
     record { frame = 0; status = 144; first = 60; second = 100 } ∷
     record { frame = 22050; status = 144; first = 60; second = 0 } ∷
     record { frame = 22050; status = 192; first = 5; second = 0 } ∷
@@ -721,25 +720,25 @@ record Tune-shown : Type 0 where
   written-out : length (fileBytes (λ k. false) tune) ≡ 65
   left-out : length (fileBytes (λ k. true) tune) ≡ 64
   in-time : inTime tune ≡ true
-  events : played tune ≡ rung
+  events : rung tune ≡ tune-events
 
 -- so it is
 tune-shown : Tune-shown
-unfolding fileBytes trackBytes eventBytes quantityBytes statusBytes dataBytes twoBytes threeBytes fourBytes between inTimeFrom playedFrom frameAt
+unfolding fileBytes trackBytes eventBytes quantityBytes statusBytes dataBytes twoBytes threeBytes fourBytes between inTimeFrom rungFrom frameOf
 tune-shown = record { written-out = refl; left-out = refl; in-time = refl; events = refl }
 
 -- its two files, and their events
 pub record Two-files : Type 0 where
-  pub written-out : eventsOf (fileBytes (λ k. false) tune) ≡ Events rung
-  pub left-out : eventsOf (fileBytes (λ k. true) tune) ≡ Events rung
+  pub written-out : eventsOf (fileBytes (λ k. false) tune) ≡ Events tune-events
+  pub left-out : eventsOf (fileBytes (λ k. true) tune) ≡ Events tune-events
 
 -- the one by the law of written files, the other by that of spelling
 pub two-files : Two-files
 two-files =
     let long : length (fileBytes (λ k. false) tune) ≤ 65536 = omega (arith, tune-shown .written-out) in
     let short : length (fileBytes (λ k. true) tune) ≤ 65536 = omega (arith, tune-shown .left-out) in
-    let x = written-is-played (λ k. false) tune tune-good long (tune-shown .in-time) ∙ ap Events (tune-shown .events) in
-    record { written-out = x; left-out = running-is-spelling (λ k. false) (λ k. true) tune tune-good long short .0 rung x }
+    let x = written-is-rung (λ k. false) tune tune-good long (tune-shown .in-time) ∙ ap Events (tune-shown .events) in
+    record { written-out = x; left-out = running-is-spelling (λ k. false) (λ k. true) tune tune-good long short .0 tune-events x }
 
 -- a score that goes on past an hour, by half a second
 abbrev slow : Score

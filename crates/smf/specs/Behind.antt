@@ -11,8 +11,7 @@ use Rattle.smf.specs.declared.Met.the-variants.{Fault, End, Passed, Give
 use Rattle.smf.specs.declared.Quantity.the-variants.{Bad, Good}
 use Rattle.smf.specs.Quantities.{quantityAt}
 use Rattle.smf.specs.Head.{headOf}
-use Rattle.smf.specs.Track.{edgeOf, meetAt}
-use Rattle.smf.specs.Track.Song.{Events}
+use Rattle.smf.specs.Track.{Events, edgeOf, meetAt}
 use Rattle.smf.specs.Songs.{eventsOf, startAt, turns}
 use Rattle.smf.specs.Reading.{offered}
 

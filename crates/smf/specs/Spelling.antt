@@ -1,4 +1,5 @@
 -- 02, M-101: files of format 0, written: a score as bytes, with running status and without. Both give the same events.
+use Rattle.smf.specs.Track.{Events}
 use mathlib.Core.Bool.{cond, Bool, true, false, not, _&&_}
 use mathlib.Core.List.{List, [], _∷_, _++_}
 use mathlib.Core.Logic.{_⊎_, _≢_}
@@ -8,8 +9,7 @@ use lib.Dec.{ltb, eqb}
 use lib.ListN.{length}
 use Rattle.arith.specs.Holds.{between}
 use Rattle.smf.specs.declared.Event.{Event}
-use Rattle.smf.specs.Ticks.{isLate, frameAt}
-use Rattle.smf.specs.Track.Song.{Events}
+use Rattle.smf.specs.Ticks.{isLate, frameOf}
 use Rattle.smf.specs.Songs.{eventsOf, testOf}
 use Rattle.smf.specs.Reading.{offered}
 
@@ -86,18 +86,18 @@ runningBehind (Meta ticks kind bytes) = 0
 runningBehind (Exclusive ticks status bytes) = 0
 
 -- a mark at which U is `sum`, in front of the events behind it
-abbrev pub sounding : ℕ → ℕ → Mark → List Event → List Event
-sounding division sum (Channel ticks status first second) es =
-    record { frame = frameAt division sum; status = status; first = first; second = second } ∷ es
-sounding division sum (Tempo ticks tempo) es = es
-sounding division sum (Meta ticks kind bytes) es = es
-sounding division sum (Exclusive ticks status bytes) es = es
+abbrev pub ringing : ℕ → ℕ → Mark → List Event → List Event
+ringing division sum (Channel ticks status first second) es =
+    record { frame = frameOf division sum; status = status; first = first; second = second } ∷ es
+ringing division sum (Tempo ticks tempo) es = es
+ringing division sum (Meta ticks kind bytes) es = es
+ringing division sum (Exclusive ticks status bytes) es = es
 
 -- the channel events of some marks, from a tempo and a sum U on
-unfoldable pub playedFrom : ℕ → ℕ → ℕ → List Mark → List Event
-playedFrom division tempo sum [] = []
-playedFrom division tempo sum (m ∷ ms) =
-    sounding division (sum + ticksOf m * tempo) m (playedFrom division (tempoBehind tempo m) (sum + ticksOf m * tempo) ms)
+unfoldable pub rungFrom : ℕ → ℕ → ℕ → List Mark → List Event
+rungFrom division tempo sum [] = []
+rungFrom division tempo sum (m ∷ ms) =
+    ringing division (sum + ticksOf m * tempo) m (rungFrom division (tempoBehind tempo m) (sum + ticksOf m * tempo) ms)
 
 -- whether none of some marks, nor the end of track, is past an hour
 unfoldable pub inTimeFrom : ℕ → ℕ → ℕ → List Mark → ℕ → Bool
@@ -106,8 +106,8 @@ inTimeFrom division tempo sum (m ∷ ms) last =
     not (isLate division (sum + ticksOf m * tempo)) && inTimeFrom division (tempoBehind tempo m) (sum + ticksOf m * tempo) ms last
 
 -- the events of a score: the tempo is 500,000 at first
-abbrev pub played : Score → List Event
-played s = playedFrom (s .division) 500000 0 (s .marks)
+abbrev pub rung : Score → List Event
+rung s = rungFrom (s .division) 500000 0 (s .marks)
 
 -- whether a score ends within the hour
 abbrev pub inTime : Score → Bool
@@ -172,9 +172,9 @@ abbrev pub WrittenInBytes : Type 0
 WrittenInBytes = (omits : ℕ → Bool) (s : Score) → GoodScore s → length (fileBytes omits s) ≤ 65536 → AllBytes (fileBytes omits s)
 
 -- a score that ends within the hour, written in any of these ways: the file's events are the score's
-abbrev pub WrittenIsPlayed : Type 0
-WrittenIsPlayed =
-    (omits : ℕ → Bool) (s : Score) → GoodScore s → length (fileBytes omits s) ≤ 65536 → inTime s ≡ true → eventsOf (fileBytes omits s) ≡ Events (played s)
+abbrev pub WrittenIsRung : Type 0
+WrittenIsRung =
+    (omits : ℕ → Bool) (s : Score) → GoodScore s → length (fileBytes omits s) ≤ 65536 → inTime s ≡ true → eventsOf (fileBytes omits s) ≡ Events (rung s)
 
 -- one that does not is refused, with 11
 abbrev pub WrittenTooLate : Type 0
