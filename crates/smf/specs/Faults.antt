@@ -11,7 +11,7 @@ use Rattle.smf.specs.declared.Message.{Message}
 use Rattle.smf.specs.declared.Met.the-variants.{Passed, Given}
 use Rattle.smf.specs.declared.Quantity.the-variants.{Bad, Good}
 use Rattle.smf.specs.Quantities.{twoAt, fourAt, quantityAt}
-use Rattle.smf.specs.Head.{chunkEnd}
+use Rattle.smf.specs.Head.{headName, trackName, chunkEnd}
 use Rattle.smf.specs.Items.{itemAt}
 use Rattle.smf.specs.Ticks.{sumAfter}
 use Rattle.smf.specs.Track.{Events, Refused, edgeOf, meetAt}
@@ -25,13 +25,13 @@ pub record Whole (b : List ℕ) (at : ℕ) : Type 0 where
 -- a place where a chunk is looked for: behind the head, and behind each whole chunk that is not named MTrk, as long as no track is found
 pub data Chunked (b : List ℕ) : ℕ → Type 0 where
   behind-head : Chunked b (chunkEnd b 0)
-  behind-other : (at : ℕ) → Chunked b at → Whole b at → (fourAt b at ≡ 1297379947 → ⊥) → Chunked b (chunkEnd b at)
+  behind-other : (at : ℕ) → Chunked b at → Whole b at → (fourAt b at ≡ trackName → ⊥) → Chunked b (chunkEnd b at)
 
 -- the track: a whole chunk named MTrk, behind others only
 pub record Tracked (b : List ℕ) (at : ℕ) : Type 0 where
   pub looked : Chunked b at
   pub whole : Whole b at
-  pub name : fourAt b at ≡ 1297379947
+  pub name : fourAt b at ≡ trackName
 
 -- a cursor in front of a delta time: where the track begins, and behind each event that is met
 pub data Arrived (b : List ℕ) : Cursor → Type 0 where
@@ -46,7 +46,7 @@ DeltaAt b c ticks place = quantityAt b (edgeOf b c) (c .at) ≡ Good ticks place
 -- what can be wrong, with its number and its place
 pub data Wrong (b : List ℕ) : ℕ → ℕ → Type 0 where
   -- the file does not begin with MThd
-  no-head : (fourAt b 0 ≡ 1297377380 → ⊥) → Wrong b 9 0
+  no-head : (fourAt b 0 ≡ headName → ⊥) → Wrong b 9 0
   -- the head's length is below 6
   short-head : fourAt b 4 < 6 → Wrong b 9 4
   -- the head goes past the file's end

@@ -42,7 +42,10 @@ exclusiveAt b edge at = elim (quantityAt b edge at) [ Quantity.Bad ↦ Bad | Goo
 
 -- a meta event of a type, with n bytes at a place: 2F ends the track, 51 sets the tempo by its first three bytes, all others are stepped over
 unfoldable pub metaOf : List ℕ → ℕ → ℕ → ℕ → Item
-metaOf b kind n at = cond (eqb kind 47) End (cond (eqb kind 81) (cond (ltb n 3) Bad (Tempo (threeAt b at) (at + n))) (Passed (at + n)))
+metaOf b kind n at =
+    cond (eqb kind 47) End
+    (cond (eqb kind 81) (cond (ltb n 3) Bad (Tempo (threeAt b at) (at + n)))
+    (Passed (at + n)))
 
 -- a meta event: the type at a place, which is below 128, its length, and so many bytes
 unfoldable pub metaAt : List ℕ → ℕ → ℕ → Item
@@ -53,4 +56,9 @@ metaAt b edge at =
 unfoldable pub itemAt : List ℕ → ℕ → ℕ → ℕ → Item
 itemAt b edge running at =
     let x = u8At b at in
-    cond (leb edge at) Bad (cond (ltb x 128) (cond (isChannel running) (spokenAt b edge running at) Bad) (cond (ltb x 240) (spokenAt b edge x (at + 1)) (cond (eqb x 255) (metaAt b edge (at + 1)) (cond (isExclusive x) (exclusiveAt b edge (at + 1)) Bad))))
+    cond (leb edge at) Bad
+    (cond (ltb x 128) (cond (isChannel running) (spokenAt b edge running at) Bad)
+    (cond (ltb x 240) (spokenAt b edge x (at + 1))
+    (cond (eqb x 255) (metaAt b edge (at + 1))
+    (cond (isExclusive x) (exclusiveAt b edge (at + 1))
+    Bad))))

@@ -27,7 +27,8 @@ turns b = length b + 1
 -- a file's channel events, or its first fault: the length before everything else, then the head, then the track
 unfoldable pub eventsOf : List ℕ → Song
 eventsOf b =
-    cond (ltb 65536 (length b)) (Refused 9 65536) (elim (headOf b) [ Header.Refused number place ↦ Refused number place | Track at end ↦ songFrom (turns b) b (startAt b at end) ])
+    cond (ltb 65536 (length b)) (Refused 9 65536)
+    (elim (headOf b) [ Header.Refused number place ↦ Refused number place | Track at end ↦ songFrom (turns b) b (startAt b at end) ])
 
 -- the bytes of an event, running status written out
 unfoldable pub bytesOf : Event → List ℕ
