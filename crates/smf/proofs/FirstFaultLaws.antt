@@ -7,7 +7,8 @@ use Prim.Native.Nat.{ℕ, zero, suc, _+_, _*_, _<_, _≤_}
 use native.Mathlib.Omega.{arith}
 use native.Mathlib.Nat.{le-antisymm}
 use borrow.Author.Tests.{ltb-true, ltb-false, eqb-true, eqb-false, not-true, not-false, lt-ltb, le-ltb}
-use lib.Dec.{ltb, eqb}
+use lib.Dec.{ltb, eqb, lit≤}
+use Rattle.arith.specs.Bytes.{u8At}
 use lib.ListN.{length}
 use Rattle.smf.specs.declared.Cursor.{Cursor}
 use Rattle.smf.specs.declared.Event.{Event}
@@ -572,3 +573,8 @@ not-wrong-good b h none = go (eventsOf b) refl
     go : (s : Song) → eventsOf b ≡ s → (es : List Event) × (eventsOf b ≡ Events es)
     go (Refused n p) e = absurd (none n p (refused-first b n p h e .wrong))
     go (Events es) e = (es, e)
+
+-- an empty file: what is wrong first is its name, though there is no track either
+pub empty-refused : First [] 9 0
+unfolding eventsOf headOf fourAt twoAt u8At
+empty-refused = refused-first [] 9 0 (lit≤ tt) refl

@@ -12,7 +12,6 @@ use Rattle.smf.specs.declared.Event.{Event}
 use Rattle.smf.specs.declared.Handed.{Handed}
 use Rattle.smf.specs.declared.Header.{Header}
 use Rattle.smf.specs.declared.Header.the-variants.{Track}
-use Rattle.smf.specs.declared.Message.{Message}
 use Rattle.smf.specs.declared.Met.{Met}
 use Rattle.smf.specs.declared.Met.the-variants.{Fault, End, Passed, Given}
 use Rattle.smf.specs.declared.Offer.{Offer}

@@ -14,7 +14,6 @@ use Rattle.smf.specs.declared.Met.the-variants.{Given}
 use Rattle.smf.specs.declared.Header.{Header}
 use Rattle.smf.specs.declared.Header.the-variants.{Track}
 use Rattle.smf.specs.declared.Opening.{Opening}
-use Rattle.smf.specs.declared.Tested.{Tested}
 use Rattle.smf.specs.Faults.{Wrong}
 use Rattle.smf.specs.Faults.Wrong.{no-head, short-head, long-head, format, tracks, no-division, smpte, no-chunk, long-chunk, delta, event, late}
 use Rattle.smf.specs.Head.{headOf}

@@ -10,7 +10,6 @@ use Rattle.smf.specs.declared.Item.{Item}
 use Rattle.smf.specs.declared.Message.{Message}
 use Rattle.smf.specs.declared.Met.{Met}
 use Rattle.smf.specs.declared.Offer.{Offer}
-use Rattle.smf.specs.declared.Quantity.{Quantity}
 use Rattle.smf.specs.declared.Quantity.the-variants.{Bad, Good}
 use Rattle.smf.specs.declared.Met.the-variants.{Fault, End, Passed, Given}
 use Rattle.smf.specs.Quantities.{quantityAt}

@@ -7,7 +7,7 @@ use native.Mathlib.Nat.{pow-suc, pow-le-pow-right}
 use native.Mathlib.Omega.{arith}
 use lib.Dec.{lit<}
 use Rattle.arith.specs.Bytes.{u8At}
-use Rattle.smf.specs.declared.Quantity.the-variants.{Bad, Good}
+use Rattle.smf.specs.declared.Quantity.the-variants.{Bad}
 use Rattle.smf.specs.Quantities.{quantityAt, quantityFrom}
 use Rattle.smf.proofs.QuantitiesLaws.{from-last, from-more, from-edge}
 use Rattle.smf.proofs.quantities.quantity_at.Statement.{statement}
