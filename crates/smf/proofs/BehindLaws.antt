@@ -30,7 +30,8 @@ use Rattle.smf.proofs.HeadLaws.{Named, Held, Single, end-after, head-go
 use Rattle.smf.proofs.MeetingLaws.{meet-bad, meet-good}
 use Rattle.smf.proofs.QuantitiesLaws.{bad-good, from-behind, quantity-behind}
 use Rattle.smf.proofs.ItemsLaws.{either, neither, Placed, item-placed}
-use Rattle.smf.proofs.TrackLaws.{meet-passed, meet-given, further-edge, song-enough}
+use Rattle.smf.proofs.TrackLaws.{song-is, meet-passed, meet-given, further-edge, song-enough}
+use Rattle.smf.proofs.SongsLaws.{events-is, has-track}
 use Rattle.smf.proofs.ReadingLaws.{reads-all}
 
 -- ---- 1. Tests
@@ -317,17 +318,7 @@ meet-same b other c f n s = go (quantityAt b (edgeOf b c) (c .at)) refl
 
 -- ---- 6. The song from a cursor on
 
--- the song by what is met first
-abbrev pub songBy : ℕ → List ℕ → Met → Song
-songBy n b m =
-    elim m [
-      | Met.Fault number place ↦ Refused number place
-      | Met.End ↦ Events []
-      | Met.Passed further ↦ songFrom n b further
-      | Met.Given message further ↦ behindEvent (eventOf message further) (songFrom n b further)
-    ]
-
--- the place behind its end of track, in the same way
+-- the place behind the end of track of one turn more, by what is met
 abbrev endBy : ℕ → List ℕ → Cursor → Met → ℕ
 endBy n b c m =
     elim m [
@@ -337,12 +328,7 @@ endBy n b c m =
       | Met.Given message further ↦ endFrom n b further
     ]
 
--- the song, where it is known what is met
-pub song-is : (n : ℕ) (b : List ℕ) (c : Cursor) (m : Met) → meetAt b c ≡ m → songFrom (suc n) b c ≡ songBy n b m
-unfolding songFrom
-song-is n b c m e = ap (songBy n b) e
-
--- .. and its end
+-- the end of track, where it is known what is met
 end-is : (n : ℕ) (b : List ℕ) (c : Cursor) (m : Met) → meetAt b c ≡ m → endFrom (suc n) b c ≡ endBy n b c m
 unfolding endFrom
 end-is n b c m e = ap (endBy n b c) e
@@ -386,21 +372,21 @@ song-same (suc n) b other c h k r s = go (λ f. song-same n b other f) (meetAt b
 
     go : ((f : Cursor) → f .end ≤ length b → f .end ≤ length other → refuses (songFrom n b f) ≡ false → SameBelow b other (endFrom n b f) → songFrom n other f ≡ songFrom n b f)
         → (m : Met) → meetAt b c ≡ m → songFrom (suc n) other c ≡ songFrom (suc n) b c
-    go more (Met.Fault number place) e = absurd (true≢false (subst (λ (x : Song). refuses x ≡ false) (song-is n b c (Met.Fault number place) e) r))
-    go more Met.End e = song-is n other c Met.End (met Met.End e refl (le-of-eq (sym (end-is n b c Met.End e)))) ∙ sym (song-is n b c Met.End e)
+    go more (Met.Fault number place) e = absurd (true≢false (subst (λ (x : Song). refuses x ≡ false) (song-is b c n (Met.Fault number place) e) r))
+    go more Met.End e = song-is other c n Met.End (met Met.End e refl (le-of-eq (sym (end-is n b c Met.End e)))) ∙ sym (song-is b c n Met.End e)
     go more (Met.Passed further) e =
         let ends = end-is n b c (Met.Passed further) e in
         let same = meet-passed b c further e .same-end in
-        let whole = song-is n b c (Met.Passed further) e in
-        song-is n other c (Met.Passed further) (met (Met.Passed further) e refl (rw ends (song-ahead n b further)))
+        let whole = song-is b c n (Met.Passed further) e in
+        song-is other c n (Met.Passed further) (met (Met.Passed further) e refl (rw ends (song-ahead n b further)))
         ∙ more further (omega arith) (omega arith) (subst (λ (x : Song). refuses x ≡ false) whole r) (subst (λ (q : ℕ). SameBelow b other q) ends s)
         ∙ sym whole
     go more (Met.Given message further) e =
         let ends = end-is n b c (Met.Given message further) e in
         let same = meet-given b c message further e .0 .same-end in
-        let whole = song-is n b c (Met.Given message further) e in
+        let whole = song-is b c n (Met.Given message further) e in
         let fine = sym (refuses-behind (eventOf message further) (songFrom n b further)) ∙ subst (λ (x : Song). refuses x ≡ false) whole r in
-        song-is n other c (Met.Given message further) (met (Met.Given message further) e refl (rw ends (song-ahead n b further)))
+        song-is other c n (Met.Given message further) (met (Met.Given message further) e refl (rw ends (song-ahead n b further)))
         ∙ ap (behindEvent (eventOf message further)) (more further (omega arith) (omega arith) fine (subst (λ (q : ℕ). SameBelow b other q) ends s))
         ∙ sym whole
 
@@ -525,28 +511,6 @@ head-same b other at end e k s =
 
 -- ---- 8. The whole file
 
--- the events by the head
-pub events-is : (b : List ℕ) (at end : ℕ) → length b ≤ 65536 → headOf b ≡ Header.Track at end → eventsOf b ≡ songFrom (turns b) b (startAt b at end)
-unfolding eventsOf
-events-is b at end h e = rw (le-ltb 65536 (length b) h, e) refl
-
--- a file with events is not too long, and its head leads to a track
-pub record Opened (b : List ℕ) : Type 0 where
-  pub short : length b ≤ 65536
-  pub at : ℕ
-  pub end : ℕ
-  pub head : headOf b ≡ Header.Track at end
-
--- where there are events there is a track
-pub opened : (b : List ℕ) (es : List Event) → eventsOf b ≡ Events es → Opened b
-unfolding eventsOf
-opened b es e = go (ltb 65536 (length b)) refl (headOf b) refl
-  where
-    go : (t : Bool) → ltb 65536 (length b) ≡ t → (h : Header) → headOf b ≡ h → Opened b
-    go true f h g = let z : Refused 9 65536 ≡ Events es = rw f at e in let y : _≡_ {A = ℕ} 0 1 = cc in absurd (omega arith)
-    go false f (Header.Refused number place) g = let z : Refused number place ≡ Events es = rw (f, g) at e in let y : _≡_ {A = ℕ} 0 1 = cc in absurd (omega arith)
-    go false f (Header.Track at end) g = record { short = ltb-false 65536 (length b) f; at = at; end = end; head = g }
-
 -- the place behind the end of track, by the head
 end-of-track-is : (b : List ℕ) (at end : ℕ) → headOf b ≡ Header.Track at end → endOfTrack b ≡ endFrom (turns b) b (startAt b at end)
 unfolding endOfTrack
@@ -570,7 +534,7 @@ start-same b other at end h s = rw (two-same b other 12 at s (omega arith)) refl
 -- bytes behind the end of track change nothing
 pub behind-changes-nothing : BehindChangesNothing
 behind-changes-nothing b other es e s h k =
-    let o = opened b es e in
+    let o = has-track b es e in
     let c = startAt b (o .at) (o .end) in
     let found = head-found b (o .at) (o .end) (o .head) in
     let long : o .end ≤ length other = subst (λ (n : ℕ). n ≤ length other) (chunk-of-track-is b (o .at) (o .end) (o .head)) h in
@@ -690,21 +654,21 @@ song-ends zero b c r = unfold songFrom in absurd (true≢false r)
 song-ends (suc n) b c r = go (λ f. song-ends n b f) (meetAt b c) refl
   where
     go : ((f : Cursor) → refuses (songFrom n b f) ≡ false → endFrom n b f ≤ edgeOf b f) → (m : Met) → meetAt b c ≡ m → endFrom (suc n) b c ≤ edgeOf b c
-    go more (Met.Fault number place) e = absurd (true≢false (subst (λ (x : Song). refuses x ≡ false) (song-is n b c (Met.Fault number place) e) r))
+    go more (Met.Fault number place) e = absurd (true≢false (subst (λ (x : Song). refuses x ≡ false) (song-is b c n (Met.Fault number place) e) r))
     go more Met.End e = rw (end-is n b c Met.End e) (met-ends b c e)
     go more (Met.Passed further) e =
         let edge = further-edge b c further (meet-passed b c further e) in
-        let fine = subst (λ (x : Song). refuses x ≡ false) (song-is n b c (Met.Passed further) e) r in
+        let fine = subst (λ (x : Song). refuses x ≡ false) (song-is b c n (Met.Passed further) e) r in
         rw (end-is n b c (Met.Passed further) e) (omega (arith, more further fine))
     go more (Met.Given message further) e =
         let edge = further-edge b c further (meet-given b c message further e .0) in
-        let fine = subst (λ (x : Song). refuses x ≡ false) (song-is n b c (Met.Given message further) e) r in
+        let fine = subst (λ (x : Song). refuses x ≡ false) (song-is b c n (Met.Given message further) e) r in
         rw (end-is n b c (Met.Given message further) e) (omega (arith, more further (sym (refuses-behind (eventOf message further) (songFrom n b further)) ∙ fine)))
 
 -- the end of track lies in the track's chunk
 pub ends-in-chunk : EndsInChunk
 ends-in-chunk b es e =
-    let o = opened b es e in
+    let o = has-track b es e in
     let c = startAt b (o .at) (o .end) in
     let song : songFrom (turns b) b c ≡ Events es = sym (events-is b (o .at) (o .end) (o .short) (o .head)) ∙ e in
     let inside = song-ends (turns b) b c (ap refuses song) in

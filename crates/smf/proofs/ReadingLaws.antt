@@ -1,26 +1,24 @@
 -- What the reader hands out is the song of the file, in its ranges, at frames that never fall.
-use mathlib.Core.Bool.{Bool, true, false, cond}
 use mathlib.Core.List.{List, [], _∷_}
 use mathlib.Core.Path.{_≡_, refl, subst, sym, _∙_, ap}
 use Prim.Native.Nat.{ℕ, zero, suc, _+_, _<_, _≤_}
 use native.Mathlib.Nat.{min-le-left, le-trans}
 use native.Mathlib.Omega.{arith}
-use lib.Dec.{ltb}
 use lib.ListN.{length}
 use Rattle.smf.specs.declared.Cursor.{Cursor}
 use Rattle.smf.specs.declared.Event.{Event}
 use Rattle.smf.specs.declared.Handed.{Handed}
 use Rattle.smf.specs.declared.Header.{Header}
-use Rattle.smf.specs.declared.Header.the-variants.{Track}
 use Rattle.smf.specs.declared.Met.{Met}
 use Rattle.smf.specs.declared.Met.the-variants.{Fault, End, Passed, Given}
 use Rattle.smf.specs.declared.Offer.{Offer}
 use Rattle.smf.specs.Head.{headOf}
 use Rattle.smf.specs.Ticks.{frameOf}
 use Rattle.smf.specs.Track.{Song, Events, Refused, edgeOf, eventOf, meetAt, behindEvent, songFrom, nextFrom, over, nothing}
-use Rattle.smf.specs.Songs.{startAt, turns, eventsOf, trackCursor, firstCursor, openingOf, handedOf}
+use Rattle.smf.specs.Songs.{turns, eventsOf, trackCursor, firstCursor, openingOf, handedOf}
 use Rattle.smf.specs.Reading.{cursorAfter, offered, eventAt, entry, ReadsAll, NeverFall, InRange, AllInRange}
 use Rattle.smf.proofs.TicksLaws.{frame-rises, frame-in}
+use Rattle.smf.proofs.SongsLaws.{events-is, has-track}
 use Rattle.smf.proofs.TrackLaws.{meet-passed, meet-given, further-edge, edge-in, song-enough, next-edge}
 
 -- ---- one next
@@ -113,16 +111,9 @@ after-opening b (suc k) = ap (λ (x : Cursor). handedOf b x .cursor) (after-open
 
 -- a song of a file is that of its track
 track-song : (b : List ℕ) (es : List Event) → eventsOf b ≡ Events es → songFrom (turns b) b (trackCursor (headOf b) b) ≡ Events es
-unfolding eventsOf
-track-song b es e = long (ltb 65536 (length b)) e
-  where
-    head : (h : Header) → (elim h [ Header.Refused number place ↦ Refused number place | Track at end ↦ songFrom (turns b) b (startAt b at end) ]) ≡ Events es → songFrom (turns b) b (trackCursor h b) ≡ Events es
-    head (Header.Refused number place) e = let z : _≡_ {A = ℕ} 0 1 = cc in absurd (omega arith)
-    head (Track at end) e = e
-
-    long : (t : Bool) → cond t (Refused 9 65536) (elim (headOf b) [ Header.Refused number place ↦ Refused number place | Track at end ↦ songFrom (turns b) b (startAt b at end) ]) ≡ Events es → songFrom (turns b) b (trackCursor (headOf b) b) ≡ Events es
-    long true e = let z : _≡_ {A = ℕ} 0 1 = cc in absurd (omega arith)
-    long false e = head (headOf b) e
+track-song b es e =
+    let t = has-track b es e in
+    ap (λ (h : Header). songFrom (turns b) b (trackCursor h b)) (t .head) ∙ sym (events-is b (t .at) (t .end) (t .short) (t .head)) ∙ e
 
 -- the nexts hand out the events of the file
 pub reads-all : ReadsAll

@@ -78,6 +78,28 @@ opened-good b h = go (eventsOf b) refl
         absurd (omega (arith, nine, zero))
     go (Events es) e = (good-not-wrong b es e .0, rw e refl)
 
+-- the events by the head
+pub events-is : (b : List ℕ) (at end : ℕ) → length b ≤ 65536 → headOf b ≡ Header.Track at end → eventsOf b ≡ songFrom (turns b) b (startAt b at end)
+unfolding eventsOf
+events-is b at end h e = rw (le-ltb 65536 (length b) h, e) refl
+
+-- a file with events is not too long, and its head leads to a track
+pub record HasTrack (b : List ℕ) : Type 0 where
+  pub short : length b ≤ 65536
+  pub at : ℕ
+  pub end : ℕ
+  pub head : headOf b ≡ Header.Track at end
+
+-- where there are events there is a track
+pub has-track : (b : List ℕ) (es : List Event) → eventsOf b ≡ Events es → HasTrack b
+unfolding eventsOf
+has-track b es e = go (ltb 65536 (length b)) refl (headOf b) refl
+  where
+    go : (t : Bool) → ltb 65536 (length b) ≡ t → (h : Header) → headOf b ≡ h → HasTrack b
+    go true f h g = let z : Refused 9 65536 ≡ Events es = rw f at e in let y : _≡_ {A = ℕ} 0 1 = cc in absurd (omega arith)
+    go false f (Header.Refused number place) g = let z : Refused number place ≡ Events es = rw (f, g) at e in let y : _≡_ {A = ℕ} 0 1 = cc in absurd (omega arith)
+    go false f (Header.Track at end) g = record { short = ltb-false 65536 (length b) f; at = at; end = end; head = g }
+
 -- the test of a file that is too long
 pub test-long : (b : List ℕ) → 65536 < length b → testOf b ≡ record { number = 9; place = 65536 }
 unfolding testOf
@@ -90,5 +112,5 @@ test-head b number place h e = rw (le-ltb 65536 (length b) h) (rw (e, eventsOf) 
 
 -- the test of a file whose track is found
 pub test-track : (b : List ℕ) (at end : ℕ) → length b ≤ 65536 → headOf b ≡ Track at end → testOf b ≡ verdict (songFrom (turns b) b (startAt b at end))
-unfolding testOf eventsOf
-test-track b at end h e = rw (le-ltb 65536 (length b) h) (rw (e, eventsOf) refl)
+unfolding testOf
+test-track b at end h e = ap verdict (events-is b at end h e)

@@ -31,7 +31,9 @@ use Rattle.smf.proofs.QuantitiesLaws.{from-last, from-more}
 use Rattle.smf.proofs.MeetingLaws.{meet-good}
 use Rattle.smf.proofs.HeadLaws.{track-found, track-turn, head-good}
 use Rattle.smf.proofs.ReadingLaws.{reads-all}
-use Rattle.smf.proofs.BehindLaws.{songBy, song-is, single-head, events-is}
+use Rattle.smf.proofs.TrackLaws.{songBy, song-is}
+use Rattle.smf.proofs.SongsLaws.{events-is}
+use Rattle.smf.proofs.BehindLaws.{single-head}
 
 -- ---- 1. Bytes one after the other
 
@@ -413,8 +415,8 @@ unfolding obeyed
 step n b c x sum place t es good e h = go (isLate (c .division) sum) refl
   where
     go : (l : Bool) → isLate (c .division) sum ≡ l → Told (not l && t) es (songFrom (suc n) b c)
-    go true f = (place, song-is n b c (Met.Fault 11 place) (e ∙ rw (good, f) refl))
-    go false f = subst (λ (y : Song). Told t es y) (sym (song-is n b c (acted x c sum place) (e ∙ rw (good, f) refl))) h
+    go true f = (place, song-is b c n (Met.Fault 11 place) (e ∙ rw (good, f) refl))
+    go false f = subst (λ (y : Song). Told t es y) (sym (song-is b c n (acted x c sum place) (e ∙ rw (good, f) refl))) h
 
 -- what is met, by the delta time that is read
 met : (b : List ℕ) (c : Cursor) (ticks : ℕ) (rest : List ℕ) → c .end ≡ length b → (q : Quantity-read b (c .at) ticks rest)

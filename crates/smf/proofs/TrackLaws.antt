@@ -19,8 +19,9 @@ use Rattle.smf.specs.declared.Quantity.the-variants.{Bad, Good}
 use Rattle.smf.specs.Quantities.{quantityAt}
 use Rattle.smf.specs.Items.{isShort, itemAt}
 use Rattle.smf.specs.Ticks.{sumAfter, isLate}
-use Rattle.smf.specs.Track.{Events, Refused, edgeOf, carried, eventOf, acted, obeyed, meetAt, behindEvent, songFrom, nextFrom, nothing}
+use Rattle.smf.specs.Track.{Song, Events, Refused, edgeOf, carried, eventOf, acted, obeyed, meetAt, behindEvent, songFrom, nextFrom, nothing}
 use Rattle.smf.specs.Songs.{turns}
+use Rattle.smf.proofs.MeetingLaws.{meet-bad}
 use Rattle.smf.proofs.QuantitiesLaws.{quantity-behind, quantity-edge}
 use Rattle.smf.proofs.ItemsLaws.{Placed, item-placed}
 
@@ -47,6 +48,16 @@ Led b c (Fault number place) = c .at ≤ place
 Led b c End = c .at < edgeOf b c
 Led b c (Passed further) = Further b c further
 Led b c (Given message further) = Further b c further × Sounds message
+
+-- a song of one turn more, by what is met
+abbrev pub songBy : ℕ → List ℕ → Met → Song
+songBy n b m =
+    elim m [
+      | Fault number place ↦ Refused number place
+      | End ↦ Events []
+      | Passed further ↦ songFrom n b further
+      | Given message further ↦ behindEvent (eventOf message further) (songFrom n b further)
+    ]
 
 module _ (b : List ℕ) (c : Cursor) where
   -- the test of the hour
@@ -100,32 +111,16 @@ module _ (b : List ℕ) (c : Cursor) where
 
   -- where no byte is left there is no end of track
   pub meet-edge : edgeOf b c ≤ c .at → meetAt b c ≡ Fault 9 (c .at)
-  unfolding meetAt
-  meet-edge h = rw (quantity-edge b (edgeOf b c) (c .at) h, meetAt) refl
+  meet-edge h = meet-bad b c (quantity-edge b (edgeOf b c) (c .at) h)
 
   -- the edge lies in the file
   pub edge-in : edgeOf b c ≤ length b
   edge-in = min-le-right (c .end) (length b)
 
-  -- one turn of a song: a fault
-  turn-fault : (n number place : ℕ) → meetAt b c ≡ Fault number place → songFrom (suc n) b c ≡ Refused number place
+  -- one turn of a song, where it is known what is met
+  pub song-is : (n : ℕ) (m : Met) → meetAt b c ≡ m → songFrom (suc n) b c ≡ songBy n b m
   unfolding songFrom
-  turn-fault n number place e = rw (e, songFrom) refl
-
-  -- an end of track
-  turn-end : (n : ℕ) → meetAt b c ≡ End → songFrom (suc n) b c ≡ Events []
-  unfolding songFrom
-  turn-end n e = rw (e, songFrom) refl
-
-  -- an event that gives none
-  turn-passed : (n : ℕ) (further : Cursor) → meetAt b c ≡ Passed further → songFrom (suc n) b c ≡ songFrom n b further
-  unfolding songFrom
-  turn-passed n further e = rw (e, songFrom) refl
-
-  -- a channel event
-  turn-given : (n : ℕ) (message : Message) (further : Cursor) → meetAt b c ≡ Given message further → songFrom (suc n) b c ≡ behindEvent (eventOf message further) (songFrom n b further)
-  unfolding songFrom
-  turn-given n message further e = rw (e, songFrom) refl
+  song-is n m e = ap (songBy n b) e
 
   -- one look for the next event: a fault
   look-fault : (n number place : ℕ) → meetAt b c ≡ Fault number place → nextFrom (suc n) b c ≡ nothing
@@ -170,16 +165,16 @@ song-enough (suc n) zero b c h k = song-out b c (suc n) (omega arith) ∙ sym (s
 song-enough (suc n) (suc m) b c h k = go (λ further. song-enough n m b further) (meetAt b c) refl
   where
     go : ((further : Cursor) → edgeOf b further < further .at + n → edgeOf b further < further .at + m → songFrom n b further ≡ songFrom m b further) → (met : Met) → meetAt b c ≡ met → songFrom (suc n) b c ≡ songFrom (suc m) b c
-    go more (Fault number place) e = turn-fault b c n number place e ∙ sym (turn-fault b c m number place e)
-    go more End e = turn-end b c n e ∙ sym (turn-end b c m e)
+    go more (Fault number place) e = song-is b c n (Fault number place) e ∙ sym (song-is b c m (Fault number place) e)
+    go more End e = song-is b c n End e ∙ sym (song-is b c m End e)
     go more (Passed further) e =
         let f = meet-passed b c further e in
         let same = further-edge b c further f in
-        turn-passed b c n further e ∙ more further (omega arith) (omega arith) ∙ sym (turn-passed b c m further e)
+        song-is b c n (Passed further) e ∙ more further (omega arith) (omega arith) ∙ sym (song-is b c m (Passed further) e)
     go more (Given message further) e =
         let f = meet-given b c message further e .0 in
         let same = further-edge b c further f in
-        turn-given b c n message further e ∙ ap (behindEvent (eventOf message further)) (more further (omega arith) (omega arith)) ∙ sym (turn-given b c m message further e)
+        song-is b c n (Given message further) e ∙ ap (behindEvent (eventOf message further)) (more further (omega arith) (omega arith)) ∙ sym (song-is b c m (Given message further) e)
 
 -- the same of the next event
 pub next-enough : (n m : ℕ) (b : List ℕ) (c : Cursor) → edgeOf b c < c .at + n → edgeOf b c < c .at + m → nextFrom n b c ≡ nextFrom m b c
@@ -211,20 +206,20 @@ module _ (b : List ℕ) (c : Cursor) where
 
   -- the song from a cursor on: a fault refuses it
   pub song-fault : (number place : ℕ) → meetAt b c ≡ Fault number place → songFrom (turns b) b c ≡ Refused number place
-  song-fault number place e = rw add-one (turn-fault b c (length b) number place e)
+  song-fault number place e = rw add-one (song-is b c (length b) (Fault number place) e)
 
   -- an end of track ends it
   pub song-end : meetAt b c ≡ End → songFrom (turns b) b c ≡ Events []
-  song-end e = rw add-one (turn-end b c (length b) e)
+  song-end e = rw add-one (song-is b c (length b) End e)
 
   -- an event that gives none is stepped over
   pub song-passed : (further : Cursor) → meetAt b c ≡ Passed further → songFrom (turns b) b c ≡ songFrom (turns b) b further
-  song-passed further e = (rw add-one (turn-passed b c (length b) further e)) ∙ less further (meet-passed b c further e)
+  song-passed further e = (rw add-one (song-is b c (length b) (Passed further) e)) ∙ less further (meet-passed b c further e)
 
   -- a channel event stands in front of the rest
   pub song-given : (message : Message) (further : Cursor) → meetAt b c ≡ Given message further → songFrom (turns b) b c ≡ behindEvent (eventOf message further) (songFrom (turns b) b further)
   song-given message further e =
-      (rw add-one (turn-given b c (length b) message further e)) ∙ ap (behindEvent (eventOf message further)) (less further (meet-given b c message further e .0))
+      (rw add-one (song-is b c (length b) (Given message further) e)) ∙ ap (behindEvent (eventOf message further)) (less further (meet-given b c message further e .0))
 
   -- where no byte is left it is refused
   pub song-edge : edgeOf b c ≤ c .at → songFrom (turns b) b c ≡ Refused 9 (c .at)
