@@ -1,1 +1,3 @@
 pub mod FractionsLaws
+pub mod SizesLaws
+pub mod RefusalsLaws
