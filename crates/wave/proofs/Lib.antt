@@ -1,5 +1,6 @@
 pub mod FractionsLaws
-pub mod SizesLaws
 pub mod RefusalsLaws
 pub mod StreamsLaws
 pub mod ReturnedLaws
+pub mod SizesLaws
+pub mod Examples

@@ -20,11 +20,15 @@ use Rattle.wave.specs.Recording.{recordingOf, writeNumber, recorded}
 use Rattle.wave.specs.Playback.{sameBytes, framesIn, isRecording, pcmsIn, readNumber, heardOf, replayed}
 use Rattle.wave.specs.Refusals.{HasOther, here, behind, Unfit, WriteNumbers, WriterNumbers, HeadNumbers, HeadingNumbers, PourNumbers, PouringNumbers, FileOf, ReadNumbers, ReaderNumbers, OneCount, RefusedWritesNothing, KeptBehind, DoneKeepsTheRest}
 use Rattle.wave.proofs.FractionsLaws.{both, passed-is-output, output-passes}
-use Rattle.wave.proofs.SizesLaws.{head-length}
 
 -- a flag is not both
 never : {A : Type 0} {b : Bool} → b ≡ true → b ≡ false → A
 never p q = absurd (subst T (sym p ∙ q) tt)
+
+-- the heading's length
+pub head-length : (frames : ℕ) → length (headingOf frames) ≡ 44
+unfolding headingOf
+head-length frames = refl
 
 -- ---- 13
 
@@ -94,7 +98,7 @@ write-13 : (xs : List Float) (room : ℕ) → isBroken xs ≡ true → writeNumb
 unfolding writeNumber
 write-13 xs room a = rw a
 
-write-14 : (xs : List Float) (room : ℕ) → isBroken xs ≡ false → mostFrames < length xs / 2 → writeNumber xs room ≡ 14
+pub write-14 : (xs : List Float) (room : ℕ) → isBroken xs ≡ false → mostFrames < length xs / 2 → writeNumber xs room ≡ 14
 unfolding writeNumber
 write-14 xs room a b = rw (a, lt-ltb mostFrames (length xs / 2) b)
 

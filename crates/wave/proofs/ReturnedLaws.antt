@@ -30,8 +30,7 @@ use Rattle.wave.specs.Fractions.{OutputAt}
 use Rattle.wave.specs.Refusals.{FileOf}
 use Rattle.wave.specs.Returned.{AreBytes, fileIn, numbersIn, FileIsBytes, ReadIsWritten, WrittenIsRead, WrittenAgain}
 use Rattle.wave.proofs.FractionsLaws.{passed-is-output, output-passes, pcm-is-floor, number-is-exact}
-use Rattle.wave.proofs.SizesLaws.{head-length}
-use Rattle.wave.proofs.RefusalsLaws.{even-of, write-0, write-room, recorded-0, replayed-0, read-0, is-file, file-of, frames-of, counted, reader-numbers, poured-length, pcms-length, recording-length}
+use Rattle.wave.proofs.RefusalsLaws.{head-length, even-of, write-0, write-room, recorded-0, replayed-0, read-0, is-file, file-of, frames-of, counted, reader-numbers, poured-length, pcms-length, recording-length}
 use Rattle.wave.proofs.StreamsLaws.{file-written, whole-of, clean-of}
 
 -- ---- bytes

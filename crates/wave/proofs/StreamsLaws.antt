@@ -15,8 +15,7 @@ use Rattle.wave.specs.Pours.{isOther, isBroken, pouredOf, pcmBytes, pour
 use Rattle.wave.specs.Recording.{recordingOf, writeNumber, recorded}
 use Rattle.wave.specs.Returned.{fileIn}
 use Rattle.wave.specs.Streams.{Share, allNumbers, pouredBytes, AllPoured, AllRoomy, StreamIsFile, FileIsStream}
-use Rattle.wave.proofs.SizesLaws.{head-length}
-use Rattle.wave.proofs.RefusalsLaws.{even-of, heading-numbers, write-0, pour-0, head-0, write-room, pour-room, headed-0, poured-0, recorded-0, poured-length, recording-length}
+use Rattle.wave.proofs.RefusalsLaws.{head-length, even-of, heading-numbers, write-0, pour-0, head-0, write-room, pour-room, headed-0, poured-0, recorded-0, poured-length, recording-length}
 
 -- the writer's file, where it is done
 pub file-written : (xs : List Float) (out : List ℕ) → writeNumber xs (length out) ≡ 0 → fileIn xs out ≡ recordingOf xs
