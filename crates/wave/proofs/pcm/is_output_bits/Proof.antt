@@ -1,0 +1,42 @@
+use borrow.Author.Needs.{needs}
+use Rattle.wave.proofs.pcm.is_output_bits.Statement.{statement}
+use Rattle.wave.proofs.pcm.is_output_bits.Tie as tie
+use Rattle.wave.proofs.pcm.is_output_bits.Reads as reads
+use Rattle.wave.proofs.pcm.is_output_bits.Lts as lts
+
+-- src/pcm.rt:14:9
+returns : tie.Need-returns
+returns c = ?
+
+-- src/pcm.rt:17:9
+returns-2 : tie.Need-returns-2
+returns-2 c = ?
+
+-- src/pcm.rt:21:9
+returns-3 : tie.Need-returns-3
+returns-3 c = ?
+
+-- src/pcm.rt:23:18
+add-digits : tie.Need-add-digits
+add-digits c = search needs
+
+-- src/pcm.rt:24:16
+sub-tail : tie.Need-sub-tail
+sub-tail c = search needs
+
+-- src/pcm.rt:25:5
+shr-result : tie.Need-shr-result
+shr-result c = search needs
+
+-- src/pcm.rt:25:5
+shl-result : tie.Need-shl-result
+shl-result c = search needs
+
+-- src/pcm.rt:10:1
+returns-4 : tie.Need-returns-4
+returns-4 c = ?
+
+pub is-output-bits-spec : {M : Type 1} → statement M
+is-output-bits-spec =
+    tie.close
+    (tie.spec returns returns-2 returns-3 add-digits sub-tail shr-result shl-result returns-4)

@@ -1,0 +1,38 @@
+use borrow.Author.Needs.{needs}
+use Rattle.wave.proofs.pcm.word_of.Statement.{statement}
+use Rattle.wave.proofs.pcm.word_of.Tie as tie
+use Rattle.wave.proofs.pcm.word_of.Reads as reads
+use Rattle.wave.proofs.pcm.word_of.Lts as lts
+
+-- src/pcm.rt:48:27
+add-result : tie.Need-add-result
+add-result c = search needs
+
+-- src/pcm.rt:48:18
+sub-result : tie.Need-sub-result
+sub-result c = search needs
+
+-- src/pcm.rt:48:16
+cast-result : tie.Need-cast-result
+cast-result c = search needs
+
+-- src/pcm.rt:48:9
+returns : tie.Need-returns
+returns c = ?
+
+-- src/pcm.rt:51:9
+returns-2 : tie.Need-returns-2
+returns-2 c = ?
+
+-- src/pcm.rt:53:5
+cast-result-2 : tie.Need-cast-result-2
+cast-result-2 c = search needs
+
+-- src/pcm.rt:43:1
+returns-3 : tie.Need-returns-3
+returns-3 c = ?
+
+pub word-of-spec : {M : Type 1} → statement M
+word-of-spec =
+    tie.close
+    (tie.spec add-result sub-result cast-result returns returns-2 cast-result-2 returns-3)
