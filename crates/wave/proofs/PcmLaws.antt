@@ -1,16 +1,17 @@
 -- An output number by the bits of its binary32: the tests and the digits of `Internal.Pcm` are those of its value.
 use mathlib.Core.Path.{_≡_, refl, sym, ap, ap₂, _∙_, subst}
-use mathlib.Core.Bool.{Bool, true, false, not, _&&_, cond, and-false, and-true}
+use mathlib.Core.Bool.{Bool, true, false, not, _&&_, cond, and-false, and-true, true≢false}
 use mathlib.Core.Logic.{_⊎_, inl, inr}
 use Prim.Native.Nat.{ℕ, zero, suc, _+_, _-_, _*_, _/_, _%_, _^_, _≤_, _<_}
-use native.Mathlib.Nat.{eq-or-lt-of-le, eq-zero-or-pos, le-of-suc-le-suc, div-add-mod', dvd-iff-mod-eq-zero, eq-of-mul-eq-mul-right, le-of-eq, le-of-mul-le-mul-right, le-trans, lt-irrefl, lt-of-lt-of-le, mod-eq-of-lt, mul-assoc, mul-comm, mul-div-mul-right, mul-le-mul-left, mul-le-mul-right, mul-mod-left, mul-pos, mul-right-comm}
+use native.Mathlib.Nat.{div-mul-le-self, lt-of-le-of-lt, eq-or-lt-of-le, eq-zero-or-pos, le-of-suc-le-suc, div-add-mod', dvd-iff-mod-eq-zero, eq-of-mul-eq-mul-right, le-of-eq, le-of-mul-le-mul-right, le-trans, lt-irrefl, lt-of-lt-of-le, mod-eq-of-lt, mul-assoc, mul-comm, mul-div-mul-right, mul-le-mul-left, mul-le-mul-right, mul-mod-left, mul-pos, mul-right-comm}
 use native.Mathlib.Omega.{arith}
 use lib.Dec.{T, T-not, eqb, eqb→eq, leb, leb→le, le→leb, lt→ltb, ltb, ltb→lt, nltb→le, not-T, lit<, lit≤}
 use lib.IntN.{ℤ, pos, negsuc, negℤ}
 use lib.Pow.{pow-add, pow-mono, pow-pos, shl-lt, shl-shr, shr-mono}
 use lib.Arith.{lt→nleb}
-use lib.Ieee.{Float, nan, inf, fin, binary32, up, down, odd, ofFields, ofBits, toBits, fits}
+use lib.Ieee.{Float, nan, inf, fin, binary32, up, down, odd, ofFields, ofBits, toBits, fits, isNan, ne}
 use lib.Ieee.Bits.{is-true, is-false, ofBits-toBits}
+use lib.Ieee.Compare.{differs-from-itself, nan-differs}
 use lib.Ieee.Exact.{HasValue, odd-sign}
 use lib.Ieee.Fits.{down-pos, eq→eqb}
 use lib.Ieee.Nearest.{div-same}
@@ -276,6 +277,29 @@ module _ (s : Bool) (size : ℕ) (S : size < 2147483648) where
           (subst (λ (z : ℕ). z ≤ 1065353216) (sym size-is) (nltb→le 1065353216 size (q .0)))
           .1
 
+-- the field of an output number's bits, which are not 0
+output-field : (size : ℕ) → T (isOutputBits size) → eqb size 0 ≡ false → (104 ≤ size / 8388608) × (size ≤ 1065353216)
+unfolding isOutputBits
+output-field size h e =
+    past (ltb 1065353216 size) (ltb (size / 8388608) 104) _ (nltb→le 1065353216 size) (nltb→le (size / 8388608) 104)
+    (subst (λ (b : Bool). T (cond b true (cond (ltb 1065353216 size) false (cond (ltb (size / 8388608) 104) false (eqb (digitsOf size / 2 ^ tailOf size * 2 ^ tailOf size) (digitsOf size)))))) e h)
+  where
+    past : (a b d : Bool) → (T (not a) → size ≤ 1065353216) → (T (not b) → 104 ≤ size / 8388608)
+        → T (cond a false (cond b false d)) → (104 ≤ size / 8388608) × (size ≤ 1065353216)
+    past true b d p q t = absurd t
+    past false true d p q t = absurd t
+    past false false d p q t = (q tt, p tt)
+
+pub top-field : (size : ℕ) → T (isOutputBits size) → eqb size 0 ≡ false → size / 8388608 ≤ 127
+top-field size h e = let f = output-field size h e in omega (arith, f .1)
+
+pub short-tail : (size : ℕ) → T (isOutputBits size) → eqb size 0 ≡ false → 127 - size / 8388608 < 32
+short-tail size h e = let f = output-field size h e in omega (arith, f .0)
+
+-- no bit is lost where the digits are moved down and up again
+pub whole-digits : (size : ℕ) → digitsOf size / 2 ^ tailOf size * 2 ^ tailOf size % 4294967296 ≡ digitsOf size / 2 ^ tailOf size * 2 ^ tailOf size
+whole-digits size = mod-eq-of-lt (lt-of-le-of-lt (div-mul-le-self (digitsOf size) (2 ^ tailOf size)) (omega arith))
+
 -- k is at most 2^23
 pub k-bits-le : (size : ℕ) → T (isOutputBits size) → kBits size ≤ 8388608
 unfolding isOutputBits kBits
@@ -301,12 +325,12 @@ k-bits-le size h = go (eqb size 0) h
 
 -- ---- a binary32 is what its bits stand for
 
-bits-are : (x : Float) → T (fits binary32 x)
+bits-are : (x : Float) → fits binary32 x ≡ true
     → ofFields binary32 (leb 2147483648 (toBits binary32 x)) (toBits binary32 x % 2147483648 / 8388608) (toBits binary32 x % 2147483648 % 8388608) ≡ x
 unfolding ofBits
 bits-are x h =
     ap (ofFields binary32 (leb 2147483648 (toBits binary32 x)) (toBits binary32 x % 2147483648 / 8388608)) (cut (toBits binary32 x))
-    ∙ ofBits-toBits binary32 x h
+    ∙ ofBits-toBits binary32 x (subst T (sym h) tt)
   where
     cut : (b : ℕ) → b % 2147483648 % 8388608 ≡ b % 8388608
     cut b = omega arith
@@ -315,13 +339,13 @@ size-lt : (b : ℕ) → b % 2147483648 < 2147483648
 size-lt b = omega arith
 
 -- the test of a number by its bits
-pub output-bits : (x : Float) → T (fits binary32 x) → isOutput x ≡ isOutputBits (toBits binary32 x % 2147483648)
+pub output-bits : (x : Float) → fits binary32 x ≡ true → isOutput x ≡ isOutputBits (toBits binary32 x % 2147483648)
 output-bits x h =
     ap isOutput (sym (bits-are x h))
     ∙ bits-output (leb 2147483648 (toBits binary32 x)) (toBits binary32 x % 2147483648) (size-lt (toBits binary32 x))
 
 -- its k by its bits
-k-bits : (x : Float) → T (fits binary32 x) → T (isOutputBits (toBits binary32 x % 2147483648))
+k-bits : (x : Float) → fits binary32 x ≡ true → T (isOutputBits (toBits binary32 x % 2147483648))
     → kOf x ≡ signedOf (leb 2147483648 (toBits binary32 x)) (kBits (toBits binary32 x % 2147483648))
 k-bits x h t =
     ap kOf (sym (bits-are x h))
@@ -348,9 +372,30 @@ word-is true (suc j) h = omega (arith, h)
 word-is false k h = held-word k h
 
 -- the 16-bit number of an output number, by its bits
-pub pcm-bits : (x : Float) → T (fits binary32 x) → T (isOutputBits (toBits binary32 x % 2147483648))
+pub pcm-bits : (x : Float) → fits binary32 x ≡ true → T (isOutputBits (toBits binary32 x % 2147483648))
     → wordOf (leb 2147483648 (toBits binary32 x)) (kBits (toBits binary32 x % 2147483648)) ≡ modZ (pcmOf x) 65536
 unfolding pcmOf
 pcm-bits x h t =
     sym (ap (λ (k : ℤ). modZ (pcmOfK k) 65536) (k-bits x h t)
     ∙ word-is (leb 2147483648 (toBits binary32 x)) (kBits (toBits binary32 x % 2147483648)) (k-bits-le (toBits binary32 x % 2147483648) t))
+
+-- ---- NaNs
+
+-- a number that is not itself is one, and no output number
+pub nan-output : (x : Float) → ne x x ≡ true → false ≡ isOutput x
+unfolding isOutput
+nan-output x e = ap isOutput (sym (differs-from-itself x (subst T (sym e) tt)))
+
+-- a number that is itself is none
+pub itself : (x : Float) → ne x x ≡ false → T (not (isNan x))
+unfolding isNan
+itself nan e = absurd (true≢false (sym nan-differs ∙ e))
+itself (inf s) e = tt
+itself (fin s m x) e = tt
+
+-- and no output number is one
+pub no-nan : (x : Float) → T (isOutput x) → T (not (isNan x))
+unfolding isOutput isNan
+no-nan nan t = absurd t
+no-nan (inf s) t = tt
+no-nan (fin s m e) t = tt

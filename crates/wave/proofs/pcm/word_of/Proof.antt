@@ -1,3 +1,7 @@
+-- The cases are those of the definition.
+use borrow.Author.Tests.{le-ltb, lt-ltb}
+use mathlib.Core.Path.{refl}
+use Rattle.wave.specs.Internal.Pcm.{wordOf}
 use borrow.Author.Needs.{needs}
 use Rattle.wave.proofs.pcm.word_of.Statement.{statement}
 use Rattle.wave.proofs.pcm.word_of.Tie as tie
@@ -18,11 +22,13 @@ cast-result c = search needs
 
 -- src/pcm.rt:48:9
 returns : tie.Need-returns
-returns c = ?
+unfolding wordOf
+returns c = rw (c .if1 .taken) refl
 
 -- src/pcm.rt:51:9
 returns-2 : tie.Need-returns-2
-returns-2 c = ?
+unfolding wordOf
+returns-2 c = rw (c .before .if1 .left, lt-ltb _ _ (c .if2 .taken)) refl
 
 -- src/pcm.rt:53:5
 cast-result-2 : tie.Need-cast-result-2
@@ -30,7 +36,8 @@ cast-result-2 c = search needs
 
 -- src/pcm.rt:43:1
 returns-3 : tie.Need-returns-3
-returns-3 c = ?
+unfolding wordOf
+returns-3 c = rw (c .before .if1 .left, le-ltb _ _ (c .if2 .left)) refl
 
 pub word-of-spec : {M : Type 1} → statement M
 word-of-spec =
