@@ -1,3 +1,4 @@
+pub mod PcmLaws
 pub mod FractionsLaws
 pub mod RefusalsLaws
 pub mod StreamsLaws

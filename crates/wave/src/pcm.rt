@@ -1,15 +1,13 @@
 // An output number k/2^23 to its 16-bit number, by the bits of its binary32.
-ghost use mathlib.Core.Bool.{Bool};
 ghost use mathlib.Core.Path.{_≡_};
 ghost use lib.Dec.{T};
-ghost use Prim.Native.Nat.{_≤_, _<_};
+ghost use Prim.Native.Nat.{_≤_};
 ghost use Rattle.arith.specs.Floors.{modZ};
 ghost use Rattle.wave.specs.Pcm.{isOutput, pcmOf};
 ghost use Rattle.wave.specs.Internal.Pcm.{isOutputBits, kBits, wordOf};
 
 // Whether bits without a sign are those of a whole k/2^23, at most 1.
 fn is_output_bits(size: u32) -> bool
-    requires { ⌜ size < 2147483648 ⌝ }
     ensures { λ r. ⌜ r ≡ isOutputBits size ⌝ }
 {
     if size == 0 {
