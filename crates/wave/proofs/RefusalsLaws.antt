@@ -18,7 +18,7 @@ use Rattle.wave.specs.Headings.{mostFrames, headingOf, headingNumber, he
 use Rattle.wave.specs.Pours.{isOther, isBroken, pouredOf, pourNumber, pouredInto}
 use Rattle.wave.specs.Recording.{recordingOf, writeNumber, recorded}
 use Rattle.wave.specs.Playback.{sameBytes, framesIn, isRecording, pcmsIn, readNumber, heardOf, replayed}
-use Rattle.wave.specs.Refusals.{HasOther, here, behind, Unfit, WriteNumbers, WriterNumbers, HeadNumbers, HeadingNumbers, PourNumbers, PouringNumbers, FileOf, ReadNumbers, ReaderNumbers, OneCount, RefusedWritesNothing, KeptBehind, DoneKeepsTheRest}
+use Rattle.wave.specs.Refusals.{HasOther, here, later, Unfit, WriteNumbers, WriterNumbers, HeadNumbers, HeadingNumbers, PourNumbers, PouringNumbers, FileOf, ReadNumbers, ReaderNumbers, OneCount, RefusedWritesNothing, KeptBehind, DoneKeepsTheRest}
 use Rattle.wave.proofs.FractionsLaws.{both, passed-is-output, output-passes}
 
 -- a flag is not both
@@ -44,7 +44,7 @@ has-other [] h = never h refl
 has-other (x ∷ xs) h = by (λ (g : anyOf isOther xs ≡ true). has-other xs g) (isOutput x) refl h
   where
     by : (anyOf isOther xs ≡ true → HasOther xs) → (b : Bool) → isOutput x ≡ b → (not b || anyOf isOther xs) ≡ true → HasOther (x ∷ xs)
-    by rest true e g = behind (rest g)
+    by rest true e g = later (rest g)
     by rest false e g = here (no-output x e)
 
 pub other-has : (xs : List Float) → HasOther xs → anyOf isOther xs ≡ true
@@ -53,7 +53,7 @@ other-has (x ∷ xs) (here f) = by (isOutput x) refl
     by : (b : Bool) → isOutput x ≡ b → (not b || anyOf isOther xs) ≡ true
     by true e = absurd (f (is-output x e))
     by false e = refl
-other-has (x ∷ xs) (behind h) = rw (other-has xs h) (or-yes (not (isOutput x)))
+other-has (x ∷ xs) (later h) = rw (other-has xs h) (or-yes (not (isOutput x)))
   where
     or-yes : (b : Bool) → (b || true) ≡ true
     or-yes true = refl

@@ -21,7 +21,7 @@ GivenIn number n case = (number ≡ n → case) × (case → number ≡ n)
 -- one of them is no output number
 pub data HasOther : List Float → Type 0 where
   here : {x : Float} {xs : List Float} → (AnOutput x → ⊥) → HasOther (x ∷ xs)
-  behind : {x : Float} {xs : List Float} → HasOther xs → HasOther (x ∷ xs)
+  later : {x : Float} {xs : List Float} → HasOther xs → HasOther (x ∷ xs)
 
 -- an odd count, or one that is no output number
 abbrev pub Unfit : List Float → Type 0
