@@ -16,6 +16,7 @@ pub mod NightExample
 pub mod Output
 pub mod Panel
 pub mod Pedal
+pub mod Recordings
 pub mod Runs
 pub mod Seats
 pub mod States

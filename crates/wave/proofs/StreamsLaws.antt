@@ -29,7 +29,7 @@ unfolding pouredOf
 poured-append [] ys = refl
 poured-append (x ∷ xs) ys = ap (λ (bs : List ℕ). pcmBytes x ++ bs) (poured-append xs ys)
 
-any-append : {A : Type 0} (p : A → Bool) (xs ys : List A) → anyOf p (xs ++ ys) ≡ (anyOf p xs || anyOf p ys)
+pub any-append : {A : Type 0} (p : A → Bool) (xs ys : List A) → anyOf p (xs ++ ys) ≡ (anyOf p xs || anyOf p ys)
 any-append p [] ys = refl
 any-append p (x ∷ xs) ys = ap (λ (b : Bool). p x || b) (any-append p xs ys) ∙ sym (or-assoc (p x) (anyOf p xs) (anyOf p ys))
 

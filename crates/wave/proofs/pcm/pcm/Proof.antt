@@ -26,7 +26,7 @@ word-of-requires c κs = search needs
 
 -- src/pcm.rt:67:1
 returns : tie.Need-returns
-returns c = 
+returns c =
     c .word-of .ensures
     ∙ ap (wordOf (leb 2147483648 (toBits binary32 (c .before .before .args .x)))) (c .before .k-of-bits .ensures .0)
     ∙ pcm-bits (c .before .before .args .x) (c .before .before .good .0 .1) (subst T (output-bits (c .before .before .args .x) (c .before .before .good .0 .1)) (c .before .before .pre))
