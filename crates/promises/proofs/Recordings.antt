@@ -29,7 +29,7 @@ use Rattle.wave.proofs.RefusalsLaws.{writer-numbers, fit-of}
 use Rattle.wave.proofs.StreamsLaws.{whole-of, any-append, file-is-stream, stream-is-file}
 use Rattle.promises.specs.Calls.{Call, does, next, run, written, framesOf, framesRun}
 use Rattle.promises.specs.Cuts.{ahead, Pieces, none, asks, refuses, piece, AllDone, numbersOf}
-use Rattle.promises.specs.Recordings.{RenderedIsFit, RunNumbers, RunIsRecorded, CutFile, Recut, ended, alike, recut, SameFile, AnyLengths, Shared, no-share, share, StreamedFile}
+use Rattle.promises.specs.Recordings.{RenderedIsFit, RunNumbers, RunIsRecorded, CutFile, Recut, at-end, alike, cut-anew, SameFile, AnyLengths, Shared, no-share, one-share, StreamedFile}
 use Rattle.promises.proofs.Cuts.{output-cut, played-cut, output-clock, played-clock, no-frames, done-frames, done-numbers, any-cut}
 use Rattle.promises.proofs.Demand1.{changes-nothing}
 use Rattle.promises.proofs.Output.{out-length, done-state, mixed-fraction}
@@ -235,11 +235,11 @@ numbers-append (x ∷ xs) ys e =
 
 recut-same : (xs ys : List Call) (e : Engine) → Recut xs ys e → (run xs e ≡ run ys e) × (numbersOf xs e ≡ numbersOf ys e)
 unfolding run numbersOf
-recut-same xs ys e ended = (refl, refl)
+recut-same xs ys e at-end = (refl, refl)
 recut-same xs ys e (alike {xs = us} {ys = vs} x r) =
     let rest = recut-same us vs (next x e) r in
     (rest .0, ap (λ (l : List Float). take (2 * framesOf x e) (written x e) ++ l) (rest .1))
-recut-same xs ys e (recut {ram} {rom} {ps} {qs} {xs = us} {ys = vs} {n} {m} {ns} {ms} p q a b h same r) =
+recut-same xs ys e (cut-anew {ram} {rom} {ps} {qs} {xs = us} {ys = vs} {n} {m} {ns} {ms} p q a b h same r) =
     let two = two-runs ram rom ps qs e (pieces ram rom ps n ns e p a h) (pieces ram rom qs m ms e q b h) same in
     let rest = recut-same us vs (run ps e) r in (
       run-append ps us e ∙ rest .0 ∙ ap (run vs) (two .0) ∙ sym (run-append qs vs e),
@@ -262,13 +262,13 @@ any-lengths xs ys e r =
 shared-numbers : (xs : List Call) (e : Engine) (ss : List Share) → Shared xs e ss → allNumbers ss ≡ numbersOf xs e
 unfolding numbersOf
 shared-numbers xs e ss no-share = refl
-shared-numbers xs e ss (share {xs = ys} {ss = ts} x out room r) =
+shared-numbers xs e ss (one-share {xs = ys} {ss = ts} x out room r) =
     ap (λ (l : List Float). take (2 * framesOf x e) (written x e) ++ l) (shared-numbers ys (next x e) ts r)
 
 -- each has an even count, and room
 shared-roomy : (xs : List Call) (e : Engine) (ss : List Share) → Shared xs e ss → AllRoomy ss
 shared-roomy xs e ss no-share = tt
-shared-roomy xs e ss (share {xs = ys} {ss = ts} x out room r) =
+shared-roomy xs e ss (one-share {xs = ys} {ss = ts} x out room r) =
     let l = call-fit x e .count in
     let even : length (take (2 * framesOf x e) (written x e)) % 2 ≡ 0 = omega arith in
     let fits : 2 * length (take (2 * framesOf x e) (written x e)) ≤ length out = omega arith in

@@ -47,9 +47,9 @@ CutFile =
 -- two runs of calls that differ only in how their renders are cut: the same calls; or pieces of as many frames, one or more of them and each done, with what `Pieces` allows
 -- between them. (A clock has 32 bits.)
 pub data Recut : List Call → List Call → Engine → Type 0 where
-  ended : {e : Engine} → Recut [] [] e
+  at-end : {e : Engine} → Recut [] [] e
   alike : {xs ys : List Call} {e : Engine} (x : Call) → Recut xs ys (next x e) → Recut (x ∷ xs) (x ∷ ys) e
-  recut : {ram rom : List ℤ} {ps qs xs ys : List Call} {n m : ℕ} {ns ms : List ℕ} {e : Engine}
+  cut-anew : {ram rom : List ℤ} {ps qs xs ys : List Call} {n m : ℕ} {ns ms : List ℕ} {e : Engine}
       (p : Pieces ram rom ps (n ∷ ns) e) (q : Pieces ram rom qs (m ∷ ms) e) → AllDone p → AllDone q
       → e .clock < 4294967296 → framesRun ps e ≡ framesRun qs e → Recut xs ys (run ps e)
       → Recut (ps ++ xs) (qs ++ ys) e
@@ -70,7 +70,7 @@ AnyLengths = (xs ys : List Call) (e : Engine) → Recut xs ys e → SameFile xs 
 -- for each call of a run a share: the numbers that it renders, and an output with room for their bytes
 pub data Shared : List Call → Engine → List Share → Type 0 where
   no-share : {e : Engine} → Shared [] e []
-  share : {xs : List Call} {e : Engine} {ss : List Share} (x : Call) (out : List ℕ) → 4 * framesOf x e ≤ length out
+  one-share : {xs : List Call} {e : Engine} {ss : List Share} (x : Call) (out : List ℕ) → 4 * framesOf x e ≤ length out
       → Shared xs (next x e) ss
       → Shared (x ∷ xs) e (record { numbers = take (2 * framesOf x e) (written x e); out = out } ∷ ss)
 
