@@ -11,9 +11,10 @@ use lib.Dec.{T, ltb, leb→le, le→leb, lit≤}
 use lib.Ieee.{Float, nan, inf, fin, up, down}
 use lib.Ieee.Exact.{HasValue}
 use lib.IntN.{ℤ, pos, negsuc, natAbs}
-use lib.ListN.{length, take, drop, length-append, length-drop, length-map}
+use lib.ListN.{length, take, drop, getD, length-append, length-map, List·getD-append, List·getD-map}
 use lib.Signed.{ltZ, _≤ℤ_}
-use lib.Seq.{take-at, drop-at}
+use lib.Seq.{take-at, drop-at, getD-append-add}
+use Rattle.arith.specs.Bytes.{u8At, u16At, i16At}
 use mir.Syntax.{w16}
 use mir.Val.{toZ}
 use Rattle.arith.specs.Floats.{isNeg}
@@ -26,9 +27,9 @@ use Rattle.wave.specs.Headings.{headingOf, inTwo, inFour, mostFrames}
 use Rattle.wave.specs.Pours.{isOther, isBroken, pouredOf, pcmBytes}
 use Rattle.wave.specs.Recording.{recordingOf, writeNumber, recorded}
 use Rattle.wave.specs.Playback.{framesIn, isRecording, pcmsIn, readNumber, heardOf, replayed}
-use Rattle.wave.specs.Fractions.{OutputAt}
+use Rattle.wave.specs.Fractions.{OutputAt, FloorHeld}
 use Rattle.wave.specs.Refusals.{FileOf}
-use Rattle.wave.specs.Returned.{AreBytes, fileIn, numbersIn, FileIsBytes, ReadIsWritten, WrittenIsRead, WrittenAgain}
+use Rattle.wave.specs.Returned.{AreBytes, fileIn, numbersIn, FileIsBytes, FileHoldsFloors, ReadIsWritten, ReadsEach, WrittenIsRead, WrittenAgain}
 use Rattle.wave.proofs.FractionsLaws.{passed-is-output, output-passes, pcm-is-floor, number-is-exact}
 use Rattle.wave.proofs.RefusalsLaws.{head-length, even-of, write-0, write-room, recorded-0, replayed-0, read-0, is-file, file-of, frames-of, counted, reader-numbers, poured-length, pcms-length, recording-length}
 use Rattle.wave.proofs.StreamsLaws.{file-written, whole-of, clean-of}
@@ -175,6 +176,60 @@ read-is-written xs out room h l =
       ap (λ (file : List ℕ). replayed file room) w ∙ replayed-of (recordingOf xs) room (length xs / 2) f (omega arith)
           ∙ ap₂ (λ (vs : List ℤ) (m : ℕ). vs ++ drop m room) (read-poured xs (clean-of xs (d .0))) twice,
     )
+
+-- ---- number by number
+
+-- number i of some bytes
+pcms-at : (n i : ℕ) (bytes : List ℕ) (past : ℤ) → length bytes ≡ 2 * n → i < n
+    → getD (pcmsIn bytes) i past ≡ toZ w16 (getD bytes (2 * i) 0 + getD bytes (2 * i + 1) 0 * 256)
+unfolding pcmsIn
+pcms-at n i [] past l h = absurd (omega arith)
+pcms-at n i (low ∷ []) past l h = absurd (omega arith)
+pcms-at n zero (low ∷ high ∷ bytes) past l h = refl
+pcms-at zero (suc i) (low ∷ high ∷ bytes) past l h = absurd (omega arith)
+pcms-at (suc n) (suc i) (low ∷ high ∷ bytes) past l h =
+    let a : 2 * suc i ≡ suc (suc (2 * i)) = omega arith in
+    let b : 2 * suc i + 1 ≡ suc (suc (2 * i + 1)) = omega arith in
+    rw (b, a) (pcms-at n i bytes past (omega arith) (omega arith))
+
+-- .. behind a heading
+behind-head : (frames i : ℕ) (body : List ℕ) → i16At (headingOf frames ++ body) (44 + 2 * i) ≡ toZ w16 (getD body (2 * i) 0 + getD body (2 * i + 1) 0 * 256)
+unfolding i16At u16At u8At
+behind-head frames i body =
+    let l = head-length frames in
+    let at : (j : ℕ) → getD (headingOf frames ++ body) (44 + j) 0 ≡ getD body j 0 =
+    λ j. subst (λ (m : ℕ). getD (headingOf frames ++ body) (m + j) 0 ≡ getD body j 0) l (getD-append-add (headingOf frames) body j 0)
+    in
+    let one : 44 + 2 * i + 1 ≡ 44 + (2 * i + 1) = omega arith in
+    ap (toZ w16) (ap₂ (λ (a b : ℕ). a + b * 256) (at (2 * i)) (ap (λ (m : ℕ). getD (headingOf frames ++ body) m 0) one ∙ at (2 * i + 1)))
+
+pub reads-each : ReadsEach
+reads-each file out i past r h =
+    let d = reader-numbers file (length out) .done .0 r in
+    let n = d .0 in
+    let f = d .1 .0 in
+    let c = counted file (length out) n f (d .1 .1) in
+    let l = f .long in
+    let long : length (f .body) ≡ 2 * (2 * n) = omega arith in
+    let few : i < length (pcmsIn (f .body)) = let m = pcms-length (2 * n) (f .body) long in omega arith in
+    ap (λ (os : List ℤ). getD os i past) (replayed-of file out n f (d .1 .1))
+    ∙ List·getD-append (pcmsIn (f .body)) (drop (2 * n) out) past i few
+    ∙ pcms-at (2 * n) i (f .body) past long (omega arith)
+    ∙ sym (behind-head n i (f .body)) ∙ ap (λ (b : List ℕ). i16At b (44 + 2 * i)) (sym (f .whole))
+
+pub file-holds-floors : FileHoldsFloors
+unfolding recordingOf pcmOf
+file-holds-floors xs out i past k h l o =
+    let d = write-room xs (length out) h in
+    let p = output-passes (getD xs i past) k o in
+    let here : i16At (fileIn xs out) (44 + 2 * i) ≡ pcmOfK k =
+    ap (λ (b : List ℕ). i16At b (44 + 2 * i)) (file-written xs out h)
+    ∙ behind-head (length xs / 2) i (pouredOf xs)
+    ∙ sym (pcms-at (length xs) i (pouredOf xs) (pcmOf past) (poured-length xs) l)
+    ∙ ap (λ (vs : List ℤ). getD vs i (pcmOf past)) (read-poured xs (clean-of xs (d .0)))
+    ∙ List·getD-map pcmOf xs i past ∙ ap pcmOfK (p .1)
+    in
+    subst (FloorHeld k) (sym here) (pcm-is-floor k (o .small))
 
 -- ---- writing what was read
 
