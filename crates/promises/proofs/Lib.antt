@@ -17,6 +17,7 @@ pub mod Output
 pub mod Panel
 pub mod Pedal
 pub mod Recordings
+pub mod RecordingsExample
 pub mod Runs
 pub mod Seats
 pub mod States

@@ -1,13 +1,13 @@
 -- The file of a run of calls: its numbers are output numbers, and it is the same however the renders are cut.
 use Prim.Native.Nat.{ℕ, zero, suc, _≤_, _<_, _+_, _*_, _/_, _%_}
-use mathlib.Core.Bool.{Bool, true, false, cond, not, _||_}
+use mathlib.Core.Bool.{Bool, true, false, cond, _||_}
 use mathlib.Core.Path.{_≡_, refl, ap, ap₂, sym, _∙_, subst}
 use mathlib.Core.List.{List, [], _∷_, _++_, append-assoc, append-nil}
-use mathlib.Core.Logic.{_⊎_, inl, inr}
+use mathlib.Core.Logic.{inr}
 use native.Mathlib.Nat.{add-zero}
 use native.Mathlib.Omega.{arith}
 use borrow.Author.Tests.{eqb-true}
-use lib.Dec.{T, eqb}
+use lib.Dec.{eqb}
 use lib.IntN.{ℤ}
 use lib.ListN.{length, take, length-append}
 use lib.Ieee.{Float}
@@ -18,18 +18,16 @@ use Rattle.engine.specs.Mixer.{mixed}
 use Rattle.engine.specs.Rendering.{distance, leftSum, rightSum, output, played}
 use Rattle.engine.proofs.RenderingLaws.{clock-there}
 use Rattle.wave.specs.Pcm.{isOutput}
-use Rattle.wave.specs.Headings.{mostFrames, headingNumber, headed}
 use Rattle.wave.specs.Pours.{isOther, isBroken}
 use Rattle.wave.specs.Recording.{recordingOf, writeNumber, recorded}
-use Rattle.wave.specs.Refusals.{Unfit}
 use Rattle.wave.specs.Returned.{fileIn}
-use Rattle.wave.specs.Streams.{Share, AllRoomy, AllPoured, allNumbers, pouredBytes}
+use Rattle.wave.specs.Streams.{Share, AllRoomy, allNumbers}
 use Rattle.wave.proofs.FractionsLaws.{output-passes}
 use Rattle.wave.proofs.RefusalsLaws.{writer-numbers, fit-of}
 use Rattle.wave.proofs.StreamsLaws.{whole-of, any-append, file-is-stream, stream-is-file}
 use Rattle.promises.specs.Calls.{Call, does, next, run, written, framesOf, framesRun}
 use Rattle.promises.specs.Cuts.{ahead, Pieces, none, asks, refuses, piece, AllDone, numbersOf}
-use Rattle.promises.specs.Recordings.{RenderedIsFit, RunNumbers, RunIsRecorded, CutFile, Recut, at-end, alike, cut-anew, SameFile, AnyLengths, Shared, no-share, one-share, StreamedFile}
+use Rattle.promises.specs.Recordings.{RenderedIsFit, RunIsRecorded, CutFile, Recut, at-end, alike, cut-anew, AnyLengths, Shared, no-share, one-share, StreamedFile}
 use Rattle.promises.proofs.Cuts.{output-cut, played-cut, output-clock, played-clock, no-frames, done-frames, done-numbers, any-cut}
 use Rattle.promises.proofs.Demand1.{changes-nothing}
 use Rattle.promises.proofs.Output.{out-length, done-state, mixed-fraction}

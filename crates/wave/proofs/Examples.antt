@@ -1,19 +1,18 @@
 -- Examples, computed: a file of one frame, k = -257 on the left and k = 8,388,608 on the right; and each refusal.
-use mathlib.Core.Bool.{true, false, not, _||_}
+use mathlib.Core.Bool.{true, false}
 use mathlib.Core.List.{List, [], _∷_, _++_}
 use mathlib.Core.Path.{_≡_, refl}
-use Prim.Native.Nat.{ℕ, zero, suc, _*_, _/_, _%_, _<_}
+use Prim.Native.Nat.{ℕ, zero, suc, _*_, _<_}
 use native.Mathlib.Omega.{arith}
 use lib.Ieee.{Float, nan, inf, fin}
-use lib.IntN.{ℤ, pos, negsuc}
-use lib.ListN.{length, take, drop, replicate, length-replicate}
-use mir.Syntax.{w16}
+use lib.IntN.{pos, negsuc}
+use lib.ListN.{take, drop, replicate, length-replicate}
 use Rattle.arith.specs.Floors.{modZ}
 use Rattle.arith.specs.Lists.{anyOf}
 use Rattle.wave.specs.Pcm.{isOutput, kOf, pcmOfK, pcmOf}
-use Rattle.wave.specs.Headings.{headingOf, mostFrames, headingNumber, headed}
+use Rattle.wave.specs.Headings.{headingOf, mostFrames, headingNumber}
 use Rattle.wave.specs.Pours.{isOther, isBroken, pouredOf, pourNumber, pouredInto}
-use Rattle.wave.specs.Recording.{recordingOf, writeNumber, recorded}
+use Rattle.wave.specs.Recording.{recordingOf, writeNumber}
 use Rattle.wave.specs.Playback.{sameBytes, isRecording, pcmsIn, readNumber, heardOf, replayed}
 use Rattle.wave.proofs.RefusalsLaws.{write-14}
 use Rattle.wave.proofs.StreamsLaws.{whole-of}

@@ -2,23 +2,20 @@
 use mathlib.Core.Bool.{Bool, true, false, cond, _&&_}
 use mathlib.Core.Logic.{_⊎_, inl, inr}
 use mathlib.Core.Path.{_≡_, refl, ap, sym, _∙_, subst}
-use Prim.Native.Nat.{ℕ, zero, suc, _+_, _*_, _/_, _%_, _<_, _≤_}
+use Prim.Native.Nat.{ℕ, zero, suc, _+_, _*_, _/_, _%_, _≤_}
 use native.Mathlib.Nat.{div-add-mod', div-le-of-le-mul, le-of-mul-le-mul-right, le-of-eq, le-trans, mul-comm, mul-div-cancel, mul-le-mul-right, mul-mod-left, add-zero}
 use native.Mathlib.Omega.{arith}
 use borrow.Author.Tests.{eqb-true, leb-true, eq-eqb, le-leb, ltb-true, ltb-false}
 use lib.Dec.{T, eqb, leb, ltb, le→leb, lit≤, lit<}
-use lib.Ieee.{Float, nan, inf, fin, up, down}
-use lib.Ieee.Exact.{HasValue}
+use lib.Ieee.{nan, inf, fin, up, down}
 use lib.Ieee.Fits.{down-pos}
 use lib.IntN.{ℤ, pos, negsuc, negℤ, natAbs}
-use lib.Signed.{_≤ℤ_, _<ℤ_, leZ-yes}
+use lib.Signed.{leZ-yes}
 use Rattle.arith.specs.Floats.{isNeg}
-use Rattle.arith.specs.Floors.{floorZ}
-use Rattle.arith.specs.Within.{Within}
 use Rattle.arith.proofs.FloatsLaws.{round-down}
 use Rattle.arith.proofs.FloorsLaws.{floor-low, floor-high}
 use Rattle.wave.specs.Pcm.{isOutput, kOf, pcmOfK, numberOf}
-use Rattle.wave.specs.Fractions.{OutputAt, PassedIsOutput, OutputPasses, FloorHeld, PcmIsFloor, NumberIsExact}
+use Rattle.wave.specs.Fractions.{PassedIsOutput, OutputPasses, FloorHeld, PcmIsFloor, NumberIsExact}
 
 -- both tests of a conjunction
 pub both : (a b : Bool) → (a && b) ≡ true → (a ≡ true) × (b ≡ true)

@@ -1,37 +1,36 @@
 -- Reading what was written, and writing what was read.
-use mathlib.Core.Bool.{Bool, true, false, cond, not, _||_}
+use mathlib.Core.Bool.{Bool, true, false, not, _||_}
 use mathlib.Core.List.{List, [], _∷_, _++_, map}
-use mathlib.Core.Logic.{_⊎_, inl, inr}
+use mathlib.Core.Logic.{inr}
 use mathlib.Core.Path.{_≡_, refl, ap, ap₂, sym, _∙_, subst}
 use Prim.Native.Nat.{ℕ, zero, suc, _+_, _-_, _*_, _/_, _%_, _<_, _≤_}
-use native.Mathlib.Nat.{mul-assoc, mul-right-comm, mod-eq-of-lt, le-trans}
+use native.Mathlib.Nat.{mul-assoc, mul-right-comm, mod-eq-of-lt}
 use native.Mathlib.Omega.{arith}
-use borrow.Author.Tests.{eq-eqb, lt-ltb, le-ltb, ltb-true, ltb-false, not-false}
-use lib.Dec.{T, ltb, leb→le, le→leb, lit≤}
+use borrow.Author.Tests.{lt-ltb, le-ltb, ltb-true, ltb-false}
+use lib.Dec.{T, ltb, leb→le}
 use lib.Ieee.{Float, nan, inf, fin, up, down}
 use lib.Ieee.Exact.{HasValue}
 use lib.IntN.{ℤ, pos, negsuc, natAbs}
 use lib.ListN.{length, take, drop, getD, length-append, length-map, List·getD-append, List·getD-map}
-use lib.Signed.{ltZ, _≤ℤ_}
+use lib.Signed.{_≤ℤ_}
 use lib.Seq.{take-at, drop-at, getD-append-add}
 use Rattle.arith.specs.Bytes.{u8At, u16At, i16At}
 use mir.Syntax.{w16}
 use mir.Val.{toZ}
 use Rattle.arith.specs.Floats.{isNeg}
-use Rattle.arith.specs.Floors.{floorZ, modZ}
+use Rattle.arith.specs.Floors.{modZ}
 use Rattle.arith.specs.Lists.{anyOf}
-use Rattle.arith.specs.Within.{Within}
 use Rattle.wave.specs.declared.Heard.{Heard}
 use Rattle.wave.specs.Pcm.{isOutput, kOf, pcmOfK, pcmOf, numberOf}
 use Rattle.wave.specs.Headings.{headingOf, inTwo, inFour, mostFrames}
-use Rattle.wave.specs.Pours.{isOther, isBroken, pouredOf, pcmBytes}
+use Rattle.wave.specs.Pours.{isOther, isBroken, pouredOf}
 use Rattle.wave.specs.Recording.{recordingOf, writeNumber, recorded}
-use Rattle.wave.specs.Playback.{framesIn, isRecording, pcmsIn, readNumber, heardOf, replayed}
+use Rattle.wave.specs.Playback.{pcmsIn, heardOf, replayed}
 use Rattle.wave.specs.Fractions.{OutputAt, FloorHeld}
 use Rattle.wave.specs.Refusals.{FileOf}
 use Rattle.wave.specs.Returned.{AreBytes, fileIn, numbersIn, FileIsBytes, FileHoldsFloors, ReadIsWritten, ReadsEach, WrittenIsRead, WrittenAgain}
 use Rattle.wave.proofs.FractionsLaws.{passed-is-output, output-passes, pcm-is-floor, number-is-exact}
-use Rattle.wave.proofs.RefusalsLaws.{head-length, even-of, write-0, write-room, recorded-0, replayed-0, read-0, is-file, file-of, frames-of, counted, reader-numbers, poured-length, pcms-length, recording-length}
+use Rattle.wave.proofs.RefusalsLaws.{head-length, even-of, write-0, write-room, recorded-0, replayed-0, read-0, is-file, frames-of, counted, reader-numbers, poured-length, pcms-length, recording-length}
 use Rattle.wave.proofs.StreamsLaws.{file-written, whole-of, clean-of}
 
 -- ---- bytes

@@ -1,8 +1,8 @@
 -- A heading and pours, one behind the other, are the writer's file.
 use mathlib.Core.Bool.{Bool, true, false, _||_, or-assoc}
-use mathlib.Core.List.{List, [], _∷_, _++_, append-assoc}
+use mathlib.Core.List.{List, [], _∷_, _++_}
 use mathlib.Core.Path.{_≡_, refl, ap, ap₂, sym, _∙_, subst}
-use Prim.Native.Nat.{ℕ, _+_, _*_, _/_, _%_, _≤_}
+use Prim.Native.Nat.{ℕ, _+_, _*_, _/_, _%_}
 use native.Mathlib.Omega.{arith}
 use borrow.Author.Tests.{ne-eqb}
 use lib.Dec.{T, eqb}
@@ -10,9 +10,9 @@ use lib.Ieee.{Float}
 use lib.ListN.{length, take, drop, length-append}
 use lib.Seq.{take-at}
 use Rattle.arith.specs.Lists.{anyOf}
-use Rattle.wave.specs.Headings.{headingOf, headingNumber, headed, mostFrames}
-use Rattle.wave.specs.Pours.{isOther, isBroken, pouredOf, pcmBytes, pourNumber, pouredInto}
-use Rattle.wave.specs.Recording.{recordingOf, writeNumber, recorded}
+use Rattle.wave.specs.Headings.{headingOf, headingNumber, headed}
+use Rattle.wave.specs.Pours.{isOther, isBroken, pouredOf, pcmBytes}
+use Rattle.wave.specs.Recording.{recordingOf, writeNumber}
 use Rattle.wave.specs.Returned.{fileIn}
 use Rattle.wave.specs.Streams.{Share, allNumbers, pouredBytes, AllPoured, AllRoomy, StreamIsFile, FileIsStream}
 use Rattle.wave.proofs.RefusalsLaws.{head-length, even-of, heading-numbers, write-0, pour-0, head-0, write-room, pour-room, headed-0, poured-0, recorded-0, poured-length, recording-length}
