@@ -13,11 +13,11 @@ pub mod Kept
 pub mod Moments
 pub mod Night
 pub mod NightExample
+pub mod OneFile
+pub mod OneFileExample
 pub mod Output
 pub mod Panel
 pub mod Pedal
-pub mod Recordings
-pub mod RecordingsExample
 pub mod Runs
 pub mod Seats
 pub mod States

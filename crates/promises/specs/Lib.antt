@@ -10,5 +10,5 @@ pub mod Panel
 pub mod Controls
 pub mod Demand3
 pub mod States
-pub mod Recordings
+pub mod OneFile
 pub mod Determined

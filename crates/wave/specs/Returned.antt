@@ -6,7 +6,6 @@ use lib.Ieee.{Float}
 use lib.IntN.{ℤ}
 use lib.ListN.{length, take, drop, getD}
 use Rattle.arith.specs.Bytes.{i16At}
-use Rattle.wave.specs.declared.Heard.{Heard}
 use Rattle.wave.specs.Fractions.{OutputAt, FloorHeld}
 use Rattle.wave.specs.Pcm.{pcmOf, numberOf}
 use Rattle.wave.specs.Playback.{readNumber, heardOf, replayed}

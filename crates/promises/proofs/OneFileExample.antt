@@ -7,9 +7,9 @@ use lib.Ieee.{nan}
 use lib.ListN.{replicate}
 use Rattle.promises.specs.Calls.{Call, Render, Ask, run, framesRun}
 use Rattle.promises.specs.Cuts.{Pieces, none, asks, piece, numbersOf}
-use Rattle.promises.specs.Recordings.{Recut, at-end, cut-anew}
+use Rattle.promises.specs.OneFile.{Recut, at-end, cut-anew}
 use Rattle.promises.proofs.Demand3Example.{ram, struckBell}
-use Rattle.promises.proofs.Recordings.{any-lengths}
+use Rattle.promises.proofs.OneFile.{any-lengths}
 use Rattle.curves.specs.Levels as CurvesLevels
 use Rattle.curves.specs.Times as CurvesTimes
 use Rattle.curves.specs.Pitch as CurvesPitch

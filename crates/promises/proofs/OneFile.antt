@@ -27,7 +27,7 @@ use Rattle.wave.proofs.RefusalsLaws.{writer-numbers, fit-of}
 use Rattle.wave.proofs.StreamsLaws.{whole-of, any-append, file-is-stream, stream-is-file}
 use Rattle.promises.specs.Calls.{Call, does, next, run, written, framesOf, framesRun}
 use Rattle.promises.specs.Cuts.{ahead, Pieces, none, asks, refuses, piece, AllDone, numbersOf}
-use Rattle.promises.specs.Recordings.{RenderedIsFit, RunIsRecorded, CutFile, Recut, at-end, alike, cut-anew, AnyLengths, Shared, no-share, one-share, StreamedFile}
+use Rattle.promises.specs.OneFile.{RenderedIsFit, RunIsRecorded, CutFile, Recut, at-end, alike, cut-anew, AnyLengths, Shared, no-share, one-share, StreamedFile}
 use Rattle.promises.proofs.Cuts.{output-cut, played-cut, output-clock, played-clock, no-frames, done-frames, done-numbers, any-cut}
 use Rattle.promises.proofs.Demand1.{changes-nothing}
 use Rattle.promises.proofs.Output.{out-length, done-state, mixed-fraction}
