@@ -1,1 +1,3 @@
 pub mod PcmLaws
+pub mod PoursLaws
+pub mod PlaybackLaws

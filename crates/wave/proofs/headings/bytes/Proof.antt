@@ -1,3 +1,8 @@
+-- Each byte is the heading's; the lowest byte of a number is worth 1.
+use mathlib.Core.Path.{refl}
+use Prim.Native.Nat.{_+_, _*_}
+use native.Mathlib.Nat.{div-one}
+use Rattle.wave.specs.Headings.{headingOf}
 use borrow.Author.Needs.{needs}
 use Rattle.wave.proofs.headings.bytes.Statement.{statement}
 use Rattle.wave.proofs.headings.bytes.Tie as tie
@@ -47,7 +52,10 @@ byte-requires-8 c κs = search needs
 
 -- src/headings.rt:17:1
 returns : tie.Need-returns
-returns c = ?
+unfolding headingOf
+returns c = 
+    let n = c .before .before .before .before .before .before .before .before .args .frames in
+    rw (c .before .before .before .before .before .before .before .byte .ensures, c .before .before .before .before .before .before .byte2 .ensures, c .before .before .before .before .before .byte3 .ensures, c .before .before .before .before .byte4 .ensures, c .before .before .before .byte5 .ensures, c .before .before .byte6 .ensures, c .before .byte7 .ensures, c .byte8 .ensures, div-one (36 + 4 * n), div-one (4 * n)) refl
 
 pub bytes-spec : {M : Type 1} → statement M
 bytes-spec =

@@ -11,55 +11,55 @@ Inv-loop file out₀ count i₀ out i = ?
 abbrev μ-loop : tie.MeasureT-loop
 μ-loop file out₀ count i₀ out i = ?
 
--- src/playback.rt:49:18
+-- src/playback.rt:51:18
 sub-count : tie.Need-sub-count Inv-loop μ-loop
 sub-count c = ?
 
--- src/playback.rt:51:5
+-- src/playback.rt:53:5
 loop-holds : tie.Need-loop-holds Inv-loop μ-loop
 loop-holds c = ?
 
--- src/playback.rt:52:59
+-- src/playback.rt:54:59
 mul-u16-at : tie.Need-mul-u16-at Inv-loop μ-loop
 mul-u16-at c = ?
 
--- src/playback.rt:52:54
+-- src/playback.rt:54:54
 add-u16-at : tie.Need-add-u16-at Inv-loop μ-loop
 add-u16-at c = ?
 
--- src/playback.rt:52:34
+-- src/playback.rt:54:34
 u16-at-requires : tie.Need-u16-at-requires Inv-loop μ-loop
 u16-at-requires c κs = ?
 
--- src/playback.rt:52:18
+-- src/playback.rt:54:18
 signed16-requires : tie.Need-signed16-requires Inv-loop μ-loop
 signed16-requires c κs = ?
 
--- src/playback.rt:52:9
+-- src/playback.rt:54:9
 mul-t12 : tie.Need-mul-t12 Inv-loop μ-loop
 mul-t12 c = ?
 
--- src/playback.rt:52:9
+-- src/playback.rt:54:9
 slice-set-from-out : tie.Need-slice-set-from-out Inv-loop μ-loop
 slice-set-from-out c = ?
 
--- src/playback.rt:53:9
+-- src/playback.rt:55:9
 add-i : tie.Need-add-i Inv-loop μ-loop
 add-i c = ?
 
--- src/playback.rt:51:5
+-- src/playback.rt:53:5
 loop-less : tie.Need-loop-less Inv-loop μ-loop
 loop-less c = ?
 
--- src/playback.rt:51:5
+-- src/playback.rt:53:5
 loop-again : tie.Need-loop-again Inv-loop μ-loop
 loop-again c = ?
 
--- src/playback.rt:44:1
+-- src/playback.rt:46:1
 same-length : tie.Need-same-length Inv-loop μ-loop
 same-length c = ?
 
--- src/playback.rt:44:1
+-- src/playback.rt:46:1
 returns : tie.Need-returns Inv-loop μ-loop
 returns c = ?
 
