@@ -1,3 +1,4 @@
 pub mod PcmLaws
 pub mod PoursLaws
 pub mod PlaybackLaws
+pub mod RecordingLaws

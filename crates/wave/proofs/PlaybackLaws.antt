@@ -1,6 +1,7 @@
 -- Bytes that are the same, and the 16-bit numbers of bytes.
 use mathlib.Core.Path.{_≡_, refl, sym, ap, ap₂, _∙_, subst}
-use mathlib.Core.Bool.{Bool, true, false, _&&_}
+use borrow.Author.Tests.{eq-eqb, le-leb, le-ltb, lt-leb, lt-ltb, ne-eqb}
+use mathlib.Core.Bool.{Bool, true, false, _&&_, and-false}
 use mathlib.Core.List.{List, [], _∷_, _++_}
 use Prim.Native.Nat.{ℕ, zero, suc, _+_, _-_, _*_, _/_, _%_, _≤_, _<_}
 use native.Mathlib.Nat.{lt-irrefl, not-suc-le-zero}
@@ -15,8 +16,9 @@ use lib.Seq.{getD-drop, take-suc}
 use mir.Syntax.{w16}
 use mir.Val.{toZ}
 use Rattle.arith.specs.Bytes.{u8At, u16At}
+use Rattle.wave.specs.declared.Heard.{Heard}
 use Rattle.wave.specs.Headings.{headingOf, mostFrames}
-use Rattle.wave.specs.Playback.{framesIn, isRecording, pcmsIn, sameBytes}
+use Rattle.wave.specs.Playback.{framesIn, heardOf, isRecording, pcmsIn, readNumber, replayed, sameBytes}
 
 -- the same bytes at each place
 pub same-at : (xs ys : List ℕ) (i d : ℕ) → T (sameBytes xs ys) → getD xs i d ≡ getD ys i d
@@ -89,3 +91,44 @@ recording-frames file t =
 pub same-turn : (xs ys : List ℕ) (i : ℕ) → take i xs ≡ take i ys → getD xs i 0 ≡ getD ys i 0 → i < length xs → i < length ys → take (i + 1) xs ≡ take (i + 1) ys
 same-turn xs ys i e x h l =
     rw (add-one, take-suc xs i 0 h, take-suc ys i 0 l) (ap₂ (λ (t : List ℕ) (b : ℕ). t ++ (b ∷ [])) e x)
+
+-- ---- the tests of a file, one after the other
+
+not-such : (file : List ℕ) → (length file ≡ 44 + 4 * framesIn file → ⊥) → false ≡ isRecording file
+unfolding isRecording
+not-such file n = rw (ne-eqb _ _ n) refl
+
+pub too-short : (file : List ℕ) → length file < 44 → false ≡ isRecording file
+too-short file h = not-such file (λ e. lt-irrefl 0 (omega (arith, h, e)))
+
+pub part-of-a-frame : (file : List ℕ) → 44 ≤ length file → ((length file - 44) % 4 ≡ 0 → ⊥) → false ≡ isRecording file
+part-of-a-frame file h n = not-such file (λ e. n (omega (arith, h, e)))
+
+pub too-long : (file : List ℕ) → 1073741814 < framesIn file → false ≡ isRecording file
+unfolding isRecording
+too-long file h = rw (lt-leb _ _ h, and-false (eqb (length file) (44 + 4 * framesIn file))) refl
+
+pub by-heading : (file : List ℕ) → 44 ≤ length file → (length file - 44) % 4 ≡ 0 → framesIn file ≤ 1073741814
+    → sameBytes (take 44 file) (headingOf (framesIn file)) ≡ isRecording file
+unfolding isRecording
+by-heading file h z l =
+    let whole : length file ≡ 44 + 4 * framesIn file = omega (arith, h, z) in
+    rw (eq-eqb _ _ whole, le-leb _ _ l) refl
+
+-- ---- the answers of `read`
+
+pub read-other : (file : List ℕ) (out : List ℤ) → isRecording file ≡ false
+    → (record { number = 28; frames = 0 } ≡ heardOf file (length out)) × (out ≡ replayed file out)
+unfolding readNumber heardOf replayed
+read-other file out e = (rw e refl, rw e refl)
+
+pub read-short : (file : List ℕ) (out : List ℤ) → isRecording file ≡ true → length out < 2 * framesIn file
+    → (record { number = 15; frames = 0 } ≡ heardOf file (length out)) × (out ≡ replayed file out)
+unfolding readNumber heardOf replayed
+read-short file out e h = (rw (e, lt-ltb _ _ h) refl, rw (e, lt-ltb _ _ h) refl)
+
+pub read-done : (file : List ℕ) (out o : List ℤ) → isRecording file ≡ true → 2 * framesIn file ≤ length out
+    → o ≡ pcmsIn (drop 44 file) ++ drop (2 * framesIn file) out
+    → (record { number = 0; frames = framesIn file } ≡ heardOf file (length out)) × (o ≡ replayed file out)
+unfolding readNumber heardOf replayed
+read-done file out o e h q = (rw (e, le-ltb _ _ h) refl, rw (e, le-ltb _ _ h) q)

@@ -1,11 +1,13 @@
 -- Loops that fill a list from the front, and the bytes of numbers, one number more.
 use mathlib.Core.Path.{_≡_, refl, sym, ap, ap₂, _∙_, subst}
-use mathlib.Core.Bool.{Bool, true, false, not, _||_, or-true}
+use mathlib.Core.Bool.{Bool, true, false, not, _||_, or-true, true≢false}
+use mathlib.Core.Logic.{inl, inr}
 use mathlib.Core.List.{List, [], _∷_, _++_, append-assoc, append-nil}
 use Prim.Native.Nat.{ℕ, zero, suc, _+_, _*_, _/_, _%_, _≤_, _<_}
-use native.Mathlib.Nat.{add-zero, not-suc-le-zero, le-of-suc-le-suc, mod-eq-of-lt}
+use native.Mathlib.Nat.{add-zero, eq-zero-or-pos, zero-add, not-suc-le-zero, le-of-suc-le-suc, mod-eq-of-lt}
 use native.Mathlib.Numerals.{add-one}
 use native.Mathlib.Omega.{arith}
+use borrow.Author.Tests.{eqb-false, le-ltb, lt-ltb}
 use lib.Dec.{T, eqb}
 use lib.Ieee.{Float, nan}
 use lib.IntN.{ℤ, pos, negsuc}
@@ -17,7 +19,7 @@ use Rattle.arith.specs.Floors.{modZ}
 use Rattle.arith.specs.Lists.{anyOf}
 use Rattle.wave.specs.Headings.{inTwo}
 use Rattle.wave.specs.Pcm.{isOutput, pcmOf}
-use Rattle.wave.specs.Pours.{isBroken, isOther, pcmBytes, pouredOf}
+use Rattle.wave.specs.Pours.{isBroken, isOther, pcmBytes, pouredInto, pouredOf, pourNumber}
 
 -- a turn that copies one more element of xs to the front of d
 pub copy-turn : {A : Type 0} (xs d : List A) (i : ℕ) (z : A) → i < length xs → i < length d
@@ -120,3 +122,33 @@ other-at (x ∷ xs) (suc i) e h = ap (λ (b : Bool). isOther x || b) (other-at x
 -- a turn of the search: one output number more
 pub none-turn : (xs : List Float) (i : ℕ) → anyOf isOther (take i xs) ≡ false → isOutput (getD xs i nan) ≡ true → i < length xs → anyOf isOther (take (i + 1) xs) ≡ false
 none-turn xs i e o h = any-turn isOther xs i nan h ∙ ap₂ _||_ e (ap not o)
+
+-- ---- the answers of `pour`
+
+-- an even count, where nothing is broken
+pub even : (xs : List Float) → isBroken xs ≡ false → length xs % 2 ≡ 0
+unfolding isBroken
+even xs e = go (eqb (length xs % 2) 1) (eqb-false (length xs % 2) 1) e
+  where
+    go : (b : Bool) → (b ≡ false → length xs % 2 ≡ 1 → ⊥) → (b || anyOf isOther xs) ≡ false → length xs % 2 ≡ 0
+    go true n e = absurd (true≢false e)
+    go false n e = only (n refl)
+      where
+        only : (length xs % 2 ≡ 1 → ⊥) → length xs % 2 ≡ 0
+        only n = elim (eq-zero-or-pos (length xs % 2)) [
+          | inl z ↦ z
+          | inr p ↦ absurd (n (omega (arith, p)))
+        ]
+
+pub pour-broken : (xs : List Float) (out : List ℕ) → isBroken xs ≡ true → (13 ≡ pourNumber xs (length out)) × (out ≡ pouredInto xs out)
+unfolding pourNumber pouredInto
+pour-broken xs out e = (rw e refl, rw e refl)
+
+pub pour-short : (xs : List Float) (out : List ℕ) → isBroken xs ≡ false → length out < 2 * length xs → (15 ≡ pourNumber xs (length out)) × (out ≡ pouredInto xs out)
+unfolding pourNumber pouredInto
+pour-short xs out e h = (rw (e, lt-ltb _ _ h) refl, rw (e, lt-ltb _ _ h) refl)
+
+pub pour-done : (xs : List Float) (out o : List ℕ) → isBroken xs ≡ false → 2 * length xs ≤ length out
+    → o ≡ (take 0 out ++ pouredOf xs) ++ drop (0 + 2 * length xs) out → (0 ≡ pourNumber xs (length out)) × (o ≡ pouredInto xs out)
+unfolding pourNumber pouredInto
+pour-done xs out o e h q = (rw (e, le-ltb _ _ h) refl, rw (e, le-ltb _ _ h) (q ∙ ap (λ (k : ℕ). pouredOf xs ++ drop k out) (zero-add (2 * length xs))))

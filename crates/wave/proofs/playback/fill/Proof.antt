@@ -6,10 +6,10 @@ use Rattle.arith.proofs.signed16.Reads as signed16-reads
 use Rattle.arith.proofs.u16_at.Reads as u16-at-reads
 
 abbrev Inv-loop : tie.InvT-loop
-Inv-loop file out₀ count i₀ out i = ?
+Inv-loop file out₀ count i₀ out i = (i ≤ count) × (length out ≡ length out₀) × (out ≡ take i (pcmsIn (drop 44 file)) ++ drop i out₀)
 
 abbrev μ-loop : tie.MeasureT-loop
-μ-loop file out₀ count i₀ out i = ?
+μ-loop file out₀ count i₀ out i = count - i
 
 -- src/playback.rt:51:18
 sub-count : tie.Need-sub-count Inv-loop μ-loop
