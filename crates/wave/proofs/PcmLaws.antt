@@ -3,10 +3,10 @@ use mathlib.Core.Path.{_≡_, refl, sym, ap, ap₂, _∙_, subst}
 use mathlib.Core.Bool.{Bool, true, false, not, _&&_, cond, and-false, and-true, true≢false}
 use mathlib.Core.Logic.{_⊎_, inl, inr}
 use Prim.Native.Nat.{ℕ, zero, suc, _+_, _-_, _*_, _/_, _%_, _^_, _≤_, _<_}
-use native.Mathlib.Nat.{div-mul-le-self, lt-of-le-of-lt, eq-or-lt-of-le, eq-zero-or-pos, le-of-suc-le-suc, div-add-mod', dvd-iff-mod-eq-zero, eq-of-mul-eq-mul-right, le-of-eq, le-of-mul-le-mul-right, le-trans, lt-irrefl, lt-of-lt-of-le, mod-eq-of-lt, mul-assoc, mul-comm, mul-div-mul-right, mul-le-mul-left, mul-le-mul-right, mul-mod-left, mul-pos, mul-right-comm}
+use native.Mathlib.Nat.{div-mul-le-self, lt-of-le-of-lt, eq-or-lt-of-le, eq-zero-or-pos, le-of-suc-le-suc, div-add-mod', eq-of-mul-eq-mul-right, le-of-eq, le-of-mul-le-mul-right, le-trans, lt-irrefl, lt-of-lt-of-le, mod-eq-of-lt, mul-assoc, mul-comm, mul-div-mul-right, mul-le-mul-left, mul-le-mul-right, mul-mod-left, mul-pos, mul-right-comm}
 use native.Mathlib.Omega.{arith}
-use lib.Dec.{T, T-not, eqb, eqb→eq, leb, leb→le, le→leb, lt→ltb, ltb, ltb→lt, nltb→le, not-T, lit<, lit≤}
-use lib.IntN.{ℤ, pos, negsuc, negℤ}
+use lib.Dec.{T, T-not, eqb, eqb→eq, leb, leb→le, le→leb, ltb, ltb→lt, nltb→le, not-T, lit<, lit≤}
+use lib.IntN.{ℤ, pos, negℤ}
 use lib.Pow.{pow-add, pow-mono, pow-pos, shl-lt, shl-shr, shr-mono}
 use lib.Arith.{lt→nleb}
 use lib.Ieee.{Float, nan, inf, fin, binary32, up, down, odd, ofFields, ofBits, toBits, fits, isNan, ne}
@@ -32,7 +32,7 @@ whole-too u d a c K D e h =
     let q = u * K / d in
     let x : u * K ≡ q * d = (omega (arith, h, div-add-mod' (u * K) d)) in
     let y : q * c * d ≡ a * K * d =
-        mul-right-comm q c d ∙ ap (λ (z : ℕ). z * c) (sym x) ∙ mul-right-comm u K c ∙ ap (λ (z : ℕ). z * K) e ∙ mul-right-comm a d K in
+    mul-right-comm q c d ∙ ap (λ (z : ℕ). z * c) (sym x) ∙ mul-right-comm u K c ∙ ap (λ (z : ℕ). z * K) e ∙ mul-right-comm a d K in
     ap (λ (z : ℕ). z % c) (sym (eq-of-mul-eq-mul-right d D (q * c) (a * K) y)) ∙ mul-mod-left q c
 
 same-whole : (u d a c K : ℕ) → 0 < d → 0 < c → u * c ≡ a * d → eqb (u * K % d) 0 ≡ eqb (a * K % c) 0
@@ -129,15 +129,15 @@ no-tail : (n d : ℕ) → 0 < d → eqb (n * 8388608 % (d * 8388608)) 0 ≡ eqb 
 no-tail n d D =
     let q : n * 8388608 / (d * 8388608) ≡ n / d = mul-div-mul-right n d (lit< tt) in
     let whole : n / d * (d * 8388608) + n * 8388608 % (d * 8388608) ≡ n * 8388608 =
-        ap (λ (z : ℕ). z * (d * 8388608) + n * 8388608 % (d * 8388608)) (sym q) ∙ div-add-mod' (n * 8388608) (d * 8388608) in
+    ap (λ (z : ℕ). z * (d * 8388608) + n * 8388608 % (d * 8388608)) (sym q) ∙ div-add-mod' (n * 8388608) (d * 8388608) in
     let split : n / d * (d * 8388608) ≡ n / d * d * 8388608 = sym (mul-assoc (n / d) d 8388608) in
     same-test (eqb (n * 8388608 % (d * 8388608)) 0) (eqb (n / d * d) n)
     (λ t.
-      let zero-rest : n * 8388608 % (d * 8388608) ≡ 0 = eqb→eq (n * 8388608 % (d * 8388608)) 0 t in
-      eq→eqb {a = n / d * d} {b = n} (omega (arith, whole, split, zero-rest)))
+    let zero-rest : n * 8388608 % (d * 8388608) ≡ 0 = eqb→eq (n * 8388608 % (d * 8388608)) 0 t in
+    eq→eqb {a = n / d * d} {b = n} (omega (arith, whole, split, zero-rest)))
     (λ t.
-      let exact : n / d * d ≡ n = eqb→eq (n / d * d) n t in
-      eq→eqb {a = n * 8388608 % (d * 8388608)} {b = 0} (omega (arith, whole, split, exact)))
+    let exact : n / d * d ≡ n = eqb→eq (n / d * d) n t in
+    eq→eqb {a = n * 8388608 % (d * 8388608)} {b = 0} (omega (arith, whole, split, exact)))
 
 tail-output : (s : Bool) (x r t : ℕ) → x + r ≡ 126 → 8388608 + t ≤ 2 ^ r * 8388608
     → isOutput (ofFields binary32 s (suc x) t) ≡ eqb ((8388608 + t) / 2 ^ r * 2 ^ r) (8388608 + t)
@@ -208,8 +208,7 @@ tail-bits : (s : Bool) (f t : ℕ) → 104 ≤ f → t < 8388608 → f * 8388608
 tail-bits s zero t F L h = absurd (lt-irrefl 0 (omega (arith, F)))
 tail-bits s (suc x) t F L h =
     let whole : suc x + (127 - suc x) ≡ 127 = omega (arith, h) in
-    let r = 127 - suc x in
-    (
+    let r = 127 - suc x in (
       tail-output s x r t (omega (arith, whole)) (in-range (suc x) t r whole L h),
       tail-k s x r t (omega (arith, whole)),
     )

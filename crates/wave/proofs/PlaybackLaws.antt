@@ -8,15 +8,13 @@ use native.Mathlib.Nat.{lt-irrefl, not-suc-le-zero}
 use native.Mathlib.Numerals.{add-one}
 use native.Mathlib.Omega.{arith}
 use lib.Dec.{T, eqb, eqb→eq, eqb-refl, leb, leb→le}
-use lib.Ieee.Bits.{is-true}
 use lib.Ieee.Fits.{and-i, and-l, and-r}
-use lib.IntN.{ℤ, pos}
+use lib.IntN.{ℤ}
 use lib.ListN.{length, getD, take, drop, length-drop}
 use lib.Seq.{getD-drop, take-suc}
 use mir.Syntax.{w16}
 use mir.Val.{toZ}
 use Rattle.arith.specs.Bytes.{u8At, u16At}
-use Rattle.wave.specs.declared.Heard.{Heard}
 use Rattle.wave.specs.Headings.{headingOf, mostFrames}
 use Rattle.wave.specs.Playback.{framesIn, heardOf, isRecording, pcmsIn, readNumber, replayed, sameBytes}
 
@@ -132,3 +130,11 @@ pub read-done : (file : List ℕ) (out o : List ℤ) → isRecording file ≡ tr
     → (record { number = 0; frames = framesIn file } ≡ heardOf file (length out)) × (o ≡ replayed file out)
 unfolding readNumber heardOf replayed
 read-done file out o e h q = (rw (e, le-ltb _ _ h) refl, rw (e, le-ltb _ _ h) q)
+
+-- as many numbers as two for each frame
+pub recording-numbers : (file : List ℕ) → T (isRecording file) → (length file - 44) / 2 ≡ 2 * framesIn file
+recording-numbers file t = let whole = recording-length file t in omega (arith, whole)
+
+-- how many 16-bit numbers stand behind a heading
+pub numbers-length : (file : List ℕ) → length (pcmsIn (drop 44 file)) ≡ (length file - 44) / 2
+numbers-length file = pcms-length (drop 44 file) ∙ ap (λ (n : ℕ). n / 2) (length-drop 44 file)

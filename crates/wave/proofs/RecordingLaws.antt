@@ -62,6 +62,6 @@ pub write-room : (xs : List Float) (out o : List ℕ) → isBroken xs ≡ false 
     → o ≡ headingOf (length xs / 2) ++ drop 44 out → 44 + 2 * length xs ≤ length o
 write-room xs out o e s q =
     let whole : length o ≡ 44 + (length out - 44) =
-        ap length q ∙ length-append (headingOf (length xs / 2)) (drop 44 out) ∙ ap₂ _+_ (heading-length (length xs / 2)) (length-drop 44 out) in
+    ap length q ∙ length-append (headingOf (length xs / 2)) (drop 44 out) ∙ ap₂ _+_ (heading-length (length xs / 2)) (length-drop 44 out) in
     let four : 4 * (length xs / 2) ≡ 2 * length xs = four-a-frame xs e in
     omega (arith, whole, four, s)

@@ -10,8 +10,6 @@ use lib.Seq.{take-all}
 use Rattle.wave.proofs.PoursLaws.{copy-turn}
 use Rattle.wave.proofs.headings.put.Statement.{statement}
 use Rattle.wave.proofs.headings.put.Tie as tie
-use Rattle.wave.proofs.headings.put.Reads as reads
-use Rattle.wave.proofs.headings.put.Lts as lts
 
 abbrev Inv-loop : tie.InvT-loop
 Inv-loop head out₀ i₀ out i = (i ≤ 44) × (length out ≡ length out₀) × (out ≡ take i head ++ drop i out₀)
@@ -19,42 +17,33 @@ Inv-loop head out₀ i₀ out i = (i ≤ 44) × (length out ≡ length out₀) �
 abbrev μ-loop : tie.MeasureT-loop
 μ-loop head out₀ i₀ out i = 44 - i
 
--- src/headings.rt:78:5
 loop-holds : tie.Need-loop-holds Inv-loop μ-loop
 loop-holds c = (omega arith, refl, refl)
 
--- src/headings.rt:79:18
 shared-slice-read-out : tie.Need-shared-slice-read-out Inv-loop μ-loop
 shared-slice-read-out c = search needs
 
--- src/headings.rt:79:9
 slice-write-out : tie.Need-slice-write-out Inv-loop μ-loop
 slice-write-out c = search needs
 
--- src/headings.rt:80:9
 add-i : tie.Need-add-i Inv-loop μ-loop
 add-i c = search needs
 
--- src/headings.rt:78:5
 loop-less : tie.Need-loop-less Inv-loop μ-loop
 loop-less c = search needs
 
--- src/headings.rt:78:5
 loop-again : tie.Need-loop-again Inv-loop μ-loop
 loop-again c = let l = c .before .before in let s = l .before in let xs = s .args .head .now in let d = s .args .out .now in let i = l .loop .i in
-    let inside : i < 44 = omega arith in
-    (
+    let inside : i < 44 = omega arith in (
       omega arith,
       length-set (l .loop .out) i (getD xs i 0) ∙ l .loop .inv .1,
       ap (λ (o : List ℕ). set o i (getD xs i 0)) (l .loop .inv .2)
-      ∙ copy-turn xs d i 0 (omega (arith, inside, s .pre .0)) (omega (arith, inside, s .pre .1)),
+          ∙ copy-turn xs d i 0 (omega (arith, inside, s .pre .0)) (omega (arith, inside, s .pre .1)),
     )
 
--- src/headings.rt:72:1
 same-length : tie.Need-same-length Inv-loop μ-loop
 same-length c = c .before .loop .inv .1
 
--- src/headings.rt:72:1
 returns : tie.Need-returns Inv-loop μ-loop
 returns c = let l = c .before in let s = l .before in let xs = s .args .head .now in
     let i44 : l .loop .i ≡ 44 = omega arith in

@@ -13,8 +13,6 @@ use Rattle.wave.specs.Playback.{sameBytes}
 use Rattle.wave.proofs.PlaybackLaws.{differ-at, same-self, same-turn}
 use Rattle.wave.proofs.playback.begins.Statement.{statement}
 use Rattle.wave.proofs.playback.begins.Tie as tie
-use Rattle.wave.proofs.playback.begins.Reads as reads
-use Rattle.wave.proofs.playback.begins.Lts as lts
 
 abbrev Inv-loop : tie.InvT-loop
 Inv-loop file head i₀ i = (i ≤ 44) × (take i file ≡ take i head)
@@ -22,39 +20,31 @@ Inv-loop file head i₀ i = (i ≤ 44) × (take i file ≡ take i head)
 abbrev μ-loop : tie.MeasureT-loop
 μ-loop file head i₀ i = 44 - i
 
--- src/playback.rt:18:5
 loop-holds : tie.Need-loop-holds Inv-loop μ-loop
 loop-holds c = (omega arith, refl)
 
--- src/playback.rt:19:12
 shared-slice-read-if1 : tie.Need-shared-slice-read-if1 Inv-loop μ-loop
 shared-slice-read-if1 c = search needs
 
--- src/playback.rt:19:23
 shared-slice-read-if1-2 : tie.Need-shared-slice-read-if1-2 Inv-loop μ-loop
 shared-slice-read-if1-2 c = search needs
 
--- src/playback.rt:20:13
 returns : tie.Need-returns Inv-loop μ-loop
 returns c = let l = c .before .before .before .before in let s = l .before in let i = l .loop .i in
     let inside : i < 44 = omega arith in
     differ-at (take 44 (s .args .file .now)) (s .args .head .now) i 0 (λ e. c .if1 .taken (sym (getD-take 44 (s .args .file .now) i 0 inside) ∙ e))
 
--- src/playback.rt:22:9
 add-i : tie.Need-add-i Inv-loop μ-loop
 add-i c = search needs
 
--- src/playback.rt:18:5
 loop-less : tie.Need-loop-less Inv-loop μ-loop
 loop-less c = search needs
 
--- src/playback.rt:18:5
 loop-again : tie.Need-loop-again Inv-loop μ-loop
 loop-again c = let l = c .before .before .before .before in let s = l .before in let i = l .loop .i in
     let inside : i < 44 = omega arith in
     (omega arith, same-turn (s .args .file .now) (s .args .head .now) i (l .loop .inv .1) (c .if1 .left) (omega (arith, inside, s .pre .1)) (omega (arith, inside, s .pre .0)))
 
--- src/playback.rt:12:1
 returns-2 : tie.Need-returns-2 Inv-loop μ-loop
 returns-2 c = let l = c .before in let s = l .before in let xs = s .args .file .now in let ys = s .args .head .now in
     let i44 : l .loop .i ≡ 44 = omega arith in

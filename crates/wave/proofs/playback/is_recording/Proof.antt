@@ -6,40 +6,28 @@ use Rattle.wave.proofs.PlaybackLaws.{by-heading, part-of-a-frame, too-l
 use borrow.Author.Needs.{needs}
 use Rattle.wave.proofs.playback.is_recording.Statement.{statement}
 use Rattle.wave.proofs.playback.is_recording.Tie as tie
-use Rattle.wave.proofs.playback.is_recording.Reads as reads
-use Rattle.wave.proofs.playback.is_recording.Lts as lts
-use Rattle.wave.proofs.headings.bytes.Reads as bytes-reads
-use Rattle.wave.proofs.playback.begins.Reads as begins-reads
 
--- src/playback.rt:32:9
 returns : tie.Need-returns
 returns c = too-short (c .before .before .args .file .now) (c .if1 .taken)
 
--- src/playback.rt:34:16
 sub-data : tie.Need-sub-data
 sub-data c = search needs
 
--- src/playback.rt:36:9
 returns-2 : tie.Need-returns-2
 returns-2 c = part-of-a-frame (c .before .before .before .args .file .now) (c .before .if1 .left) (c .if2 .taken)
 
--- src/playback.rt:39:9
 returns-3 : tie.Need-returns-3
 returns-3 c = too-long (c .before .before .before .before .args .file .now) (c .if3 .taken)
 
--- src/playback.rt:41:16
 bytes-requires : tie.Need-bytes-requires
 bytes-requires c κs = search needs
 
--- src/playback.rt:42:18
 slice-aggregate-begins : tie.Need-slice-aggregate-begins
 slice-aggregate-begins c = search needs
 
--- src/playback.rt:42:5
 begins-requires : tie.Need-begins-requires
 begins-requires c κs = search needs
 
--- src/playback.rt:28:1
 returns-4 : tie.Need-returns-4
 returns-4 c = let e = c .before .before .before in let file = e .before .before .before .before .args .file .now in
     c .begins .ensures ∙ ap (sameBytes (take 44 file)) (c .before .before .bytes .ensures)

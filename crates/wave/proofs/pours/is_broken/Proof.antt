@@ -5,20 +5,14 @@ use Rattle.wave.specs.Pours.{isBroken}
 use borrow.Author.Needs.{needs}
 use Rattle.wave.proofs.pours.is_broken.Statement.{statement}
 use Rattle.wave.proofs.pours.is_broken.Tie as tie
-use Rattle.wave.proofs.pours.is_broken.Reads as reads
-use Rattle.wave.proofs.pours.is_broken.Lts as lts
-use Rattle.wave.proofs.pours.has_other.Reads as has-other-reads
 
--- src/pours.rt:31:9
 returns : tie.Need-returns
 unfolding isBroken
 returns c = rw (eq-eqb _ _ (c .if1 .taken)) refl
 
--- src/pours.rt:33:5
 has-other-requires : tie.Need-has-other-requires
 has-other-requires c κs = search needs
 
--- src/pours.rt:27:1
 returns-2 : tie.Need-returns-2
 unfolding isBroken
 returns-2 c = rw (ne-eqb _ _ (c .before .if1 .left)) (c .has-other .ensures)

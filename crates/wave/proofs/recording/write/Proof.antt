@@ -9,64 +9,45 @@ use Rattle.wave.proofs.RecordingLaws.{write-broken, write-done, write-l
 use borrow.Author.Needs.{needs}
 use Rattle.wave.proofs.recording.write.Statement.{statement}
 use Rattle.wave.proofs.recording.write.Tie as tie
-use Rattle.wave.proofs.recording.write.Reads as reads
-use Rattle.wave.proofs.recording.write.Lts as lts
-use Rattle.wave.proofs.headings.bytes.Reads as bytes-reads
-use Rattle.wave.proofs.headings.put.Reads as put-reads
-use Rattle.wave.proofs.pours.fill.Reads as fill-reads
-use Rattle.wave.proofs.pours.is_broken.Reads as is-broken-reads
 
--- src/recording.rt:13:8
 is-broken-requires : tie.Need-is-broken-requires
 is-broken-requires c κs = search needs
 
--- src/recording.rt:14:9
 returns : tie.Need-returns
 returns c = let s = c .before .before .before .before in write-broken (s .args .numbers .now) (s .args .out .now) (sym (c .before .is-broken .ensures) ∙ c .if1 .taken)
 
--- src/recording.rt:18:9
 returns-2 : tie.Need-returns-2
 returns-2 c = let s = c .before .before .before .before .before in write-long (s .args .numbers .now) (s .args .out .now) (sym (c .before .before .is-broken .ensures) ∙ c .before .if1 .left) (c .if2 .taken)
 
--- src/recording.rt:20:25
 mul-if3 : tie.Need-mul-if3
 mul-if3 c = search needs
 
--- src/recording.rt:20:20
 add-if3 : tie.Need-add-if3
 add-if3 c = search needs
 
--- src/recording.rt:21:9
 returns-3 : tie.Need-returns-3
 returns-3 c = let s = c .before .before .before .before .before .before in write-short (s .args .numbers .now) (s .args .out .now) (sym (c .before .before .before .is-broken .ensures) ∙ c .before .before .if1 .left) (c .before .if2 .left) (c .if3 .taken)
 
--- src/recording.rt:23:16
 bytes-requires : tie.Need-bytes-requires
 bytes-requires c κs = search needs
 
--- src/recording.rt:24:19
 slice-aggregate-put : tie.Need-slice-aggregate-put
 slice-aggregate-put c = search needs
 
--- src/recording.rt:24:5
 put-requires : tie.Need-put-requires
 put-requires c κs = search needs
 
--- src/recording.rt:25:5
 fill-requires : tie.Need-fill-requires
 fill-requires c κs = let s = c .before .before .before .before .before .before .before .before .before .before .before .before .before in let xs = s .args .numbers .now in let out = s .args .out .now in
-    let whole = sym (c .before .before .before .before .before .before .before .before .before .before .is-broken .ensures) ∙ c .before .before .before .before .before .before .before .before .before .if1 .left in
-    (
+    let whole = sym (c .before .before .before .before .before .before .before .before .before .before .is-broken .ensures) ∙ c .before .before .before .before .before .before .before .before .before .if1 .left in (
       subst (λ (b : Bool). T (not b)) (sym whole) tt,
       write-room xs out (c .before .before .before .put .last .1 .0) whole (c .before .before .before .before .before .before .before .if3 .left)
-      (c .before .before .before .put .ensures ∙ ap (λ (h : List ℕ). h ++ drop 44 out) (c .before .before .before .before .before .before .bytes .ensures)),
+          (c .before .before .before .put .ensures ∙ ap (λ (h : List ℕ). h ++ drop 44 out) (c .before .before .before .before .before .before .bytes .ensures)),
     )
 
--- src/recording.rt:9:1
 same-length : tie.Need-same-length
 same-length c = search needs
 
--- src/recording.rt:9:1
 returns-4 : tie.Need-returns-4
 returns-4 c = let e = c .before .before .before .before .before .before .before .before .before .before in let s = e .before .before .before .before .before .before in
     let xs = s .args .numbers .now in let out = s .args .out .now in
