@@ -15,3 +15,4 @@ pub mod strike;
 pub mod tables_and_steps;
 pub mod voice;
 pub mod wave_file;
+pub mod waves;

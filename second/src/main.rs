@@ -1,7 +1,7 @@
 //! The second program's commands: play a case, read songs, damage songs, make the stored cases and their traces, make
 //! cases of real files.
 
-use second::{case, make, real, songs};
+use second::{case, make, real, songs, waves};
 use std::fs;
 use std::io::{self, BufReader, BufWriter};
 use std::path::Path;
@@ -9,6 +9,7 @@ use std::process::ExitCode;
 
 const USAGE: &str = "usage: second play < CASE > TRACE
        second songs < FILES > LINES
+       second waves < COMMANDS > LINES
        second damage SEED COUNT [FILE.mid ..] > FILES
        second make DIR
        second real BANK.sf2 PIECE.mid SECONDS > CASE
@@ -21,6 +22,7 @@ fn main() -> ExitCode {
     let done = match words.as_slice() {
         ["play"] => case::play(BufReader::new(io::stdin().lock()), BufWriter::new(io::stdout().lock())),
         ["songs"] => songs::play(BufReader::new(io::stdin().lock()), BufWriter::new(io::stdout().lock())),
+        ["waves"] => waves::play(BufReader::new(io::stdin().lock()), BufWriter::new(io::stdout().lock())),
         ["damage", seed, count, files @ ..] => damaged_songs(seed, count, files),
         ["make", directory] => make::write_all(Path::new(directory)),
         ["real", bank, piece, seconds] => real_case(bank, piece, seconds),
