@@ -338,7 +338,7 @@ fn restated_parts(
     let bound = this.arguments.iter().chain(&names).map(|name| (name.clone(), name.clone())).collect();
     let parts = Reading { tree, lookup: Box::new(tree.names_in_specs(file)), bound }.parts(&text).unwrap_or_default();
     if this.call.is_empty() {
-        return Ok(parts);
+        return Ok(parts.into_iter().map(|part| with_output(part, this, function)).collect());
     }
     // `o .answer ≡ does x e` and `o .output ≡ written x e`, each by the clause for this call
     let mut found = Vec::new();
@@ -362,6 +362,22 @@ fn restated_parts(
         found.push(clause);
     }
     Ok(found)
+}
+
+/// A part of a restated contract of a function that is lent a buffer to write: `o .answer` is its answer, and `o .output`
+/// what the buffer holds at the exit.
+fn with_output(mut part: Part, this: &Restated, function: &Function) -> Part {
+    let texts: Vec<&str> = part.iter().take(2).map(|word| word.text.as_str()).collect();
+    let subject = match (&texts[..], &function.written[..]) {
+        (["answer", ".answer"], [_]) => "answer".to_string(),
+        (["answer", ".output"], [buffer]) => {
+            let at = function.parameters.iter().position(|name| name == buffer).unwrap_or(0);
+            this.arguments[at].clone() + "'"
+        }
+        _ => return part,
+    };
+    part.splice(0..2, [Word { text: subject, place: None }]);
+    part
 }
 
 /// The right side of the clause of a definition for a call, `definition (Call a b) e = ..`, with the call's own arguments.

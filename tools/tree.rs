@@ -313,17 +313,19 @@ impl Tree {
         self.follow(krate, &passed?.1)
     }
 
-    /// All functions that a host may call: what engine's root passes on, bank's admission, reader's public ones, and those
-    /// of smf's root.
+    /// All functions that a host may call: what the roots of engine and wave pass on, bank's admission, reader's public
+    /// ones, and those of smf's root.
     pub fn host_functions(&self, lost: &mut Vec<String>) -> Vec<(&Source, &Function)> {
         let mut found = Vec::new();
-        let root = self.sources.iter().find(|source| source.krate == "engine" && source.module == "lib");
-        let passed = root.iter().flat_map(|root| &root.paths).filter(|(public, _)| *public);
         let admission = (true, vec!["bank".to_string(), "admission".to_string()]);
-        for (_, path) in passed.chain([&admission]) {
-            match self.follow("engine", path) {
-                Some(functions) => found.extend(functions),
-                None => lost.push(format!("crates/engine/src/lib.rt: {} leads nowhere", path.join("::"))),
+        for krate in ["engine", "wave"] {
+            let root = self.sources.iter().find(|source| source.krate == krate && source.module == "lib");
+            let passed = root.iter().flat_map(|root| &root.paths).filter(|(public, _)| *public);
+            for (_, path) in passed.chain((krate == "engine").then_some(&admission)) {
+                match self.follow(krate, path) {
+                    Some(functions) => found.extend(functions),
+                    None => lost.push(format!("crates/{krate}/src/lib.rt: {} leads nowhere", path.join("::"))),
+                }
             }
         }
         let is_root = |source: &&Source| source.krate == "reader" || source.krate == "smf" && source.module == "lib";

@@ -122,12 +122,12 @@ module _ (ram rom : List ℤ) (e : Engine) (m : ℕ) where
 -- ---- pieces
 
 -- the clock's value matters to nothing but the distance
-output-clock : (ram rom : List ℤ) (e : Engine) (t n : ℕ) → output ram rom (withClock e t) n ≡ output ram rom e n
+pub output-clock : (ram rom : List ℤ) (e : Engine) (t n : ℕ) → output ram rom (withClock e t) n ≡ output ram rom e n
 unfolding output
 output-clock ram rom e t zero = refl
 output-clock ram rom e t (suc n) = ap (λ (o : List Float). o ++ (mixed (leftSum ram rom e n) ∷ mixed (rightSum ram rom e n) ∷ [])) (output-clock ram rom e t n)
 
-played-clock : (ram rom : List ℤ) (e : Engine) (t u n : ℕ) → withClock (played ram rom n (withClock e t)) u ≡ withClock (played ram rom n e) u
+pub played-clock : (ram rom : List ℤ) (e : Engine) (t u n : ℕ) → withClock (played ram rom n (withClock e t)) u ≡ withClock (played ram rom n e) u
 unfolding played
 played-clock ram rom e t u n = refl
 
@@ -154,7 +154,7 @@ past-before ram rom n t e p =
         (subst (λ (b : Bool). length (cond b rom ram) < v .end) (q .0) h)
 
 -- a call that is refused renders no frame
-no-frames : (x : Call) (e : Engine) → (does x e .status ≡ 0 → ⊥) → framesOf x e ≡ 0
+pub no-frames : (x : Call) (e : Engine) → (does x e .status ≡ 0 → ⊥) → framesOf x e ≡ 0
 no-frames (Calls.NoteOn b ram rom c k v) e h = refl
 no-frames (Calls.NoteOff c k) e h = refl
 no-frames (Calls.Control c n v) e h = refl
@@ -165,12 +165,12 @@ no-frames (Calls.Render to ram rom out) e h =
 no-frames (Calls.Ask i) e h = refl
 
 -- a done render: its frames
-done-frames : (to : ℕ) (ram rom : List ℤ) (out : List Float) (e : Engine) → does (Calls.Render to ram rom out) e .status ≡ 0
+pub done-frames : (to : ℕ) (ram rom : List ℤ) (out : List Float) (e : Engine) → does (Calls.Render to ram rom out) e .status ≡ 0
     → framesOf (Calls.Render to ram rom out) e ≡ distance e to
 done-frames to ram rom out e h = ap (λ (n : ℕ). cond (eqb n 0) (distance e to) 0) h
 
 -- and what it writes of them
-done-numbers : (to : ℕ) (ram rom : List ℤ) (out : List Float) (e : Engine) → does (Calls.Render to ram rom out) e .status ≡ 0
+pub done-numbers : (to : ℕ) (ram rom : List ℤ) (out : List Float) (e : Engine) → does (Calls.Render to ram rom out) e .status ≡ 0
     → take (2 * distance e to) (written (Calls.Render to ram rom out) e) ≡ output ram rom e (distance e to)
 done-numbers to ram rom out e h =
     let n = distance e to in

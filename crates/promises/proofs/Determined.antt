@@ -4,7 +4,7 @@ use mathlib.Core.List.{List}
 use lib.Ieee.{Float}
 use Prim.Native.Nat.{ℕ}
 use mathlib.Core.Bool.{Bool}
-use Rattle.promises.specs.Determined.{Settles, Outcome}
+use Rattle.promises.specs.Determined.{Settles, Outcome, Ends}
 use Rattle.state.specs.declared.Answered.{Answered}
 use Rattle.voice.specs.declared.Shown.{Shown}
 use Rattle.state.specs.declared.Engine.{Engine}
@@ -89,6 +89,22 @@ song-next-determined file cursor = equation Handed (handedOf file cursor)
 
 pub event-size-determined : D.EventSizeDetermined
 event-size-determined e = equation ℕ (length (bytesOf e))
+
+-- ---- wave
+ends : {A B : Type 0} (o p : Ends A B) → o .answer ≡ p .answer → o .output ≡ p .output → o ≡ p
+ends {A} {B} o p a b = ap₂ (λ (x : A) (y : B). record { answer = x; output = y }) a b
+
+pub heading-determined : D.HeadingDetermined
+heading-determined frames out o p h k = ends o p (h .0 ∙ sym (k .0)) (h .1 ∙ sym (k .1))
+
+pub pour-determined : D.PourDetermined
+pour-determined numbers out o p h k = ends o p (h .0 ∙ sym (k .0)) (h .1 ∙ sym (k .1))
+
+pub write-determined : D.WriteDetermined
+write-determined numbers out o p h k = ends o p (h .0 ∙ sym (k .0)) (h .1 ∙ sym (k .1))
+
+pub read-determined : D.ReadDetermined
+read-determined file out o p h k = ends o p (h .0 ∙ sym (k .0)) (h .1 ∙ sym (k .1))
 
 -- ---- records
 pub window-determined : D.WindowDetermined

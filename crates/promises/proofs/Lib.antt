@@ -13,6 +13,8 @@ pub mod Kept
 pub mod Moments
 pub mod Night
 pub mod NightExample
+pub mod OneFile
+pub mod OneFileExample
 pub mod Output
 pub mod Panel
 pub mod Pedal

@@ -27,6 +27,11 @@ use Rattle.smf.specs.declared.Handed.{Handed}
 use Rattle.smf.specs.declared.Opening.{Opening}
 use Rattle.smf.specs.declared.Tested.{Tested}
 use Rattle.smf.specs.Songs.{testOf, openingOf, handedOf, bytesOf}
+use Rattle.wave.specs.declared.Heard.{Heard}
+use Rattle.wave.specs.Headings.{headingNumber, headed}
+use Rattle.wave.specs.Pours.{pourNumber, pouredInto}
+use Rattle.wave.specs.Recording.{writeNumber, recorded}
+use Rattle.wave.specs.Playback.{heardOf, replayed}
 use Rattle.records.specs.Memory.{partOf}
 use Rattle.state.specs.Board as StateBoard
 use Rattle.state.specs.Quiet as StateQuiet
@@ -147,6 +152,41 @@ SongNextDetermined = (file : List ℕ) (cursor : Cursor) → Settles Handed (λ 
 -- contract of smf::size(e)
 abbrev pub EventSizeDetermined : Type 0
 EventSizeDetermined = (e : Event) → Settles ℕ (λ r. r ≡ length (bytesOf e))
+
+-- ---- wave
+
+-- what a call leaves that is lent an output: its answer, and what the output holds
+pub record Ends (A B : Type 0) : Type 0 where
+  pub answer : A
+  pub output : B
+
+-- 02's number, and the heading in the output
+-- contract of wave::heading(frames, out)
+abbrev pub HeadingDetermined : Type 0
+HeadingDetermined =
+    (frames : ℕ) (out : List ℕ) → Settles (Ends ℕ (List ℕ))
+    (λ o. (o .answer ≡ headingNumber frames (length out)) × (o .output ≡ headed frames out))
+
+-- 02's number, and the bytes of the numbers in the output
+-- contract of wave::pour(numbers, out)
+abbrev pub PourDetermined : Type 0
+PourDetermined =
+    (numbers : List Float) (out : List ℕ) → Settles (Ends ℕ (List ℕ))
+    (λ o. (o .answer ≡ pourNumber numbers (length out)) × (o .output ≡ pouredInto numbers out))
+
+-- 02's number, and the file in the output
+-- contract of wave::write(numbers, out)
+abbrev pub WriteDetermined : Type 0
+WriteDetermined =
+    (numbers : List Float) (out : List ℕ) → Settles (Ends ℕ (List ℕ))
+    (λ o. (o .answer ≡ writeNumber numbers (length out)) × (o .output ≡ recorded numbers out))
+
+-- 02's number and the frames, and the 16-bit numbers in the output
+-- contract of wave::read(file, out)
+abbrev pub ReadDetermined : Type 0
+ReadDetermined =
+    (file : List ℕ) (out : List ℤ) → Settles (Ends Heard (List ℤ))
+    (λ o. (o .answer ≡ heardOf file (length out)) × (o .output ≡ replayed file out))
 
 -- ---- records
 

@@ -10,4 +10,5 @@ pub mod Panel
 pub mod Controls
 pub mod Demand3
 pub mod States
+pub mod OneFile
 pub mod Determined

@@ -1,4 +1,10 @@
 pub mod PcmLaws
 pub mod PoursLaws
-pub mod PlaybackLaws
 pub mod RecordingLaws
+pub mod PlaybackLaws
+pub mod FractionsLaws
+pub mod RefusalsLaws
+pub mod StreamsLaws
+pub mod ReturnedLaws
+pub mod SizesLaws
+pub mod Examples

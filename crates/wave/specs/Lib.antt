@@ -3,4 +3,9 @@ pub mod Headings
 pub mod Pours
 pub mod Recording
 pub mod Playback
+pub mod Fractions
+pub mod Refusals
+pub mod Returned
+pub mod Streams
+pub mod Sizes
 pub mod Internal

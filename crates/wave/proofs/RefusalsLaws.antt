@@ -1,0 +1,461 @@
+-- Each number of the four calls is given exactly in its case, and what a call leaves as it was.
+use mathlib.Core.Bool.{Bool, true, false, not, _&&_, _||_}
+use mathlib.Core.List.{List, [], _∷_, _++_}
+use mathlib.Core.Logic.{inl, inr}
+use mathlib.Core.Path.{_≡_, refl, ap, sym, _∙_, subst}
+use Prim.Native.Nat.{ℕ, zero, suc, _+_, _*_, _/_, _%_, _<_, _≤_}
+use native.Mathlib.Omega.{arith}
+use borrow.Author.Tests.{eqb-true, eq-eqb, ne-eqb, ltb-true, ltb-false, lt-ltb, le-ltb, leb-true, le-leb}
+use lib.Dec.{T, eqb, leb, ltb}
+use lib.Ieee.{Float}
+use lib.IntN.{ℤ}
+use lib.ListN.{length, take, drop, length-append, length-drop, take-append-drop}
+use lib.Seq.{take-at, drop-at}
+use Rattle.arith.specs.Lists.{anyOf}
+use Rattle.wave.specs.Fractions.{AnOutput}
+use Rattle.wave.specs.Pcm.{isOutput, kOf}
+use Rattle.wave.specs.Headings.{mostFrames, headingOf, headingNumber, headed}
+use Rattle.wave.specs.Pours.{isOther, isBroken, pouredOf, pourNumber, pouredInto}
+use Rattle.wave.specs.Recording.{recordingOf, writeNumber, recorded}
+use Rattle.wave.specs.Playback.{sameBytes, framesIn, isRecording, pcmsIn, readNumber, heardOf, replayed}
+use Rattle.wave.specs.Refusals.{HasOther, here, later, Unfit, WriteNumbers, WriterNumbers, HeadNumbers, HeadingNumbers, PourNumbers, PouringNumbers, FileOf, ReadNumbers, ReaderNumbers, OneCount, RefusedWritesNothing, KeptBehind, DoneKeepsTheRest}
+use Rattle.wave.proofs.FractionsLaws.{both, passed-is-output, output-passes}
+
+-- a flag is not both
+never : {A : Type 0} {b : Bool} → b ≡ true → b ≡ false → A
+never p q = absurd (subst T (sym p ∙ q) tt)
+
+-- the heading's length
+pub head-length : (frames : ℕ) → length (headingOf frames) ≡ 44
+unfolding headingOf
+head-length frames = refl
+
+-- ---- 13
+
+-- what passes the test is an output number, and only that
+is-output : (x : Float) → isOutput x ≡ true → AnOutput x
+is-output x h = (kOf x, passed-is-output x h)
+
+no-output : (x : Float) → isOutput x ≡ false → AnOutput x → ⊥
+no-output x h o = never (output-passes x (o .0) (o .1) .0) h
+
+has-other : (xs : List Float) → anyOf isOther xs ≡ true → HasOther xs
+has-other [] h = never h refl
+has-other (x ∷ xs) h = by (λ (g : anyOf isOther xs ≡ true). has-other xs g) (isOutput x) refl h
+  where
+    by : (anyOf isOther xs ≡ true → HasOther xs) → (b : Bool) → isOutput x ≡ b → (not b || anyOf isOther xs) ≡ true → HasOther (x ∷ xs)
+    by rest true e g = later (rest g)
+    by rest false e g = here (no-output x e)
+
+pub other-has : (xs : List Float) → HasOther xs → anyOf isOther xs ≡ true
+other-has (x ∷ xs) (here f) = by (isOutput x) refl
+  where
+    by : (b : Bool) → isOutput x ≡ b → (not b || anyOf isOther xs) ≡ true
+    by true e = absurd (f (is-output x e))
+    by false e = refl
+other-has (x ∷ xs) (later h) = rw (other-has xs h) (or-yes (not (isOutput x)))
+  where
+    or-yes : (b : Bool) → (b || true) ≡ true
+    or-yes true = refl
+    or-yes false = refl
+
+pub broken-unfit : (xs : List Float) → isBroken xs ≡ true → Unfit xs
+unfolding isBroken
+broken-unfit xs h = by (eqb (length xs % 2) 1) refl h
+  where
+    by : (b : Bool) → eqb (length xs % 2) 1 ≡ b → (b || anyOf isOther xs) ≡ true → Unfit xs
+    by true e g = inl (eqb-true (length xs % 2) 1 e)
+    by false e g = inr (has-other xs g)
+
+pub unfit-broken : (xs : List Float) → Unfit xs → isBroken xs ≡ true
+unfolding isBroken
+unfit-broken xs (inl e) = rw (eq-eqb (length xs % 2) 1 e)
+unfit-broken xs (inr o) = rw (other-has xs o) (or-yes (eqb (length xs % 2) 1))
+  where
+    or-yes : (b : Bool) → (b || true) ≡ true
+    or-yes true = refl
+    or-yes false = refl
+
+pub fit-of : (xs : List Float) → isBroken xs ≡ false → Unfit xs → ⊥
+fit-of xs h u = never (unfit-broken xs u) h
+
+pub not-broken : (xs : List Float) → (Unfit xs → ⊥) → isBroken xs ≡ false
+not-broken xs f = by (isBroken xs) refl
+  where
+    by : (b : Bool) → isBroken xs ≡ b → b ≡ false
+    by true e = absurd (f (broken-unfit xs e))
+    by false e = refl
+
+pub even-of : (xs : List Float) → isBroken xs ≡ false → length xs % 2 ≡ 0
+even-of xs h = by (length xs % 2) refl
+  where
+    by : (n : ℕ) → length xs % 2 ≡ n → length xs % 2 ≡ 0
+    by zero e = e
+    by (suc n) e = let one : length xs % 2 ≡ 1 = omega arith in absurd (fit-of xs h (inl one))
+
+-- ---- the writer
+write-13 : (xs : List Float) (room : ℕ) → isBroken xs ≡ true → writeNumber xs room ≡ 13
+unfolding writeNumber
+write-13 xs room a = rw a
+
+pub write-14 : (xs : List Float) (room : ℕ) → isBroken xs ≡ false → mostFrames < length xs / 2 → writeNumber xs room ≡ 14
+unfolding writeNumber
+write-14 xs room a b = rw (a, lt-ltb mostFrames (length xs / 2) b)
+
+write-15 : (xs : List Float) (room : ℕ) → isBroken xs ≡ false → length xs / 2 ≤ mostFrames → room < 44 + 2 * length xs → writeNumber xs room ≡ 15
+unfolding writeNumber
+write-15 xs room a b c = rw (a, le-ltb mostFrames (length xs / 2) b, lt-ltb room (44 + 2 * length xs) c)
+
+pub write-0 : (xs : List Float) (room : ℕ) → isBroken xs ≡ false → length xs / 2 ≤ mostFrames → 44 + 2 * length xs ≤ room → writeNumber xs room ≡ 0
+unfolding writeNumber
+write-0 xs room a b c = rw (a, le-ltb mostFrames (length xs / 2) b, le-ltb room (44 + 2 * length xs) c)
+
+pub writer-numbers : WriterNumbers
+writer-numbers xs room = by (isBroken xs) refl (ltb mostFrames (length xs / 2)) refl (ltb room (44 + 2 * length xs)) refl
+  where
+    by : (a : Bool) → isBroken xs ≡ a → (b : Bool) → ltb mostFrames (length xs / 2) ≡ b → (c : Bool) → ltb room (44 + 2 * length xs) ≡ c
+        → WriteNumbers xs room
+    by true p b q c r =
+        let v = write-13 xs room p in
+        let u = broken-unfit xs p in
+        record {
+          thirteen = (λ e. u, λ k. v);
+          fourteen = (λ e. absurd (omega arith), λ k. absurd (k .0 u));
+          fifteen = (λ e. absurd (omega arith), λ k. absurd (k .0 u));
+          done = (λ e. absurd (omega arith), λ k. absurd (k .0 u));
+          no-other = inr (inl v);
+        }
+    by false p true q c r =
+        let l = ltb-true mostFrames (length xs / 2) q in
+        let v = write-14 xs room p l in
+        let f = fit-of xs p in
+        record {
+          thirteen = (λ e. absurd (omega arith), λ k. absurd (f k));
+          fourteen = (λ e. (f, l), λ k. v);
+          fifteen = (λ e. absurd (omega arith), λ k. absurd (omega arith));
+          done = (λ e. absurd (omega arith), λ k. absurd (omega arith));
+          no-other = inr (inr (inl v));
+        }
+    by false p false q true r =
+        let l = ltb-false mostFrames (length xs / 2) q in
+        let s = ltb-true room (44 + 2 * length xs) r in
+        let v = write-15 xs room p l s in
+        let f = fit-of xs p in
+        let even = even-of xs p in
+        let short : room < 44 + 4 * (length xs / 2) = omega arith in
+        record {
+          thirteen = (λ e. absurd (omega arith), λ k. absurd (f k));
+          fourteen = (λ e. absurd (omega arith), λ k. absurd (omega arith));
+          fifteen = (λ e. (f, l, short), λ k. v);
+          done = (λ e. absurd (omega arith), λ k. absurd (omega arith));
+          no-other = inr (inr (inr v));
+        }
+    by false p false q false r =
+        let l = ltb-false mostFrames (length xs / 2) q in
+        let s = ltb-false room (44 + 2 * length xs) r in
+        let v = write-0 xs room p l s in
+        let f = fit-of xs p in
+        let even = even-of xs p in
+        let long : 44 + 4 * (length xs / 2) ≤ room = omega arith in
+        record {
+          thirteen = (λ e. absurd (omega arith), λ k. absurd (f k));
+          fourteen = (λ e. absurd (omega arith), λ k. absurd (omega arith));
+          fifteen = (λ e. absurd (omega arith), λ k. absurd (omega arith));
+          done = (λ e. (f, l, long), λ k. v);
+          no-other = inl v;
+        }
+
+-- ---- the heading
+head-14 : (frames room : ℕ) → mostFrames < frames → headingNumber frames room ≡ 14
+unfolding headingNumber
+head-14 frames room a = rw (lt-ltb mostFrames frames a)
+
+head-15 : (frames room : ℕ) → frames ≤ mostFrames → room < 44 → headingNumber frames room ≡ 15
+unfolding headingNumber
+head-15 frames room a b = rw (le-ltb mostFrames frames a, lt-ltb room 44 b)
+
+pub head-0 : (frames room : ℕ) → frames ≤ mostFrames → 44 ≤ room → headingNumber frames room ≡ 0
+unfolding headingNumber
+head-0 frames room a b = rw (le-ltb mostFrames frames a, le-ltb room 44 b)
+
+pub heading-numbers : HeadingNumbers
+heading-numbers frames room = by (ltb mostFrames frames) refl (ltb room 44) refl
+  where
+    by : (a : Bool) → ltb mostFrames frames ≡ a → (b : Bool) → ltb room 44 ≡ b → HeadNumbers frames room
+    by true p b q =
+        let l = ltb-true mostFrames frames p in
+        let v = head-14 frames room l in
+        record {
+          fourteen = (λ e. l, λ k. v);
+          fifteen = (λ e. absurd (omega arith), λ k. absurd (omega arith));
+          done = (λ e. absurd (omega arith), λ k. absurd (omega arith));
+          no-other = inr (inl v);
+        }
+    by false p true q =
+        let l = ltb-false mostFrames frames p in
+        let s = ltb-true room 44 q in
+        let v = head-15 frames room l s in
+        record {
+          fourteen = (λ e. absurd (omega arith), λ k. absurd (omega arith));
+          fifteen = (λ e. (l, s), λ k. v);
+          done = (λ e. absurd (omega arith), λ k. absurd (omega arith));
+          no-other = inr (inr v);
+        }
+    by false p false q =
+        let l = ltb-false mostFrames frames p in
+        let s = ltb-false room 44 q in
+        let v = head-0 frames room l s in
+        record {
+          fourteen = (λ e. absurd (omega arith), λ k. absurd (omega arith));
+          fifteen = (λ e. absurd (omega arith), λ k. absurd (omega arith));
+          done = (λ e. (l, s), λ k. v);
+          no-other = inl v;
+        }
+
+-- ---- a pour
+pour-13 : (xs : List Float) (room : ℕ) → isBroken xs ≡ true → pourNumber xs room ≡ 13
+unfolding pourNumber
+pour-13 xs room a = rw a
+
+pour-15 : (xs : List Float) (room : ℕ) → isBroken xs ≡ false → room < 2 * length xs → pourNumber xs room ≡ 15
+unfolding pourNumber
+pour-15 xs room a b = rw (a, lt-ltb room (2 * length xs) b)
+
+pub pour-0 : (xs : List Float) (room : ℕ) → isBroken xs ≡ false → 2 * length xs ≤ room → pourNumber xs room ≡ 0
+unfolding pourNumber
+pour-0 xs room a b = rw (a, le-ltb room (2 * length xs) b)
+
+pub pouring-numbers : PouringNumbers
+pouring-numbers xs room = by (isBroken xs) refl (ltb room (2 * length xs)) refl
+  where
+    by : (a : Bool) → isBroken xs ≡ a → (b : Bool) → ltb room (2 * length xs) ≡ b → PourNumbers xs room
+    by true p b q =
+        let v = pour-13 xs room p in
+        let u = broken-unfit xs p in
+        record {
+          thirteen = (λ e. u, λ k. v);
+          fifteen = (λ e. absurd (omega arith), λ k. absurd (k .0 u));
+          done = (λ e. absurd (omega arith), λ k. absurd (k .0 u));
+          no-other = inr (inl v);
+        }
+    by false p true q =
+        let s = ltb-true room (2 * length xs) q in
+        let v = pour-15 xs room p s in
+        let f = fit-of xs p in
+        let even = even-of xs p in
+        let short : room < 4 * (length xs / 2) = omega arith in
+        record {
+          thirteen = (λ e. absurd (omega arith), λ k. absurd (f k));
+          fifteen = (λ e. (f, short), λ k. v);
+          done = (λ e. absurd (omega arith), λ k. absurd (omega arith));
+          no-other = inr (inr v);
+        }
+    by false p false q =
+        let s = ltb-false room (2 * length xs) q in
+        let v = pour-0 xs room p s in
+        let f = fit-of xs p in
+        let even = even-of xs p in
+        let long : 4 * (length xs / 2) ≤ room = omega arith in
+        record {
+          thirteen = (λ e. absurd (omega arith), λ k. absurd (f k));
+          fifteen = (λ e. absurd (omega arith), λ k. absurd (omega arith));
+          done = (λ e. (f, long), λ k. v);
+          no-other = inl v;
+        }
+
+-- ---- the reader
+same-eq : (xs ys : List ℕ) → sameBytes xs ys ≡ true → xs ≡ ys
+unfolding sameBytes
+same-eq [] [] h = refl
+same-eq [] (y ∷ ys) h = never h refl
+same-eq (x ∷ xs) [] h = never h refl
+same-eq (x ∷ xs) (y ∷ ys) h =
+    let two = both (eqb x y) (sameBytes xs ys) h in
+    rw (eqb-true x y (two .0)) (ap (_∷_ y) (same-eq xs ys (two .1)))
+
+same-refl : (xs : List ℕ) → sameBytes xs xs ≡ true
+unfolding sameBytes
+same-refl [] = refl
+same-refl (x ∷ xs) = rw (eq-eqb x x refl) (same-refl xs)
+
+-- what passes the test is a file of its frames
+pub file-of : (file : List ℕ) → isRecording file ≡ true → FileOf file (framesIn file)
+unfolding isRecording
+file-of file h =
+    let n = framesIn file in
+    let one = both (eqb (length file) (44 + 4 * n) && leb n mostFrames) (sameBytes (take 44 file) (headingOf n)) h in
+    let two = both (eqb (length file) (44 + 4 * n)) (leb n mostFrames) (one .0) in
+    let l = eqb-true (length file) (44 + 4 * n) (two .0) in
+    record {
+      few = leb-true n mostFrames (two .1);
+      body = drop 44 file;
+      long = simp length-drop (omega arith);
+      whole = sym (take-append-drop 44 file) ∙ ap (λ (f : List ℕ). f ++ drop 44 file) (same-eq (take 44 file) (headingOf n) (one .1));
+    }
+
+-- a file of n frames has so many bytes
+file-length : (file : List ℕ) (n : ℕ) → FileOf file n → length file ≡ 44 + 4 * n
+file-length file n f = ap length (f .whole) ∙ length-append (headingOf n) (f .body) ∙ omega (arith, head-length n, f .long)
+
+pub frames-of : (file : List ℕ) (n : ℕ) → FileOf file n → framesIn file ≡ n
+frames-of file n f = let l = file-length file n f in omega arith
+
+pub is-file : (file : List ℕ) (n : ℕ) → FileOf file n → isRecording file ≡ true
+unfolding isRecording
+is-file file n f =
+    let l = file-length file n f in
+    let t : take 44 file ≡ headingOf n = ap (take 44) (f .whole) ∙ take-at (headingOf n) (f .body) 44 (head-length n) in
+    rw (frames-of file n f, eq-eqb (length file) (44 + 4 * n) l, le-leb n mostFrames (f .few), t) (same-refl (headingOf n))
+
+pub one-count : OneCount
+one-count file m n f g = sym (frames-of file m f) ∙ frames-of file n g
+
+read-28 : (file : List ℕ) (room : ℕ) → isRecording file ≡ false → readNumber file room ≡ 28
+unfolding readNumber
+read-28 file room a = rw a
+
+read-15 : (file : List ℕ) (room : ℕ) → isRecording file ≡ true → room < 2 * framesIn file → readNumber file room ≡ 15
+unfolding readNumber
+read-15 file room a b = rw (a, lt-ltb room (2 * framesIn file) b)
+
+pub read-0 : (file : List ℕ) (room : ℕ) → isRecording file ≡ true → 2 * framesIn file ≤ room → readNumber file room ≡ 0
+unfolding readNumber
+read-0 file room a b = rw (a, le-ltb room (2 * framesIn file) b)
+
+-- the frames that a done reader answers
+pub counted : (file : List ℕ) (room n : ℕ) → FileOf file n → 2 * n ≤ room → heardOf file room .frames ≡ n
+unfolding heardOf
+counted file room n f l =
+    let q = frames-of file n f in
+    rw (eq-eqb (readNumber file room) 0 (read-0 file room (is-file file n f) (omega arith))) q
+
+pub reader-numbers : ReaderNumbers
+reader-numbers file room = by (isRecording file) refl (ltb room (2 * framesIn file)) refl
+  where
+    by : (a : Bool) → isRecording file ≡ a → (b : Bool) → ltb room (2 * framesIn file) ≡ b → ReadNumbers file room
+    by true p true q =
+        let s = ltb-true room (2 * framesIn file) q in
+        let v = read-15 file room p s in
+        let f = file-of file p in
+        record {
+          twenty-eight = (λ e. absurd (omega arith), λ k. absurd (k (framesIn file) f));
+          fifteen = (λ e. (framesIn file, (f, s)), λ k. v);
+          done = (λ e. absurd (omega arith), λ k. absurd (let w = frames-of file (k .0) (k .1 .0) in omega arith));
+          frames = counted file room;
+          no-other = inr (inl v);
+        }
+    by true p false q =
+        let s = ltb-false room (2 * framesIn file) q in
+        let v = read-0 file room p s in
+        let f = file-of file p in
+        record {
+          twenty-eight = (λ e. absurd (omega arith), λ k. absurd (k (framesIn file) f));
+          fifteen = (λ e. absurd (omega arith), λ k. absurd (let w = frames-of file (k .0) (k .1 .0) in omega arith));
+          done = (λ e. (framesIn file, (f, s)), λ k. v);
+          frames = counted file room;
+          no-other = inl v;
+        }
+    by false p b q =
+        let v = read-28 file room p in
+        record {
+          twenty-eight = (λ e n f. never (is-file file n f) p, λ k. v);
+          fifteen = (λ e. absurd (omega arith), λ k. never (is-file file (k .0) (k .1 .0)) p);
+          done = (λ e. absurd (omega arith), λ k. never (is-file file (k .0) (k .1 .0)) p);
+          frames = counted file room;
+          no-other = inr (inr v);
+        }
+
+-- ---- what is left as it was
+pub refused-writes-nothing : RefusedWritesNothing
+unfolding headed pouredInto recorded replayed heardOf
+refused-writes-nothing = (
+  λ frames out h. rw (ne-eqb (headingNumber frames (length out)) 0 h),
+  λ xs out h. rw (ne-eqb (pourNumber xs (length out)) 0 h),
+  λ xs out h. rw (ne-eqb (writeNumber xs (length out)) 0 h),
+  λ file out h. (rw (ne-eqb (readNumber file (length out)) 0 h), rw (ne-eqb (readNumber file (length out)) 0 h)),
+)
+
+-- what a done writer and a done pour had
+pub write-room : (xs : List Float) (room : ℕ) → writeNumber xs room ≡ 0 → (isBroken xs ≡ false) × (length xs / 2 ≤ mostFrames) × (44 + 2 * length xs ≤ room)
+write-room xs room h =
+    let d = writer-numbers xs room .done .0 h in
+    let p = not-broken xs (d .0) in
+    let even = even-of xs p in
+    let long : 44 + 2 * length xs ≤ room = omega arith in
+    (p, d .1, long)
+
+pub pour-room : (xs : List Float) (room : ℕ) → pourNumber xs room ≡ 0 → (isBroken xs ≡ false) × (2 * length xs ≤ room)
+pour-room xs room h =
+    let d = pouring-numbers xs room .done .0 h in
+    let p = not-broken xs (d .0) in
+    let even = even-of xs p in
+    let long : 2 * length xs ≤ room = omega arith in
+    (p, long)
+
+-- what a done call leaves
+pub headed-0 : (frames : ℕ) (out : List ℕ) → headingNumber frames (length out) ≡ 0 → headed frames out ≡ headingOf frames ++ drop 44 out
+unfolding headed
+headed-0 frames out h = rw (eq-eqb (headingNumber frames (length out)) 0 h)
+
+pub poured-0 : (xs : List Float) (out : List ℕ) → pourNumber xs (length out) ≡ 0 → pouredInto xs out ≡ pouredOf xs ++ drop (2 * length xs) out
+unfolding pouredInto
+poured-0 xs out h = rw (eq-eqb (pourNumber xs (length out)) 0 h)
+
+pub recorded-0 : (xs : List Float) (out : List ℕ) → writeNumber xs (length out) ≡ 0 → recorded xs out ≡ recordingOf xs ++ drop (44 + 2 * length xs) out
+unfolding recorded
+recorded-0 xs out h = rw (eq-eqb (writeNumber xs (length out)) 0 h)
+
+pub replayed-0 : (file : List ℕ) (out : List ℤ) → readNumber file (length out) ≡ 0 → replayed file out ≡ pcmsIn (drop 44 file) ++ drop (2 * framesIn file) out
+unfolding replayed
+replayed-0 file out h = rw (eq-eqb (readNumber file (length out)) 0 h)
+
+-- the bytes of some numbers
+pub poured-length : (xs : List Float) → length (pouredOf xs) ≡ 2 * length xs
+unfolding pouredOf
+poured-length [] = refl
+poured-length (x ∷ xs) = omega (arith, poured-length xs)
+
+pub recording-length : (xs : List Float) → length (recordingOf xs) ≡ 44 + 2 * length xs
+unfolding recordingOf
+recording-length xs = length-append (headingOf (length xs / 2)) (pouredOf xs) ∙ omega (arith, head-length (length xs / 2), poured-length xs)
+
+-- the numbers of some bytes
+pub pcms-length : (n : ℕ) (bytes : List ℕ) → length bytes ≡ 2 * n → length (pcmsIn bytes) ≡ n
+unfolding pcmsIn
+pcms-length zero [] h = refl
+pcms-length (suc n) [] h = absurd (omega arith)
+pcms-length n (low ∷ []) h = absurd (omega arith)
+pcms-length zero (low ∷ high ∷ bytes) h = absurd (omega arith)
+pcms-length (suc n) (low ∷ high ∷ bytes) h = ap suc (pcms-length n bytes (omega arith))
+
+-- a front of `count` in place of as many
+kept : {A : Type 0} (count : ℕ) (front before now : List A) → length front ≡ count → count ≤ length before → now ≡ front ++ drop count before
+    → KeptBehind count before now
+kept count front before now l room e = (
+  ap length e ∙ simp (length-append, length-drop) (omega arith),
+  ap (drop count) e ∙ drop-at front (drop count before) count l,
+)
+
+pub done-keeps-the-rest : DoneKeepsTheRest
+done-keeps-the-rest = (
+  λ frames out h. kept 44 (headingOf frames) out (headed frames out) (head-length frames) (heading-numbers frames (length out) .done .0 h .1) (headed-0 frames out h),
+  poured,
+  written,
+  played,
+)
+  where
+    poured : (xs : List Float) (out : List ℕ) → pourNumber xs (length out) ≡ 0 → KeptBehind (2 * length xs) out (pouredInto xs out)
+    poured xs out h = kept (2 * length xs) (pouredOf xs) out (pouredInto xs out) (poured-length xs) (pour-room xs (length out) h .1) (poured-0 xs out h)
+
+    written : (xs : List Float) (out : List ℕ) → writeNumber xs (length out) ≡ 0 → KeptBehind (44 + 2 * length xs) out (recorded xs out)
+    written xs out h = kept (44 + 2 * length xs) (recordingOf xs) out (recorded xs out) (recording-length xs) (write-room xs (length out) h .2) (recorded-0 xs out h)
+
+    played : (file : List ℕ) (out : List ℤ) (n : ℕ) → readNumber file (length out) ≡ 0 → FileOf file n → KeptBehind (2 * n) out (replayed file out)
+    played file out n h f =
+        let d = reader-numbers file (length out) .done .0 h in
+        let same = one-count file (d .0) n (d .1 .0) f in
+        let l = file-length file n f in
+        kept (2 * n) (pcmsIn (drop 44 file)) out (replayed file out)
+        (pcms-length (2 * n) (drop 44 file) (simp length-drop (omega arith)))
+        (omega arith)
+        (replayed-0 file out h ∙ ap (λ (m : ℕ). pcmsIn (drop 44 file) ++ drop (2 * m) out) (frames-of file n f))
