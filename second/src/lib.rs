@@ -3,6 +3,7 @@
 
 pub mod bank;
 pub mod bank_admission;
+pub mod bells;
 pub mod big;
 pub mod case;
 pub mod key_to_layers;

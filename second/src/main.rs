@@ -1,9 +1,9 @@
 //! The second program's commands: play a case, read songs, damage songs, make the stored cases and their traces, make
-//! cases of real files.
+//! cases of real files, make the carillon and its piece.
 
-use second::{case, make, real, songs};
+use second::{bells, case, make, real, songs};
 use std::fs;
-use std::io::{self, BufReader, BufWriter};
+use std::io::{self, BufReader, BufWriter, Write};
 use std::path::Path;
 use std::process::ExitCode;
 
@@ -12,7 +12,9 @@ const USAGE: &str = "usage: second play < CASE > TRACE
        second damage SEED COUNT [FILE.mid ..] > FILES
        second make DIR
        second real BANK.sf2 PIECE.mid SECONDS > CASE
-       second struck BANK.sf2 > CASE";
+       second struck BANK.sf2 > CASE
+       second bells > CASE
+       second bells DIR";
 
 /// The status is 0 for a damaged case too, whose trace ends with `bad`; 1 where reading or writing fails; 2 for usage.
 fn main() -> ExitCode {
@@ -27,6 +29,8 @@ fn main() -> ExitCode {
         ["struck", bank] => {
             real_bank(bank).and_then(|bank| real::write_strikes(&bank, &mut BufWriter::new(io::stdout().lock())))
         }
+        ["bells"] => io::stdout().write_all(&bells::case()),
+        ["bells", directory] => bells::write_files(Path::new(directory)),
         _ => {
             eprintln!("{USAGE}");
             return ExitCode::from(2);
