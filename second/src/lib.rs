@@ -10,6 +10,7 @@ pub mod key_to_layers;
 pub mod make;
 pub mod midi_file;
 pub mod real;
+pub mod record;
 pub mod slots_keys_clock;
 pub mod songs;
 pub mod strike;

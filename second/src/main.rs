@@ -1,13 +1,14 @@
-//! The second program's commands: play a case, read songs, damage songs, make the stored cases and their traces, make
+//! The second program's commands: play a case, record one, read songs, damage songs, make the stored cases and their traces, make
 //! cases of real files, make the carillon and its piece.
 
-use second::{bells, case, make, real, songs};
+use second::{bells, case, make, real, record, songs};
 use std::fs;
 use std::io::{self, BufReader, BufWriter, Write};
 use std::path::Path;
 use std::process::ExitCode;
 
 const USAGE: &str = "usage: second play < CASE > TRACE
+       second record < CASE > FILE.wav
        second songs < FILES > LINES
        second damage SEED COUNT [FILE.mid ..] > FILES
        second make DIR
@@ -22,6 +23,7 @@ fn main() -> ExitCode {
     let words: Vec<&str> = arguments.iter().map(String::as_str).collect();
     let done = match words.as_slice() {
         ["play"] => case::play(BufReader::new(io::stdin().lock()), BufWriter::new(io::stdout().lock())),
+        ["record"] => return recorded(),
         ["songs"] => songs::play(BufReader::new(io::stdin().lock()), BufWriter::new(io::stdout().lock())),
         ["damage", seed, count, files @ ..] => damaged_songs(seed, count, files),
         ["make", directory] => make::write_all(Path::new(directory)),
@@ -36,13 +38,23 @@ fn main() -> ExitCode {
             return ExitCode::from(2);
         }
     };
+    status("second", done)
+}
+
+fn status(name: &str, done: io::Result<()>) -> ExitCode {
     match done {
         Ok(()) => ExitCode::SUCCESS,
         Err(error) => {
-            eprintln!("second: {error}");
+            eprintln!("{name}: {error}");
             ExitCode::FAILURE
         }
     }
+}
+
+/// Of a damaged case no file is written; the status is 1.
+fn recorded() -> ExitCode {
+    let file = record::file(BufReader::new(io::stdin().lock()));
+    status("record", file.and_then(|file| io::stdout().write_all(&file)))
 }
 
 /// A file's bytes, with its name in what is said where it cannot be read.
