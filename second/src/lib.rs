@@ -17,3 +17,4 @@ pub mod strike;
 pub mod tables_and_steps;
 pub mod voice;
 pub mod wave_file;
+pub mod waves;
