@@ -19,7 +19,8 @@ const USAGE: &str = "usage: second play < CASE > TRACE
        second bells > CASE
        second bells DIR";
 
-/// The status is 0 for a damaged case too, whose trace ends with `bad`; 1 where reading or writing fails; 2 for usage.
+/// The status is 0 for a damaged case too, whose trace ends with `bad`; 1 where reading or writing fails, and for a damaged
+/// case that has no recording; 2 for usage.
 fn main() -> ExitCode {
     let arguments: Vec<String> = std::env::args().skip(1).collect();
     let words: Vec<&str> = arguments.iter().map(String::as_str).collect();
@@ -35,7 +36,7 @@ fn main() -> ExitCode {
         ["struck", bank] => {
             real_bank(bank).and_then(|bank| real::write_strikes(&bank, &mut BufWriter::new(io::stdout().lock())))
         }
-        ["bells"] => io::stdout().write_all(&bells::case()),
+        ["bells"] => put(&bells::case()),
         ["bells", directory] => bells::write_files(Path::new(directory)),
         _ => {
             eprintln!("{USAGE}");
@@ -58,7 +59,13 @@ fn status(name: &str, done: io::Result<()>) -> ExitCode {
 /// Of a damaged case no file is written; the status is 1.
 fn recorded() -> ExitCode {
     let file = record::file(BufReader::new(io::stdin().lock()));
-    status("record", file.and_then(|file| io::stdout().write_all(&file)))
+    status("record", file.and_then(|file| put(&file)))
+}
+
+fn put(bytes: &[u8]) -> io::Result<()> {
+    let mut output = io::stdout().lock();
+    output.write_all(bytes)?;
+    output.flush()
 }
 
 /// A file's bytes, with its name in what is said where it cannot be read.
