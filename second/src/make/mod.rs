@@ -25,7 +25,9 @@
 //! - clock wrap: numbers_of_table::clock_wrap; distances 0, 1, 4,096, 4,097, 2^31 - 1, 2^31, one back: distances
 //! - the October night: key_cases::october_night, october_night_full
 //! - banks and runs from fixed seeds, damaged banks: chance_cases
-//! - damaged case files: bad_cases; what a recording must reach: record_cases
+//! - damaged case files: bad_cases
+//! - recordings: every command, refused renders, outputs longer than their frames, both ends and about 0, a fresh engine,
+//!   a long memory: record_cases
 //! - the reader's opening and its rows (i, j), and each fault's kind and place (d), over every bank that a case examines:
 //!   listing_cases; faults of two kinds, and several of one kind: fault_cases
 //! - how many voices sound (u): count_cases
