@@ -124,7 +124,7 @@ fn count_runs(counts: &mut Counts) {
     counts.add("songs", lines.lines().filter(|line| line.split(' ').count() == 2).count());
     counts.add("song-lines", lines.lines().count());
     counts.add("waves", read("crates/waves/stdout").lines().count());
-    let damaged = ["drive", "songs", "waves"].map(|program| files(&format!("crates/{program}/bad"), "case").len());
+    let damaged = ["drive", "record", "songs", "waves"].map(|program| files(&format!("crates/{program}/bad"), "case").len());
     counts.add("damaged-cases", damaged.iter().sum());
     counts.add("values", read("crates/numbers/stdout").lines().count());
     if let Ok(lines) = std::fs::read_to_string("crates/strike/stdout") {

@@ -3,12 +3,14 @@
 
 pub mod bank;
 pub mod bank_admission;
+pub mod bells;
 pub mod big;
 pub mod case;
 pub mod key_to_layers;
 pub mod make;
 pub mod midi_file;
 pub mod real;
+pub mod record;
 pub mod slots_keys_clock;
 pub mod songs;
 pub mod strike;

@@ -1,6 +1,6 @@
 //! Songs: MIDI files one behind the other, each a length and its bytes, and the lines for each of them.
 
-use crate::case::{run, Commands, Stop};
+use crate::case::{run, Commands, Stop, NO_ROOM};
 use crate::midi_file;
 use std::io::{self, Read, Write};
 
@@ -17,7 +17,7 @@ fn next_file<R: Read>(commands: &mut Commands<R>) -> Result<Option<Vec<u8>>, Sto
     let Some(low) = commands.letter()? else { return Ok(None) };
     let length = u32::from_le_bytes([low, commands.byte()?, commands.byte()?, commands.byte()?]);
     if length > FILE_ROOM {
-        return Err(Stop::Bad);
+        return Err(NO_ROOM);
     }
     commands.bytes(length as usize).map(Some)
 }

@@ -1,6 +1,6 @@
 //! Waves: commands that write a WAVE file or read one, and the line for each.
 
-use crate::case::{hash, run, Commands, Stop};
+use crate::case::{hash, run, Commands, Stop, UNKNOWN};
 use crate::wave_file;
 use std::io::{self, Read, Write};
 
@@ -19,7 +19,7 @@ pub fn play(input: impl Read, output: impl Write) -> io::Result<()> {
         None => Ok(None),
         Some(b'W') => write_line(commands).map(Some),
         Some(b'R') => read_line(commands).map(Some),
-        Some(_) => Err(Stop::Bad),
+        Some(_) => Err(UNKNOWN),
     })
 }
 

@@ -26,6 +26,8 @@
 //! - the October night: key_cases::october_night, october_night_full
 //! - banks and runs from fixed seeds, damaged banks: chance_cases
 //! - damaged case files: bad_cases
+//! - recordings: every command, refused renders, outputs longer than their frames, both ends and about 0, a fresh engine,
+//!   a long memory: record_cases
 //! - the reader's opening and its rows (i, j), and each fault's kind and place (d), over every bank that a case examines:
 //!   listing_cases; faults of two kinds, and several of one kind: fault_cases
 //! - how many voices sound (u): count_cases
@@ -92,6 +94,7 @@ mod listing_cases;
 mod number_lines;
 mod numbers_of_table;
 mod proof_examples;
+pub mod record_cases;
 pub mod script;
 pub mod song_builder;
 mod song_cases;
@@ -110,16 +113,22 @@ mod wave_read_cases;
 pub mod wave_streams;
 mod wave_write_cases;
 
-use crate::{case, songs, waves};
+use crate::{case, record, songs, waves};
 use script::Script;
 use std::fs;
 use std::io;
 use std::path::Path;
 
-/// Writes drive/, songs/, waves/, numbers/ and the examples of promises/ and voice/ into the directory.
+/// Writes drive/, record/, songs/, waves/, numbers/ and the examples of promises/ and voice/ into the directory.
 pub fn write_all(directory: &Path) -> io::Result<()> {
-    let script = all_cases();
-    write_program(&directory.join("drive"), |case, trace| case::play(case, trace), &script.bytes, bad_cases::all())?;
+    let damaged = bad_cases::all(case::MEMORY_ROOM);
+    write_program(&directory.join("drive"), |case, trace| case::play(case, trace), &all_cases().bytes, damaged)?;
+    write_program(
+        &directory.join("record"),
+        file_or_nothing,
+        &record_cases::case(),
+        bad_cases::all(record::MEMORY_ROOM),
+    )?;
     write_program(
         &directory.join("songs"),
         |files, lines| songs::play(files, lines),
@@ -136,6 +145,12 @@ pub fn write_all(directory: &Path) -> io::Result<()> {
     write_file(&directory.join("numbers/stdout"), numbers.as_bytes())?;
     write_file(&directory.join("promises/proofs/Runs.antt"), proof_examples::runs().as_bytes())?;
     write_file(&directory.join("voice/proofs/Examples.antt"), proof_examples::examples().as_bytes())
+}
+
+/// The recording of a case; nothing where the case is damaged.
+fn file_or_nothing(case: &[u8], file: &mut Vec<u8>) -> io::Result<()> {
+    file.extend(record::file(case).unwrap_or_default());
+    Ok(())
 }
 
 /// What reads a program's input and writes its output.
