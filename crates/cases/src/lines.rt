@@ -82,7 +82,7 @@ pub fn rendered(text: &mut [u8; 65536], at: usize, status: u8, hash: u64) -> usi
 // The bytes are read before any of them is written, since none is where the command is cut off.
 fn write_name(
     bytes: &mut [u8],
-    room: &mut [u8; 65536],
+    room: &mut [u8],
     text: &mut [u8; 65536],
     from: Place,
     at: usize,
@@ -98,7 +98,7 @@ fn write_name(
 }
 
 // t: a case's name of n bytes.
-pub fn name(room: &mut [u8; 65536], text: &mut [u8; 65536], from: Place, at: usize, n: u8) -> Line {
+pub fn name(room: &mut [u8], text: &mut [u8; 65536], from: Place, at: usize, n: u8) -> Line {
     let mut bytes = [0u8; 256];
     let size = n as usize;
     write_name(&mut bytes[..size], room, text, from, at)
