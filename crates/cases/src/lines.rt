@@ -72,11 +72,16 @@ pub fn counted(text: &mut [u8; 65536], at: usize, letter: u8, status: u8, count:
     spaced(text, to, count as u64)
 }
 
+// A hash behind a space.
+pub fn hashed(text: &mut [u8; 65536], at: usize, hash: u64) -> usize {
+    let to = put(text, at, b' ');
+    hex(text, to, hash, 16)
+}
+
 // A render with the hash of its output.
 pub fn rendered(text: &mut [u8; 65536], at: usize, status: u8, hash: u64) -> usize {
-    let mut to = called(text, at, b'r', status);
-    to = put(text, to, b' ');
-    hex(text, to, hash, 16)
+    let to = called(text, at, b'r', status);
+    hashed(text, to, hash)
 }
 
 // The bytes are read before any of them is written, since none is where the command is cut off.
