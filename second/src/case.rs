@@ -61,7 +61,7 @@ impl<R: Read> Commands<R> {
         Ok(u16::from_le_bytes(bytes))
     }
 
-    fn u32(&mut self) -> Result<u32, Stop> {
+    pub(crate) fn u32(&mut self) -> Result<u32, Stop> {
         let mut bytes = [0; 4];
         self.input.read_exact(&mut bytes)?;
         Ok(u32::from_le_bytes(bytes))
@@ -74,7 +74,7 @@ impl<R: Read> Commands<R> {
     }
 
     /// A length that may not be above what there is room for.
-    fn length(&mut self, room: u32) -> Result<usize, Stop> {
+    pub(crate) fn length(&mut self, room: u32) -> Result<usize, Stop> {
         let length = self.u32()?;
         if length > room {
             return Err(Stop::Bad);
@@ -128,7 +128,7 @@ struct Player {
 }
 
 /// Plays a case and writes its trace. A damaged case ends with the line `bad`.
-pub fn play(input: impl Read, mut output: impl Write) -> io::Result<()> {
+pub fn play(input: impl Read, output: impl Write) -> io::Result<()> {
     let mut player = Player {
         tables: tables(),
         engine: Engine::fresh(0),
@@ -136,26 +136,29 @@ pub fn play(input: impl Read, mut output: impl Write) -> io::Result<()> {
         ram: Memory::default(),
         rom: Memory::default(),
     };
-    let mut commands = Commands { input };
-    let stop = loop {
-        match commands.letter() {
-            Ok(None) => break None,
-            Ok(Some(letter)) => match player.command(letter, &mut commands) {
-                Ok(line) => output.write_all(&line)?,
-                Err(stop) => break Some(stop),
-            },
-            Err(stop) => break Some(stop),
-        }
-    };
-    end_run(stop, output)
+    run(input, output, |commands| match commands.letter()? {
+        None => Ok(None),
+        Some(letter) => player.command(letter, commands).map(Some),
+    })
 }
 
-/// The end of a run: what is damaged ends with the line `bad`.
-pub(crate) fn end_run(stop: Option<Stop>, mut output: impl Write) -> io::Result<()> {
-    match stop {
-        None => {}
-        Some(Stop::Bad) => output.write_all(b"bad\n")?,
-        Some(Stop::Failed(error)) => return Err(error),
+/// Writes what each command gives, up to the end of the input. What is damaged ends the run with the line `bad`.
+pub(crate) fn run<R: Read>(
+    input: R,
+    mut output: impl Write,
+    mut next: impl FnMut(&mut Commands<R>) -> Result<Option<Vec<u8>>, Stop>,
+) -> io::Result<()> {
+    let mut commands = Commands { input };
+    loop {
+        match next(&mut commands) {
+            Ok(Some(lines)) => output.write_all(&lines)?,
+            Ok(None) => break,
+            Err(Stop::Bad) => {
+                output.write_all(b"bad\n")?;
+                break;
+            }
+            Err(Stop::Failed(error)) => return Err(error),
+        }
     }
     output.flush()
 }
@@ -253,7 +256,8 @@ impl Player {
         let mut output = vec![f32::from_bits(BEFORE); length];
         let answer = self.engine.render(self.tables, &lent, clock, &mut output);
         let number = answer.err().unwrap_or(0);
-        format!("{number} {:016x}", hash(&output))
+        let bytes = output.iter().flat_map(|number| number.to_bits().to_le_bytes());
+        format!("{number} {:016x}", hash(bytes))
     }
 
     fn panel(&self, slot: u8) -> String {
@@ -303,13 +307,7 @@ fn counted(answer: Answer) -> String {
     }
 }
 
-/// The FNV-1a hash of 64 bits over the numbers' bits, the low byte of each first.
-fn hash(output: &[f32]) -> u64 {
-    let mut hash = 0xcbf2_9ce4_8422_2325u64;
-    for number in output {
-        for byte in number.to_bits().to_le_bytes() {
-            hash = (hash ^ byte as u64).wrapping_mul(0x100_0000_01b3);
-        }
-    }
-    hash
+/// The FNV-1a hash of 64 bits.
+pub(crate) fn hash(bytes: impl Iterator<Item = u8>) -> u64 {
+    bytes.fold(0xcbf2_9ce4_8422_2325, |hash, byte| (hash ^ byte as u64).wrapping_mul(0x100_0000_01b3))
 }

@@ -14,3 +14,5 @@ pub mod songs;
 pub mod strike;
 pub mod tables_and_steps;
 pub mod voice;
+pub mod wave_file;
+pub mod waves;

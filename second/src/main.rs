@@ -1,7 +1,7 @@
-//! The second program's commands: play a case, read songs, damage songs, make the stored cases and their traces, make
-//! cases of real files.
+//! The second program's commands: play a case, read songs, damage songs, write and read waves, make waves by chance, make
+//! the stored cases and their traces, make cases of real files.
 
-use second::{case, make, real, songs};
+use second::{case, make, real, songs, waves};
 use std::fs;
 use std::io::{self, BufReader, BufWriter};
 use std::path::Path;
@@ -9,7 +9,9 @@ use std::process::ExitCode;
 
 const USAGE: &str = "usage: second play < CASE > TRACE
        second songs < FILES > LINES
+       second waves < COMMANDS > LINES
        second damage SEED COUNT [FILE.mid ..] > FILES
+       second noise SEED COUNT > COMMANDS
        second make DIR
        second real BANK.sf2 PIECE.mid SECONDS > CASE
        second struck BANK.sf2 > CASE";
@@ -21,7 +23,9 @@ fn main() -> ExitCode {
     let done = match words.as_slice() {
         ["play"] => case::play(BufReader::new(io::stdin().lock()), BufWriter::new(io::stdout().lock())),
         ["songs"] => songs::play(BufReader::new(io::stdin().lock()), BufWriter::new(io::stdout().lock())),
+        ["waves"] => waves::play(BufReader::new(io::stdin().lock()), BufWriter::new(io::stdout().lock())),
         ["damage", seed, count, files @ ..] => damaged_songs(seed, count, files),
+        ["noise", seed, count] => noise(seed, count),
         ["make", directory] => make::write_all(Path::new(directory)),
         ["real", bank, piece, seconds] => real_case(bank, piece, seconds),
         ["struck", bank] => {
@@ -64,4 +68,9 @@ fn damaged_songs(seed: &str, count: &str, files: &[&str]) -> io::Result<()> {
     let (seed, count) = (number(seed, "a seed")?, number(count, "a number of files")?);
     let files: Vec<Vec<u8>> = files.iter().map(|name| bytes_of(name)).collect::<io::Result<_>>()?;
     make::song_damage::write(seed, count, &files, &mut BufWriter::new(io::stdout().lock()))
+}
+
+fn noise(seed: &str, count: &str) -> io::Result<()> {
+    let (seed, count) = (number(seed, "a seed")?, number(count, "a number of commands")?);
+    make::wave_chance::write(seed, count, &mut BufWriter::new(io::stdout().lock()))
 }

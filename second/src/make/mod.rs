@@ -58,6 +58,25 @@
 //!   song_fault_cases
 //! - songs from fixed seeds, whole and damaged: song_chance, over song_damage
 //! - inputs that are themselves damaged: song_streams
+//!
+//! What the waves must reach (M-107):
+//!
+//! - no number and one, even and odd counts, rooms around what a file needs and around its heading: wave_write_cases
+//!   (counts, rooms); as many numbers as there is room for: most_numbers
+//! - k at the edges of 256 and of the range, at every power of two and its neighbours, on the left and on the right, and
+//!   zeros of both signs: wave_write_cases (whole_numbers, steps_of_levels)
+//! - every kind of number that is none, of both signs, in front, in the middle and at the end, and those half a step above
+//!   each of these k: wave_write_cases (other_numbers, one_bit_off)
+//! - 13 before 15: wave_write_cases (other_numbers, several_faults)
+//! - files of every length up to three frames and a few bytes longer, and headings that name another length:
+//!   wave_read_cases (lengths, lengths_that_the_heading_names)
+//! - each byte of the heading and each of its fields wrong, and what other writers make: wave_read_cases (one_byte_off,
+//!   fields, fields_the_other_way_round, other_kinds_of_file)
+//! - a reader's rooms, and 28 before 15: wave_read_cases (rooms, wrong_and_no_room); data at its extremes: data; the
+//!   longest files: largest
+//! - what is written is read and written again: wave_read_cases::what_was_written
+//! - numbers, files and rooms by chance: wave_chance
+//! - inputs that are themselves damaged: wave_streams
 
 mod admission;
 mod bad_cases;
@@ -85,14 +104,19 @@ mod strike_cases;
 mod track_cases;
 mod value_cases;
 mod voice_cases;
+pub mod wave_builder;
+pub mod wave_chance;
+mod wave_read_cases;
+pub mod wave_streams;
+mod wave_write_cases;
 
-use crate::{case, songs};
+use crate::{case, songs, waves};
 use script::Script;
 use std::fs;
 use std::io;
 use std::path::Path;
 
-/// Writes drive/, songs/, numbers/ and the examples of promises/ and voice/ into the directory.
+/// Writes drive/, songs/, waves/, numbers/ and the examples of promises/ and voice/ into the directory.
 pub fn write_all(directory: &Path) -> io::Result<()> {
     let script = all_cases();
     write_program(&directory.join("drive"), |case, trace| case::play(case, trace), &script.bytes, bad_cases::all())?;
@@ -101,6 +125,12 @@ pub fn write_all(directory: &Path) -> io::Result<()> {
         |files, lines| songs::play(files, lines),
         &song_streams::stream(),
         song_streams::damaged(),
+    )?;
+    write_program(
+        &directory.join("waves"),
+        |commands, lines| waves::play(commands, lines),
+        &wave_streams::stream(),
+        wave_streams::damaged(),
     )?;
     let numbers = number_lines::lines();
     write_file(&directory.join("numbers/stdout"), numbers.as_bytes())?;
