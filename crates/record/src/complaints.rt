@@ -7,7 +7,7 @@ pub fn bad(begun: usize) {
     io::print_decimal(STDERR_FILENO, begun as u64);
     io::write_all(
         STDERR_FILENO,
-        b": this command is unknown, cut off, or has a number that is too large\n",
+        b": the command there is unknown, cut off, or has a number that is out of range\n",
     );
 }
 

@@ -122,14 +122,18 @@ fn record(room: &mut [u8; 4194304], n: usize) {
     pour(&mut bank, &mut ram, &mut rom, room, n, counted.frames);
 }
 
-// The case is read whole into one room. One that fills it to the last byte may go on behind it, and is refused.
-// Room and memories stand on the stack: 4 MiB and twice 1 MiB, of the 8 MiB that a process has by default.
-fn main() {
-    let mut room = [0u8; 4194304];
-    let n = io::read_full(STDIN_FILENO, &mut room);
+// The case is read whole into the room. One that fills it to the last byte may go on behind it, and is refused.
+fn listen(room: &mut [u8; 4194304]) {
+    let n = io::read_full(STDIN_FILENO, room);
     if n < 4194304 {
-        record(&mut room, n);
+        record(room, n);
     } else {
         complaints::long();
     }
+}
+
+// Room and memories stand on the stack: 4 MiB and twice 1 MiB, of the 8 MiB that a process has by default.
+fn main() {
+    let mut room = [0u8; 4194304];
+    listen(&mut room);
 }
