@@ -68,7 +68,7 @@ fn main() {
     let mut tape = tapes::begin();
     let mut turns = u64::MAX;
     while turns > 0 && !tape.place.cut {
-        let c = cases::next_command(&mut room, tape.place);
+        let c = tapes::next(&mut room, tape);
         if ringer::moves(c) {
             let p = play(&bank, &ram, &rom, &mut text, c, e, tape);
             e = p.engine;
