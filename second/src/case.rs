@@ -18,17 +18,22 @@ pub const OUTPUT_ROOM: u32 = 8_448;
 /// What each number of a render's output holds before the call.
 const BEFORE: u32 = 0x1234_5678;
 
-/// Why a run ends: the case is damaged, or reading or writing failed.
+/// Why a run ends: the case is damaged, by a command of which this can be said, or reading or writing failed.
 pub(crate) enum Stop {
-    Bad,
+    Bad(&'static str),
     Failed(io::Error),
 }
+
+const CUT_OFF: Stop = Stop::Bad("is cut off");
+pub(crate) const NO_ROOM: Stop = Stop::Bad("names more than there is room for");
+pub(crate) const UNKNOWN: Stop = Stop::Bad("is unknown");
+const NO_STROKE: Stop = Stop::Bad("names a stroke that no hammer makes");
 
 impl From<io::Error> for Stop {
     /// A command that is cut off is a damaged case, and no failure of reading.
     fn from(error: io::Error) -> Stop {
         match error.kind() {
-            ErrorKind::UnexpectedEof => Stop::Bad,
+            ErrorKind::UnexpectedEof => CUT_OFF,
             _ => Stop::Failed(error),
         }
     }
@@ -44,7 +49,7 @@ impl<R: Read> Commands<R> {
     pub(crate) fn letter(&mut self) -> Result<Option<u8>, Stop> {
         match self.byte() {
             Ok(letter) => Ok(Some(letter)),
-            Err(Stop::Bad) => Ok(None),
+            Err(Stop::Bad(_)) => Ok(None),
             Err(failed) => Err(failed),
         }
     }
@@ -61,7 +66,7 @@ impl<R: Read> Commands<R> {
         Ok(u16::from_le_bytes(bytes))
     }
 
-    fn u32(&mut self) -> Result<u32, Stop> {
+    pub(crate) fn u32(&mut self) -> Result<u32, Stop> {
         let mut bytes = [0; 4];
         self.input.read_exact(&mut bytes)?;
         Ok(u32::from_le_bytes(bytes))
@@ -74,10 +79,10 @@ impl<R: Read> Commands<R> {
     }
 
     /// A length that may not be above what there is room for.
-    fn length(&mut self, room: u32) -> Result<usize, Stop> {
+    pub(crate) fn length(&mut self, room: u32) -> Result<usize, Stop> {
         let length = self.u32()?;
         if length > room {
-            return Err(Stop::Bad);
+            return Err(NO_ROOM);
         }
         Ok(length as usize)
     }
@@ -87,8 +92,8 @@ impl<R: Read> Commands<R> {
         self.bytes(length)
     }
 
-    fn memory(&mut self) -> Result<Vec<i16>, Stop> {
-        let length = self.length(MEMORY_ROOM)?;
+    fn memory(&mut self, room: u32) -> Result<Vec<i16>, Stop> {
+        let length = self.length(room)?;
         let bytes = self.bytes(2 * length)?;
         let pairs = bytes.chunks_exact(2);
         Ok(pairs.map(|b| i16::from_le_bytes([b[0], b[1]])).collect())
@@ -119,43 +124,42 @@ impl Memory {
 }
 
 /// The engine and what is lent to it, as a case goes on.
-struct Player {
+pub(crate) struct Player {
     tables: &'static Tables,
     engine: Engine,
     bank: Result<Bank, Fault>,
     ram: Memory,
     rom: Memory,
+    /// How many samples each memory may have.
+    memory_room: u32,
 }
 
 /// Plays a case and writes its trace. A damaged case ends with the line `bad`.
-pub fn play(input: impl Read, mut output: impl Write) -> io::Result<()> {
-    let mut player = Player {
-        tables: tables(),
-        engine: Engine::fresh(0),
-        bank: admit(&[]),
-        ram: Memory::default(),
-        rom: Memory::default(),
-    };
-    let mut commands = Commands { input };
-    let stop = loop {
-        match commands.letter() {
-            Ok(None) => break None,
-            Ok(Some(letter)) => match player.command(letter, &mut commands) {
-                Ok(line) => output.write_all(&line)?,
-                Err(stop) => break Some(stop),
-            },
-            Err(stop) => break Some(stop),
-        }
-    };
-    end_run(stop, output)
+pub fn play(input: impl Read, output: impl Write) -> io::Result<()> {
+    let mut player = Player::new(MEMORY_ROOM);
+    run(input, output, |commands| match commands.letter()? {
+        None => Ok(None),
+        Some(letter) => player.command(letter, commands).map(Some),
+    })
 }
 
-/// The end of a run: what is damaged ends with the line `bad`.
-pub(crate) fn end_run(stop: Option<Stop>, mut output: impl Write) -> io::Result<()> {
-    match stop {
-        None => {}
-        Some(Stop::Bad) => output.write_all(b"bad\n")?,
-        Some(Stop::Failed(error)) => return Err(error),
+/// Writes what each command gives, up to the end of the input. What is damaged ends the run with the line `bad`.
+pub(crate) fn run<R: Read>(
+    input: R,
+    mut output: impl Write,
+    mut next: impl FnMut(&mut Commands<R>) -> Result<Option<Vec<u8>>, Stop>,
+) -> io::Result<()> {
+    let mut commands = Commands { input };
+    loop {
+        match next(&mut commands) {
+            Ok(Some(lines)) => output.write_all(&lines)?,
+            Ok(None) => break,
+            Err(Stop::Bad(_)) => {
+                output.write_all(b"bad\n")?;
+                break;
+            }
+            Err(Stop::Failed(error)) => return Err(error),
+        }
     }
     output.flush()
 }
@@ -168,12 +172,23 @@ fn name_line<R: Read>(commands: &mut Commands<R>) -> Result<Vec<u8>, Stop> {
 }
 
 impl Player {
+    pub(crate) fn new(memory_room: u32) -> Player {
+        Player {
+            tables: tables(),
+            engine: Engine::fresh(0),
+            bank: admit(&[]),
+            ram: Memory::default(),
+            rom: Memory::default(),
+            memory_room,
+        }
+    }
+
     /// One command; the answer is its line, or nothing where it has none.
-    fn command<R: Read>(&mut self, letter: u8, c: &mut Commands<R>) -> Result<Vec<u8>, Stop> {
+    pub(crate) fn command<R: Read>(&mut self, letter: u8, c: &mut Commands<R>) -> Result<Vec<u8>, Stop> {
         match letter {
             b'B' => self.bank = admit(&c.bank()?),
-            b'M' => self.ram = Memory::new(c.memory()?),
-            b'O' => self.rom = Memory::new(c.memory()?),
+            b'M' => self.ram = Memory::new(c.memory(self.memory_room)?),
+            b'O' => self.rom = Memory::new(c.memory(self.memory_room)?),
             b'm' => self.ram.cut(c.u32()?),
             b'x' => self.rom.cut(c.u32()?),
             b'F' => self.engine = Engine::fresh(c.u32()?),
@@ -201,9 +216,13 @@ impl Player {
             }
             b'p' => counted(self.engine.program(c.byte()?, c.byte()?)),
             b'b' => counted(self.engine.bend(c.byte()?, c.u16()?)),
-            b'r' => self.render(c.u32()?, c.length(OUTPUT_ROOM)?),
+            b'r' => {
+                let (answer, output) = self.render(c)?;
+                let bytes = output.iter().flat_map(|number| number.to_bits().to_le_bytes());
+                format!("{} {:016x}", answer.err().unwrap_or(0), hash(bytes))
+            }
             b's' => self.panel(c.byte()?),
-            _ => return Err(Stop::Bad),
+            _ => return Err(UNKNOWN),
         };
         let state = self.state();
         Ok(format!("{} {answer} | {state}\n", letter as char))
@@ -238,7 +257,7 @@ impl Player {
     fn hammer<R: Read>(&self, c: &mut Commands<R>) -> Result<String, Stop> {
         let [program, number, key, velocity] = [c.byte()?, c.byte()?, c.byte()?, c.byte()?];
         if key > 127 || velocity == 0 || velocity > 127 {
-            return Err(Stop::Bad);
+            return Err(NO_STROKE);
         }
         Ok(strike::lines(&self.bank, program, number, key, velocity))
     }
@@ -248,12 +267,21 @@ impl Player {
         self.engine.note_on(self.tables, &lent, channel, key, velocity)
     }
 
-    fn render(&mut self, clock: u32, length: usize) -> String {
+    /// The answer of an r command, and the whole output after it.
+    fn render<R: Read>(&mut self, c: &mut Commands<R>) -> Result<(Answer, Vec<f32>), Stop> {
+        let (clock, length) = (c.u32()?, c.length(OUTPUT_ROOM)?);
         let lent = Lent { bank: &self.bank, ram: self.ram.part(), rom: self.rom.part() };
         let mut output = vec![f32::from_bits(BEFORE); length];
         let answer = self.engine.render(self.tables, &lent, clock, &mut output);
-        let number = answer.err().unwrap_or(0);
-        format!("{number} {:016x}", hash(&output))
+        Ok((answer, output))
+    }
+
+    /// The numbers that an r command writes, two for each frame; none where it is refused.
+    pub(crate) fn rendered<R: Read>(&mut self, c: &mut Commands<R>) -> Result<Vec<f32>, Stop> {
+        let before = self.engine.clock;
+        let (_, mut output) = self.render(c)?;
+        output.truncate(2 * self.engine.clock.wrapping_sub(before) as usize);
+        Ok(output)
     }
 
     fn panel(&self, slot: u8) -> String {
@@ -303,13 +331,7 @@ fn counted(answer: Answer) -> String {
     }
 }
 
-/// The FNV-1a hash of 64 bits over the numbers' bits, the low byte of each first.
-fn hash(output: &[f32]) -> u64 {
-    let mut hash = 0xcbf2_9ce4_8422_2325u64;
-    for number in output {
-        for byte in number.to_bits().to_le_bytes() {
-            hash = (hash ^ byte as u64).wrapping_mul(0x100_0000_01b3);
-        }
-    }
-    hash
+/// The FNV-1a hash of 64 bits.
+pub(crate) fn hash(bytes: impl Iterator<Item = u8>) -> u64 {
+    bytes.fold(0xcbf2_9ce4_8422_2325, |hash, byte| (hash ^ byte as u64).wrapping_mul(0x100_0000_01b3))
 }

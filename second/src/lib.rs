@@ -3,14 +3,18 @@
 
 pub mod bank;
 pub mod bank_admission;
+pub mod bells;
 pub mod big;
 pub mod case;
 pub mod key_to_layers;
 pub mod make;
 pub mod midi_file;
 pub mod real;
+pub mod record;
 pub mod slots_keys_clock;
 pub mod songs;
 pub mod strike;
 pub mod tables_and_steps;
 pub mod voice;
+pub mod wave_file;
+pub mod waves;

@@ -1,44 +1,71 @@
-//! The second program's commands: play a case, read songs, damage songs, make the stored cases and their traces, make
-//! cases of real files.
+//! The second program's commands: play a case, record one, read songs, damage songs, write and read waves, make waves by
+//! chance, make the stored cases and their traces, make cases of real files, make the carillon and its piece.
 
-use second::{case, make, real, songs};
+use second::{bells, case, make, real, record, songs, waves};
 use std::fs;
-use std::io::{self, BufReader, BufWriter};
+use std::io::{self, BufReader, BufWriter, Write};
 use std::path::Path;
 use std::process::ExitCode;
 
 const USAGE: &str = "usage: second play < CASE > TRACE
+       second record < CASE > FILE.wav
        second songs < FILES > LINES
+       second waves < COMMANDS > LINES
        second damage SEED COUNT [FILE.mid ..] > FILES
+       second noise SEED COUNT > COMMANDS
        second make DIR
        second real BANK.sf2 PIECE.mid SECONDS > CASE
-       second struck BANK.sf2 > CASE";
+       second struck BANK.sf2 > CASE
+       second bells > CASE
+       second bells DIR";
 
-/// The status is 0 for a damaged case too, whose trace ends with `bad`; 1 where reading or writing fails; 2 for usage.
+/// The status is 0 for a damaged case too, whose trace ends with `bad`; 1 where reading or writing fails, and for a damaged
+/// case that has no recording; 2 for usage.
 fn main() -> ExitCode {
     let arguments: Vec<String> = std::env::args().skip(1).collect();
     let words: Vec<&str> = arguments.iter().map(String::as_str).collect();
     let done = match words.as_slice() {
         ["play"] => case::play(BufReader::new(io::stdin().lock()), BufWriter::new(io::stdout().lock())),
+        ["record"] => return recorded(),
         ["songs"] => songs::play(BufReader::new(io::stdin().lock()), BufWriter::new(io::stdout().lock())),
+        ["waves"] => waves::play(BufReader::new(io::stdin().lock()), BufWriter::new(io::stdout().lock())),
         ["damage", seed, count, files @ ..] => damaged_songs(seed, count, files),
+        ["noise", seed, count] => noise(seed, count),
         ["make", directory] => make::write_all(Path::new(directory)),
         ["real", bank, piece, seconds] => real_case(bank, piece, seconds),
         ["struck", bank] => {
             real_bank(bank).and_then(|bank| real::write_strikes(&bank, &mut BufWriter::new(io::stdout().lock())))
         }
+        ["bells"] => put(&bells::case()),
+        ["bells", directory] => bells::write_files(Path::new(directory)),
         _ => {
             eprintln!("{USAGE}");
             return ExitCode::from(2);
         }
     };
+    status("second", done)
+}
+
+fn status(name: &str, done: io::Result<()>) -> ExitCode {
     match done {
         Ok(()) => ExitCode::SUCCESS,
         Err(error) => {
-            eprintln!("second: {error}");
+            eprintln!("{name}: {error}");
             ExitCode::FAILURE
         }
     }
+}
+
+/// Of a damaged case no file is written; the status is 1.
+fn recorded() -> ExitCode {
+    let file = record::file(BufReader::new(io::stdin().lock()));
+    status("record", file.and_then(|file| put(&file)))
+}
+
+fn put(bytes: &[u8]) -> io::Result<()> {
+    let mut output = io::stdout().lock();
+    output.write_all(bytes)?;
+    output.flush()
 }
 
 /// A file's bytes, with its name in what is said where it cannot be read.
@@ -64,4 +91,9 @@ fn damaged_songs(seed: &str, count: &str, files: &[&str]) -> io::Result<()> {
     let (seed, count) = (number(seed, "a seed")?, number(count, "a number of files")?);
     let files: Vec<Vec<u8>> = files.iter().map(|name| bytes_of(name)).collect::<io::Result<_>>()?;
     make::song_damage::write(seed, count, &files, &mut BufWriter::new(io::stdout().lock()))
+}
+
+fn noise(seed: &str, count: &str) -> io::Result<()> {
+    let (seed, count) = (number(seed, "a seed")?, number(count, "a number of commands")?);
+    make::wave_chance::write(seed, count, &mut BufWriter::new(io::stdout().lock()))
 }

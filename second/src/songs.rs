@@ -1,6 +1,6 @@
 //! Songs: MIDI files one behind the other, each a length and its bytes, and the lines for each of them.
 
-use crate::case::{end_run, Commands, Stop};
+use crate::case::{run, Commands, Stop, NO_ROOM};
 use crate::midi_file;
 use std::io::{self, Read, Write};
 
@@ -8,16 +8,8 @@ use std::io::{self, Read, Write};
 pub const FILE_ROOM: u32 = 66_000;
 
 /// Writes the lines of each file. One that is cut off, or longer than there is room for, ends the run with `bad`.
-pub fn play(input: impl Read, mut output: impl Write) -> io::Result<()> {
-    let mut commands = Commands { input };
-    let stop = loop {
-        match next_file(&mut commands) {
-            Ok(None) => break None,
-            Ok(Some(file)) => output.write_all(lines(&file).as_bytes())?,
-            Err(stop) => break Some(stop),
-        }
-    };
-    end_run(stop, output)
+pub fn play(input: impl Read, output: impl Write) -> io::Result<()> {
+    run(input, output, |commands| Ok(next_file(commands)?.map(|file| lines(&file).into_bytes())))
 }
 
 /// The next file, nothing at the end of the input. The length's first byte is where the input may end.
@@ -25,7 +17,7 @@ fn next_file<R: Read>(commands: &mut Commands<R>) -> Result<Option<Vec<u8>>, Sto
     let Some(low) = commands.letter()? else { return Ok(None) };
     let length = u32::from_le_bytes([low, commands.byte()?, commands.byte()?, commands.byte()?]);
     if length > FILE_ROOM {
-        return Err(Stop::Bad);
+        return Err(NO_ROOM);
     }
     commands.bytes(length as usize).map(Some)
 }

@@ -1,4 +1,4 @@
--- Laws of the hash: one number more at the end, and a number that is not itself is a NaN.
+-- Laws of the hash: one more at the end, and a number that is not itself is a NaN.
 use Prim.Native.Nat.{ℕ, _+_, _<_, _*_}
 use mathlib.Core.Path.{_≡_, refl, ap}
 use mathlib.Core.List.{List, [], _∷_, _++_}
@@ -8,17 +8,17 @@ use lib.ListN.{length, take, getD}
 use lib.Seq.{take-suc}
 use mathlib.Core.Bool.{Bool, true, false, Bool·beq, not}
 use borrow.Author.Tests.{eq-eqb}
-use Rattle.cases.specs.Internal.Hash.{bitsOf, hashBits, hashAll}
+use Rattle.cases.specs.Internal.Hash.{hashEach}
 
--- the hash over numbers and one more
-after-more : (h : ℕ) (xs : List Float) (x : Float) → hashAll h (xs ++ (x ∷ [])) ≡ hashBits (hashAll h xs) (bitsOf x)
-unfolding hashAll
-after-more h [] x = refl
-after-more h (y ∷ ys) x = after-more (hashBits h (bitsOf y)) ys x
+-- the hash over a list and one more
+after-more : {A : Type 0} (f : ℕ → A → ℕ) (h : ℕ) (xs : List A) (x : A) → hashEach f h (xs ++ (x ∷ [])) ≡ f (hashEach f h xs) x
+unfolding hashEach
+after-more f h [] x = refl
+after-more f h (y ∷ ys) x = after-more f (f h y) ys x
 
--- the hash over the first i + 1 numbers
-pub hash-step : (h : ℕ) (xs : List Float) (i : ℕ) → i < length xs → hashAll h (take (i + 1) xs) ≡ hashBits (hashAll h (take i xs)) (bitsOf (getD xs i nan))
-hash-step h xs i l = rw (add-one, take-suc xs i nan l) (after-more h (take i xs) (getD xs i nan))
+-- the hash over the first i + 1 of a list
+pub hash-step : {A : Type 0} (f : ℕ → A → ℕ) (h : ℕ) (xs : List A) (i : ℕ) (d : A) → i < length xs → hashEach f h (take (i + 1) xs) ≡ f (hashEach f h (take i xs)) (getD xs i d)
+hash-step f h xs i d l = rw (add-one, take-suc xs i d l) (after-more f h (take i xs) (getD xs i d))
 
 beq-self : (s : Bool) → Bool·beq s s ≡ true
 beq-self true = refl

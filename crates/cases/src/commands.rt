@@ -70,7 +70,7 @@ fn of_bytes(letter: u8, bytes: &[u8; 8], place: Place) -> Command {
 }
 
 // The next command.
-pub fn next_command(room: &mut [u8; 65536], from: Place) -> Command {
+pub fn next_command(room: &mut [u8], from: Place) -> Command {
     let b = next_byte(room, from);
     let letter = b.value;
     let begun = b.place;

@@ -1,6 +1,8 @@
-// The FNV-1a hash of 64 bits over the bits of binary32 numbers.
+// The FNV-1a hash of 64 bits over bytes, over the bits of binary32 numbers and over those of samples.
 ghost use mathlib.Core.Path.{_≡_};
-ghost use Rattle.cases.specs.Internal.Hash.{bitsOf, hashByte, hashBits, hashAll, times as Hash·times};
+ghost use Rattle.arith.specs.Floors.{modZ};
+ghost use Rattle.cases.specs.Internal.Hash.{bitsOf, hashAll, hashBits, hashByte, hashBytes, hashSample, hashSamples, times as Hash·times};
+use crate::writing::magnitude;
 
 // A number's 32 bits, the quiet pattern for a NaN.
 pub fn bits_of(x: f32) -> u32
@@ -45,6 +47,56 @@ pub fn fnv(numbers: &[f32]) -> u64
     let mut i = 0;
     while i < numbers.len() {
         h = hash_bits(h, bits_of(numbers[i]));
+        i += 1;
+    }
+    h
+}
+
+// A byte, widened to be hashed.
+fn wide(b: u8) -> u64
+    ensures { λ r. ⌜ r ≡ b ⌝ }
+{
+    b as u64
+}
+
+// The hash over all of the bytes.
+pub fn fnv_bytes(bytes: &[u8]) -> u64
+    ensures { λ r. ⌜ r ≡ hashBytes 14695981039346656037 (now (bytes .entry)) ⌝ }
+{
+    let mut h: u64 = 14695981039346656037;
+    let mut i = 0;
+    while i < bytes.len() {
+        h = hash_byte(h, wide(bytes[i]));
+        i += 1;
+    }
+    h
+}
+
+// A sample's 16 bits, in two's complement.
+fn sample_bits(s: i16) -> u64
+    ensures { λ r. ⌜ r ≡ modZ s 65536 ⌝ }
+{
+    let size = magnitude(s as i32);
+    if s < 0 { 65536 - size } else { size }
+}
+
+// The two bytes of a sample, the low one first.
+fn hash_sample(h: u64, s: i16) -> u64
+    ensures { λ r. ⌜ r ≡ hashSample h s ⌝ }
+{
+    let n = sample_bits(s);
+    let low = hash_byte(h, n % 256);
+    hash_byte(low, n / 256)
+}
+
+// The hash over all of the samples.
+pub fn fnv_samples(samples: &[i16]) -> u64
+    ensures { λ r. ⌜ r ≡ hashSamples 14695981039346656037 (now (samples .entry)) ⌝ }
+{
+    let mut h: u64 = 14695981039346656037;
+    let mut i = 0;
+    while i < samples.len() {
+        h = hash_sample(h, samples[i]);
         i += 1;
     }
     h

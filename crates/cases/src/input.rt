@@ -1,6 +1,6 @@
 // Reading standard input as it comes, through a lent room: bytes, little-endian numbers, samples.
 ghost use mathlib.Core.Path.{_≡_};
-ghost use mathlib.Core.Bool.{false};
+ghost use mathlib.Core.Bool.{true, false};
 ghost use Prim.Native.Nat.{_+_, _*_};
 use libc::STDIN_FILENO;
 
@@ -9,6 +9,8 @@ pub struct Place {
     pub at: usize,
     pub end: usize,
     pub cut: bool,
+    // nothing comes behind what stands in the room
+    pub last: bool,
 }
 
 // What was read, 0 where the input is cut off, and where to go on.
@@ -31,19 +33,44 @@ pub struct Long {
 
 // Nothing is read yet.
 pub fn start() -> Place
-    ensures { λ r. ⌜ (r .at ≡ 0) × (r .end ≡ 0) × (r .cut ≡ false) ⌝ }
+    ensures { λ r. ⌜ (r .at ≡ 0) × (r .end ≡ 0) × (r .cut ≡ false) × (r .last ≡ false) ⌝ }
 {
     Place {
         at: 0,
         end: 0,
         cut: false,
+        last: false,
     }
 }
 
+// The input is n bytes that stand in the room already.
+pub fn whole(n: usize) -> Place
+    ensures { λ r. ⌜ (r .at ≡ 0) × (r .end ≡ n) × (r .cut ≡ false) × (r .last ≡ true) ⌝ }
+{
+    Place {
+        at: 0,
+        end: n,
+        cut: false,
+        last: true,
+    }
+}
+
+// The same place, marked: nothing more is read. The input ends here, or a command is bad: unknown, or one that names more than there is room for.
+pub fn spoilt(place: Place) -> Place
+    ensures { λ r. ⌜ (r .at ≡ place .at) × (r .end ≡ place .end) × (r .cut ≡ true) × (r .last ≡ place .last) ⌝ }
+{
+    let mut next = place;
+    next.cut = true;
+    next
+}
+
 // The room is filled again where all of it is read; the place is cut where no byte is left. A read that fails counts as the end of the input.
-pub fn filled(room: &mut [u8; 65536], from: Place) -> Place {
+pub fn filled(room: &mut [u8], from: Place) -> Place {
     if from.cut || from.at < from.end {
         return from;
+    }
+    if from.last {
+        return spoilt(from);
     }
     let got = libc::read(STDIN_FILENO, room);
     let n = io::count(got, room);
@@ -51,37 +78,30 @@ pub fn filled(room: &mut [u8; 65536], from: Place) -> Place {
         at: 0,
         end: n,
         cut: n == 0,
+        last: false,
     }
 }
 
 // The next byte.
-pub fn next_byte(room: &mut [u8; 65536], from: Place) -> Byte {
+pub fn next_byte(room: &mut [u8], from: Place) -> Byte {
     let p = filled(room, from);
     let at = p.at;
-    if at < p.end && at < 65536 {
-        let next = Place {
-            at: at + 1,
-            end: p.end,
-            cut: p.cut,
-        };
+    if at < p.end && at < room.len() {
+        let mut next = p;
+        next.at = at + 1;
         return Byte {
             value: room[at],
             place: next,
         };
     }
-    let over = Place {
-        at,
-        end: p.end,
-        cut: true,
-    };
     Byte {
         value: 0,
-        place: over,
+        place: spoilt(p),
     }
 }
 
 // The next two bytes, the low one first.
-pub fn next_u16(room: &mut [u8; 65536], from: Place) -> Short {
+pub fn next_u16(room: &mut [u8], from: Place) -> Short {
     let low = next_byte(room, from);
     let middle = low.place;
     let high = next_byte(room, middle);
@@ -93,7 +113,7 @@ pub fn next_u16(room: &mut [u8; 65536], from: Place) -> Short {
 }
 
 // The next four bytes, the lowest first.
-pub fn next_u32(room: &mut [u8; 65536], from: Place) -> Long {
+pub fn next_u32(room: &mut [u8], from: Place) -> Long {
     let low = next_u16(room, from);
     let middle = low.place;
     let high = next_u16(room, middle);
@@ -119,7 +139,7 @@ fn four(low: u16, high: u16) -> u32
 }
 
 // As many bytes as are lent.
-pub fn next_bytes(room: &mut [u8; 65536], from: Place, into: &mut [u8]) -> Place {
+pub fn next_bytes(room: &mut [u8], from: Place, into: &mut [u8]) -> Place {
     let mut p = from;
     let mut i = 0;
     while i < into.len() {
@@ -132,7 +152,7 @@ pub fn next_bytes(room: &mut [u8; 65536], from: Place, into: &mut [u8]) -> Place
 }
 
 // As many signed samples of two bytes as are lent.
-pub fn next_samples(room: &mut [u8; 65536], from: Place, into: &mut [i16]) -> Place {
+pub fn next_samples(room: &mut [u8], from: Place, into: &mut [i16]) -> Place {
     let mut p = from;
     let mut i = 0;
     while i < into.len() {

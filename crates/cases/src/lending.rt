@@ -1,6 +1,5 @@
 // What a case lends: the bytes or samples that are read into an array, and the first of them as a part that is lent on.
 ghost use mathlib.Core.Path.{_≡_};
-ghost use mathlib.Core.Bool.{true};
 ghost use Prim.Native.Nat.{_≤_};
 ghost use lib.ListN.{length, take};
 ghost use Rattle.cases.specs.Internal.Lending.{unlent};
@@ -8,6 +7,7 @@ use crate::commands::Command;
 use crate::input::Place;
 use crate::input::next_bytes;
 use crate::input::next_samples;
+use crate::input::spoilt;
 use arith::least;
 
 // How many bytes or samples an array holds now, and the place behind them.
@@ -31,17 +31,6 @@ pub struct Loan {
     pub place: Place,
 }
 
-// A place that marks a bad command: one that is unknown, or that names more than there is room for.
-pub fn spoilt(place: Place) -> Place
-    ensures { λ r. ⌜ (r .at ≡ place .at) × (r .end ≡ place .end) × (r .cut ≡ true) ⌝ }
-{
-    Place {
-        at: place.at,
-        end: place.end,
-        cut: true,
-    }
-}
-
 // The first n bytes of what there is, at most all of it.
 pub fn first_bytes(bytes: &[u8], n: usize) -> &[u8]
     ensures { λ r. ⌜ now r ≡ take n (now (bytes .entry)) ⌝ }
@@ -63,7 +52,7 @@ pub fn first_samples(samples: &[i16], n: usize) -> &[i16]
 }
 
 // A bank of n bytes. One that is longer than what is lent for it is bad before its bytes are looked at, and holds nothing.
-pub fn next_bank(room: &mut [u8; 65536], from: Place, into: &mut [u8], n: u32) -> Held
+pub fn next_bank(room: &mut [u8], from: Place, into: &mut [u8], n: u32) -> Held
     ensures { λ r. ⌜ r .count ≤ length (now (into .entry)) ⌝ }
 {
     let count = n as usize;
@@ -78,7 +67,7 @@ pub fn next_bank(room: &mut [u8; 65536], from: Place, into: &mut [u8], n: u32) -
 }
 
 // A memory of n samples, as a bank of bytes.
-pub fn next_memory(room: &mut [u8; 65536], from: Place, into: &mut [i16], n: u32) -> Held
+pub fn next_memory(room: &mut [u8], from: Place, into: &mut [i16], n: u32) -> Held
     ensures { λ r. ⌜ r .count ≤ length (now (into .entry)) ⌝ }
 {
     let count = n as usize;
@@ -113,7 +102,7 @@ fn at_most(n: u32, held: usize) -> usize
 }
 
 // B: a bank.
-fn lend_bank(bank: &mut [u8], room: &mut [u8; 65536], c: Command, lent: Lent) -> Loan {
+fn lend_bank(bank: &mut [u8], room: &mut [u8], c: Command, lent: Lent) -> Loan {
     let held = next_bank(room, c.place, bank, c.first);
     let place = held.place;
     let mut next = lent;
@@ -122,7 +111,7 @@ fn lend_bank(bank: &mut [u8], room: &mut [u8; 65536], c: Command, lent: Lent) ->
 }
 
 // M: a RAM, all of it lent.
-fn lend_ram(ram: &mut [i16], room: &mut [u8; 65536], c: Command, lent: Lent) -> Loan {
+fn lend_ram(ram: &mut [i16], room: &mut [u8], c: Command, lent: Lent) -> Loan {
     let held = next_memory(room, c.place, ram, c.first);
     let place = held.place;
     let mut next = lent;
@@ -132,7 +121,7 @@ fn lend_ram(ram: &mut [i16], room: &mut [u8; 65536], c: Command, lent: Lent) -> 
 }
 
 // O: a ROM, all of it lent.
-fn lend_rom(rom: &mut [i16], room: &mut [u8; 65536], c: Command, lent: Lent) -> Loan {
+fn lend_rom(rom: &mut [i16], room: &mut [u8], c: Command, lent: Lent) -> Loan {
     let held = next_memory(room, c.place, rom, c.first);
     let place = held.place;
     let mut next = lent;
@@ -158,7 +147,7 @@ pub fn lend(
     bank: &mut [u8],
     ram: &mut [i16],
     rom: &mut [i16],
-    room: &mut [u8; 65536],
+    room: &mut [u8],
     c: Command,
     lent: Lent,
 ) -> Loan {

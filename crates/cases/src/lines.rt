@@ -72,17 +72,22 @@ pub fn counted(text: &mut [u8; 65536], at: usize, letter: u8, status: u8, count:
     spaced(text, to, count as u64)
 }
 
+// A hash behind a space.
+pub fn hashed(text: &mut [u8; 65536], at: usize, hash: u64) -> usize {
+    let to = put(text, at, b' ');
+    hex(text, to, hash, 16)
+}
+
 // A render with the hash of its output.
 pub fn rendered(text: &mut [u8; 65536], at: usize, status: u8, hash: u64) -> usize {
-    let mut to = called(text, at, b'r', status);
-    to = put(text, to, b' ');
-    hex(text, to, hash, 16)
+    let to = called(text, at, b'r', status);
+    hashed(text, to, hash)
 }
 
 // The bytes are read before any of them is written, since none is where the command is cut off.
 fn write_name(
     bytes: &mut [u8],
-    room: &mut [u8; 65536],
+    room: &mut [u8],
     text: &mut [u8; 65536],
     from: Place,
     at: usize,
@@ -98,7 +103,7 @@ fn write_name(
 }
 
 // t: a case's name of n bytes.
-pub fn name(room: &mut [u8; 65536], text: &mut [u8; 65536], from: Place, at: usize, n: u8) -> Line {
+pub fn name(room: &mut [u8], text: &mut [u8; 65536], from: Place, at: usize, n: u8) -> Line {
     let mut bytes = [0u8; 256];
     let size = n as usize;
     write_name(&mut bytes[..size], room, text, from, at)

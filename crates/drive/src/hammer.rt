@@ -5,11 +5,6 @@ use crate::voices;
 use cases::Command;
 use records::Found;
 
-// Whether key and velocity may be struck.
-fn playable(key: u8, velocity: u8) -> bool {
-    key <= 127 && 0 < velocity && velocity <= 127
-}
-
 // No bank, or no such preset.
 fn none(text: &mut [u8; 65536], at: usize) -> usize {
     cases::word(text, at, b"h none\n")
@@ -46,9 +41,6 @@ fn strike(b: &[u8], text: &mut [u8; 65536], at: usize, c: Command) -> usize {
 
 // The call and its lines; the engine has no part in it.
 pub fn hit(bank: &[u8; 66000], text: &mut [u8; 65536], c: Command, tape: Tape) -> Tape {
-    if !playable(c.three, c.four) {
-        return tapes::spoilt(tape, c);
-    }
     let lent = tape.lent;
     let at = strike(cases::first_bytes(bank, lent.bank), text, tape.at, c);
     tapes::written(tape, c, at)

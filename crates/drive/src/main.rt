@@ -9,22 +9,13 @@ mod voices;
 
 use cases::Command;
 use engine::Engine;
+use ringer::Kind;
 use tapes::Tape;
 
 // The engine behind a command, and how much of the trace is to be written yet.
 pub struct Played {
     pub engine: Engine,
     pub at: usize,
-}
-
-// Whether a command is one for the engine: n, o, c, p, b, F, and r into an output that there is room for.
-fn moves(c: Command) -> bool {
-    let letter = c.letter;
-    match letter {
-        b'n' | b'o' | b'c' | b'p' | b'b' | b'F' => true,
-        b'r' => output::has_room(c.second),
-        _ => false,
-    }
 }
 
 // A command for the engine, by its letter.
@@ -45,25 +36,7 @@ fn play<'a>(
     }
 }
 
-// What is written or asked, by its letter. One that nobody knows is a bad command.
-fn write(
-    bank: &[u8; 66000],
-    room: &mut [u8; 65536],
-    text: &mut [u8; 65536],
-    c: Command,
-    e: Engine,
-    tape: Tape,
-) -> Tape {
-    let letter = c.letter;
-    match letter {
-        b'a' | b'i' | b'd' | b'j' | b'l' | b's' | b'u' => asking::ask(bank, text, c, e, tape),
-        b'h' => hammer::hit(bank, text, c, tape),
-        b't' => tapes::name(room, text, c, tape),
-        _ => tapes::spoilt(tape, c),
-    }
-}
-
-// What leaves the engine as it is: things lent, and what is written or asked.
+// What leaves the engine as it is: things lent, asked and written.
 fn tell(
     bank: &mut [u8; 66000],
     ram: &mut [i16; 65536],
@@ -74,10 +47,13 @@ fn tell(
     e: Engine,
     tape: Tape,
 ) -> Tape {
-    let letter = c.letter;
-    match letter {
-        b'B' | b'M' | b'O' | b'm' | b'x' => tapes::lend(bank, ram, rom, room, c, tape),
-        _ => write(bank, room, text, c, e, tape),
+    let kind = ringer::kind_of(c);
+    match kind {
+        Kind::Lends => tapes::lend(bank, ram, rom, room, c, tape),
+        Kind::Asks => asking::ask(bank, text, c, e, tape),
+        Kind::Strikes => hammer::hit(bank, text, c, tape),
+        Kind::Names => tapes::name(room, text, c, tape),
+        Kind::Bad => tapes::spoilt(tape, c),
     }
 }
 
@@ -92,8 +68,8 @@ fn main() {
     let mut tape = tapes::begin();
     let mut turns = u64::MAX;
     while turns > 0 && !tape.place.cut {
-        let c = cases::next_command(&mut room, tape.place);
-        if moves(c) {
+        let c = tapes::next(&mut room, tape);
+        if ringer::moves(c) {
             let p = play(&bank, &ram, &rom, &mut text, c, e, tape);
             e = p.engine;
             tape = tapes::written(tape, c, p.at);

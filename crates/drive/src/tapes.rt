@@ -24,6 +24,11 @@ pub fn begin() -> Tape {
     }
 }
 
+// The next command.
+pub fn next(room: &mut [u8; 65536], tape: Tape) -> Command {
+    cases::next_command(room, tape.place)
+}
+
 // The tape behind a command, with so much text to be written yet.
 pub fn written(tape: Tape, c: Command, at: usize) -> Tape {
     let place = c.place;

@@ -1,4 +1,7 @@
 pub mod PcmLaws
+pub mod PoursLaws
+pub mod RecordingLaws
+pub mod PlaybackLaws
 pub mod FractionsLaws
 pub mod RefusalsLaws
 pub mod StreamsLaws

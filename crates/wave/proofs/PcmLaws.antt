@@ -3,10 +3,10 @@ use mathlib.Core.Path.{_≡_, refl, sym, ap, ap₂, _∙_, subst}
 use mathlib.Core.Bool.{Bool, true, false, not, _&&_, cond, and-false, and-true, true≢false}
 use mathlib.Core.Logic.{_⊎_, inl, inr}
 use Prim.Native.Nat.{ℕ, zero, suc, _+_, _-_, _*_, _/_, _%_, _^_, _≤_, _<_}
-use native.Mathlib.Nat.{div-mul-le-self, lt-of-le-of-lt, eq-or-lt-of-le, eq-zero-or-pos, le-of-suc-le-suc, div-add-mod', dvd-iff-mod-eq-zero, eq-of-mul-eq-mul-right, le-of-eq, le-of-mul-le-mul-right, le-trans, lt-irrefl, lt-of-lt-of-le, mod-eq-of-lt, mul-assoc, mul-comm, mul-div-mul-right, mul-le-mul-left, mul-le-mul-right, mul-mod-left, mul-pos, mul-right-comm}
+use native.Mathlib.Nat.{div-mul-le-self, lt-of-le-of-lt, eq-or-lt-of-le, eq-zero-or-pos, le-of-suc-le-suc, div-add-mod', eq-of-mul-eq-mul-right, le-of-eq, le-of-mul-le-mul-right, le-trans, lt-irrefl, lt-of-lt-of-le, mod-eq-of-lt, mul-assoc, mul-comm, mul-div-mul-right, mul-le-mul-left, mul-le-mul-right, mul-mod-left, mul-pos, mul-right-comm}
 use native.Mathlib.Omega.{arith}
-use lib.Dec.{T, T-not, eqb, eqb→eq, leb, leb→le, le→leb, lt→ltb, ltb, ltb→lt, nltb→le, not-T, lit<, lit≤}
-use lib.IntN.{ℤ, pos, negsuc, negℤ}
+use lib.Dec.{T, T-not, eqb, eqb→eq, leb, leb→le, le→leb, ltb, ltb→lt, nltb→le, not-T, lit<, lit≤}
+use lib.IntN.{ℤ, pos, negℤ}
 use lib.Pow.{pow-add, pow-mono, pow-pos, shl-lt, shl-shr, shr-mono}
 use lib.Arith.{lt→nleb}
 use lib.Ieee.{Float, nan, inf, fin, binary32, up, down, odd, ofFields, ofBits, toBits, fits, isNan, ne}

@@ -69,9 +69,10 @@ pub fn bytes(frames: u64) -> [u8; 44]
 }
 
 // The heading at the beginning of the output, which has room for it.
-pub fn put(head: [u8; 44], out: &mut [u8])
-    requires { ⌜ 44 ≤ length (now out) ⌝ }
-    ensures { λ r. ⌜ now (out .exit) ≡ head ++ drop 44 (now (out .entry)) ⌝ }
+pub fn put(head: &[u8], out: &mut [u8])
+    requires whole { ⌜ length (now head) ≡ 44 ⌝ }
+    requires room { ⌜ 44 ≤ length (now out) ⌝ }
+    ensures { λ _. ⌜ now (out .exit) ≡ now (head .entry) ++ drop 44 (now (out .entry)) ⌝ }
 {
     let mut i = 0;
     while i < 44 {
@@ -91,6 +92,7 @@ pub fn heading(frames: u64, out: &mut [u8]) -> u8
     if out.len() < 44 {
         return 15;
     }
-    put(bytes(frames), out);
+    let head = bytes(frames);
+    put(&head, out);
     0
 }

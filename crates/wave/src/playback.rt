@@ -9,9 +9,10 @@ use crate::Heard;
 use crate::headings;
 
 // Whether a file begins with these 44 bytes.
-fn begins(file: &[u8], head: [u8; 44]) -> bool
-    requires { ⌜ 44 ≤ length (now file) ⌝ }
-    ensures { λ r. ⌜ r ≡ sameBytes (take 44 (now (file .entry))) head ⌝ }
+fn begins(file: &[u8], head: &[u8]) -> bool
+    requires whole { ⌜ length (now head) ≡ 44 ⌝ }
+    requires room { ⌜ 44 ≤ length (now file) ⌝ }
+    ensures { λ r. ⌜ r ≡ sameBytes (take 44 (now (file .entry))) (now (head .entry)) ⌝ }
 {
     let mut i = 0;
     while i < 44 {
@@ -37,14 +38,15 @@ fn is_recording(file: &[u8]) -> bool
     if 1073741814 < data / 4 {
         return false;
     }
-    begins(file, headings::bytes((data / 4) as u64))
+    let head = headings::bytes((data / 4) as u64);
+    begins(file, &head)
 }
 
 // The numbers of a file that was tested.
 fn fill(file: &[u8], out: &mut [i16])
     requires { ⌜ T (isRecording (now file)) ⌝ }
     requires room { ⌜ 2 * framesIn (now file) ≤ length (now out) ⌝ }
-    ensures { λ r. ⌜ now (out .exit) ≡ pcmsIn (drop 44 (now (file .entry))) ++ drop (2 * framesIn (now (file .entry))) (now (out .entry)) ⌝ }
+    ensures { λ _. ⌜ now (out .exit) ≡ pcmsIn (drop 44 (now (file .entry))) ++ drop (2 * framesIn (now (file .entry))) (now (out .entry)) ⌝ }
 {
     let count = (file.len() - 44) / 2;
     let mut i = 0;

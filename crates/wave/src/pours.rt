@@ -37,7 +37,7 @@ pub fn is_broken(numbers: &[f32]) -> bool
 pub fn fill(numbers: &[f32], out: &mut [u8], from: usize)
     requires { ⌜ T (not (isBroken (now numbers))) ⌝ }
     requires room { ⌜ from + 2 * length (now numbers) ≤ length (now out) ⌝ }
-    ensures { λ r. ⌜ now (out .exit) ≡ (take from (now (out .entry)) ++ pouredOf (now (numbers .entry))) ++ drop (from + 2 * length (now (numbers .entry))) (now (out .entry)) ⌝ }
+    ensures { λ _. ⌜ now (out .exit) ≡ (take from (now (out .entry)) ++ pouredOf (now (numbers .entry))) ++ drop (from + 2 * length (now (numbers .entry))) (now (out .entry)) ⌝ }
 {
     let mut i = 0;
     while i < numbers.len() {

@@ -20,7 +20,8 @@ pub fn write(numbers: &[f32], out: &mut [u8]) -> u8
     if out.len() < 44 + 4 * frames {
         return 15;
     }
-    headings::put(headings::bytes(frames as u64), out);
+    let head = headings::bytes(frames as u64);
+    headings::put(&head, out);
     pours::fill(numbers, out, 44);
     0
 }

@@ -2,7 +2,7 @@
 
 use super::bank_builder::{one_zone, quick, sample};
 use super::script::{noise, Script};
-use crate::case::{BANK_ROOM, MEMORY_ROOM, OUTPUT_ROOM};
+use crate::case::{BANK_ROOM, OUTPUT_ROOM};
 use std::collections::BTreeSet;
 
 /// The commands with the number of bytes that follow the letter; those with a length are cut off further below.
@@ -24,8 +24,8 @@ const FIXED: [(u8, usize); 15] = [
     (b'h', 4),
 ];
 
-/// Each damaged case with its name.
-pub fn all() -> Vec<(String, Vec<u8>)> {
+/// Each damaged case with its name, for a player with so much room in each memory.
+pub fn all(memory_room: u32) -> Vec<(String, Vec<u8>)> {
     let mut list = vec![("empty".to_string(), Vec::new())];
     for (letter, bytes) in FIXED {
         let shorts: BTreeSet<usize> = [0, bytes / 2, bytes - 1].into();
@@ -36,7 +36,7 @@ pub fn all() -> Vec<(String, Vec<u8>)> {
     }
     list.extend(unknown_letters());
     list.extend(cut_bodies());
-    list.extend(too_large());
+    list.extend(too_large(memory_room));
     list.extend(not_playable());
     list.push(("nothing-behind".to_string(), after_start(b'?', b"s\0s\0a")));
     list
@@ -81,15 +81,15 @@ fn cut_bodies() -> Vec<(String, Vec<u8>)> {
 }
 
 /// What is just too large, and what is far too large.
-fn too_large() -> Vec<(String, Vec<u8>)> {
+fn too_large(memory_room: u32) -> Vec<(String, Vec<u8>)> {
     let number = |n: u32| n.to_le_bytes().to_vec();
     let render = |n: u32| [number(3), number(n)].concat();
     vec![
         ("large-bb".to_string(), after_start(b'B', &number(BANK_ROOM + 1))),
         ("large-bb-most".to_string(), after_start(b'B', &number(u32::MAX))),
-        ("large-mm".to_string(), after_start(b'M', &number(MEMORY_ROOM + 1))),
+        ("large-mm".to_string(), after_start(b'M', &number(memory_room + 1))),
         ("large-mm-most".to_string(), after_start(b'M', &number(u32::MAX))),
-        ("large-oo".to_string(), after_start(b'O', &number(MEMORY_ROOM + 1))),
+        ("large-oo".to_string(), after_start(b'O', &number(memory_room + 1))),
         ("large-oo-half".to_string(), after_start(b'O', &number(0x8000_0001))),
         ("large-r".to_string(), after_start(b'r', &render(OUTPUT_ROOM + 1))),
         ("large-r-most".to_string(), after_start(b'r', &render(u32::MAX))),

@@ -26,6 +26,8 @@
 //! - the October night: key_cases::october_night, october_night_full
 //! - banks and runs from fixed seeds, damaged banks: chance_cases
 //! - damaged case files: bad_cases
+//! - recordings: every command, refused renders, outputs longer than their frames, both ends and about 0, a fresh engine,
+//!   a long memory: record_cases
 //! - the reader's opening and its rows (i, j), and each fault's kind and place (d), over every bank that a case examines:
 //!   listing_cases; faults of two kinds, and several of one kind: fault_cases
 //! - how many voices sound (u): count_cases
@@ -58,6 +60,25 @@
 //!   song_fault_cases
 //! - songs from fixed seeds, whole and damaged: song_chance, over song_damage
 //! - inputs that are themselves damaged: song_streams
+//!
+//! What the waves must reach (M-107):
+//!
+//! - no number and one, even and odd counts, rooms around what a file needs and around its heading: wave_write_cases
+//!   (counts, rooms); as many numbers as there is room for: most_numbers
+//! - k at the edges of 256 and of the range, at every power of two and its neighbours, on the left and on the right, and
+//!   zeros of both signs: wave_write_cases (whole_numbers, steps_of_levels)
+//! - every kind of number that is none, of both signs, in front, in the middle and at the end, and those half a step above
+//!   each of these k: wave_write_cases (other_numbers, one_bit_off)
+//! - 13 before 15: wave_write_cases (other_numbers, several_faults)
+//! - files of every length up to three frames and a few bytes longer, and headings that name another length:
+//!   wave_read_cases (lengths, lengths_that_the_heading_names)
+//! - each byte of the heading and each of its fields wrong, and what other writers make: wave_read_cases (one_byte_off,
+//!   fields, fields_the_other_way_round, other_kinds_of_file)
+//! - a reader's rooms, and 28 before 15: wave_read_cases (rooms, wrong_and_no_room); data at its extremes: data; the
+//!   longest files: largest
+//! - what is written is read and written again: wave_read_cases::what_was_written
+//! - numbers, files and rooms by chance: wave_chance
+//! - inputs that are themselves damaged: wave_streams
 
 mod admission;
 mod bad_cases;
@@ -73,6 +94,7 @@ mod listing_cases;
 mod number_lines;
 mod numbers_of_table;
 mod proof_examples;
+pub mod record_cases;
 pub mod script;
 pub mod song_builder;
 mod song_cases;
@@ -85,27 +107,50 @@ mod strike_cases;
 mod track_cases;
 mod value_cases;
 mod voice_cases;
+pub mod wave_builder;
+pub mod wave_chance;
+mod wave_read_cases;
+pub mod wave_streams;
+mod wave_write_cases;
 
-use crate::{case, songs};
+use crate::{case, record, songs, waves};
 use script::Script;
 use std::fs;
 use std::io;
 use std::path::Path;
 
-/// Writes drive/, songs/, numbers/ and the examples of promises/ and voice/ into the directory.
+/// Writes drive/, record/, songs/, waves/, numbers/ and the examples of promises/ and voice/ into the directory.
 pub fn write_all(directory: &Path) -> io::Result<()> {
-    let script = all_cases();
-    write_program(&directory.join("drive"), |case, trace| case::play(case, trace), &script.bytes, bad_cases::all())?;
+    let damaged = bad_cases::all(case::MEMORY_ROOM);
+    write_program(&directory.join("drive"), |case, trace| case::play(case, trace), &all_cases().bytes, damaged)?;
+    write_program(
+        &directory.join("record"),
+        file_or_nothing,
+        &record_cases::case(),
+        bad_cases::all(record::MEMORY_ROOM),
+    )?;
     write_program(
         &directory.join("songs"),
         |files, lines| songs::play(files, lines),
         &song_streams::stream(),
         song_streams::damaged(),
     )?;
+    write_program(
+        &directory.join("waves"),
+        |commands, lines| waves::play(commands, lines),
+        &wave_streams::stream(),
+        wave_streams::damaged(),
+    )?;
     let numbers = number_lines::lines();
     write_file(&directory.join("numbers/stdout"), numbers.as_bytes())?;
     write_file(&directory.join("promises/proofs/Runs.antt"), proof_examples::runs().as_bytes())?;
     write_file(&directory.join("voice/proofs/Examples.antt"), proof_examples::examples().as_bytes())
+}
+
+/// The recording of a case; nothing where the case is damaged.
+fn file_or_nothing(case: &[u8], file: &mut Vec<u8>) -> io::Result<()> {
+    file.extend(record::file(case).unwrap_or_default());
+    Ok(())
 }
 
 /// What reads a program's input and writes its output.

@@ -76,13 +76,13 @@ fn some_place(c: &mut Chance, bytes: &[u8]) -> usize {
     c.from(low, last) as usize
 }
 
-fn take_out(c: &mut Chance, bytes: &mut Vec<u8>) {
+pub(super) fn take_out(c: &mut Chance, bytes: &mut Vec<u8>) {
     let from = some_place(c, bytes);
     let to = (from + c.pick(&[1, 1, 2, 3, 4, 20])).min(bytes.len());
     bytes.drain(from..to);
 }
 
-fn put_in(c: &mut Chance, bytes: &mut Vec<u8>) {
+pub(super) fn put_in(c: &mut Chance, bytes: &mut Vec<u8>) {
     let at = c.from(0, bytes.len() as i64) as usize;
     let more: Vec<u8> = (0..c.pick(&[1, 1, 2, 3, 4, 20])).map(|_| c.number() as u8).collect();
     bytes.splice(at..at, more);

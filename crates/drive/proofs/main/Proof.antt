@@ -25,8 +25,8 @@ begin-requires c κs = search needs
 loop-holds : tie.Need-loop-holds Inv-loop μ-loop
 loop-holds c = tt
 
-next-command-requires : tie.Need-next-command-requires Inv-loop μ-loop
-next-command-requires c κs = search needs
+next-requires : tie.Need-next-requires Inv-loop μ-loop
+next-requires c κs = search needs
 
 moves-requires : tie.Need-moves-requires Inv-loop μ-loop
 moves-requires c κs = search needs
@@ -66,7 +66,7 @@ main-spec =
     fresh-requires
     begin-requires
     loop-holds
-    next-command-requires
+    next-requires
     moves-requires
     play-requires
     written-requires

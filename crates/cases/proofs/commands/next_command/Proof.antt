@@ -12,6 +12,9 @@ next-byte-requires c κs = search needs
 end-requires : tie.Need-end-requires
 end-requires c κs = search needs
 
+same-length : tie.Need-same-length
+same-length c = search needs
+
 returns : tie.Need-returns
 returns c = search needs
 
@@ -30,11 +33,17 @@ next-bytes-requires c κs = search needs
 of-bytes-requires : tie.Need-of-bytes-requires
 of-bytes-requires c κs = search needs
 
+same-length-2 : tie.Need-same-length-2
+same-length-2 c = search needs
+
 returns-2 : tie.Need-returns-2
 returns-2 c = search needs
 
 of-bytes-requires-2 : tie.Need-of-bytes-requires-2
 of-bytes-requires-2 c κs = search needs
+
+same-length-3 : tie.Need-same-length-3
+same-length-3 c = search needs
 
 returns-3 : tie.Need-returns-3
 returns-3 c = search needs
@@ -45,12 +54,15 @@ next-command-spec =
     (tie.spec
     next-byte-requires
     end-requires
+    same-length
     returns
     bytes-behind-requires
     array-borrow-prefix-bytes
     slice-aggregate-next-bytes
     next-bytes-requires
     of-bytes-requires
+    same-length-2
     returns-2
     of-bytes-requires-2
+    same-length-3
     returns-3)

@@ -3,9 +3,10 @@ use borrow.Author.Needs.{needs}
 use mathlib.Core.Path.{_≡_, refl, ap, _∙_}
 use Prim.Native.Nat.{_≤_, _<_, _-_}
 use native.Mathlib.Omega.{arith}
+use lib.Ieee.{nan}
 use lib.ListN.{length, take}
 use lib.Seq.{take-all}
-use Rattle.cases.specs.Internal.Hash.{hashAll}
+use Rattle.cases.specs.Internal.Hash.{hashAll, hashEach, hashNumber}
 use Rattle.cases.proofs.HashLaws.{hash-step}
 use Rattle.cases.proofs.hash.fnv.Statement.{statement}
 use Rattle.cases.proofs.hash.fnv.Tie as tie
@@ -17,7 +18,7 @@ abbrev μ-loop : tie.MeasureT-loop
 μ-loop numbers h₀ i₀ h i = length numbers - i
 
 loop-holds : tie.Need-loop-holds Inv-loop μ-loop
-unfolding hashAll
+unfolding hashEach
 loop-holds c = (omega arith, refl)
 
 mul-bits-of : tie.Need-mul-bits-of Inv-loop μ-loop
@@ -42,7 +43,7 @@ loop-again : tie.Need-loop-again Inv-loop μ-loop
 loop-again c =
     let l = c .before .before .before .before in let xs = l .before .before .args .numbers .now in
     let h : l .loop .i < length xs = omega arith in
-    (omega arith, rw (hash-step 14695981039346656037 xs (l .loop .i) h, ← l .loop .inv .1, ← c .before .bits-of .ensures) (c .hash-bits .ensures))
+    (omega arith, rw (hash-step hashNumber 14695981039346656037 xs (l .loop .i) nan h, ← l .loop .inv .1, ← c .before .bits-of .ensures) (c .hash-bits .ensures))
 
 returns : tie.Need-returns Inv-loop μ-loop
 returns c =

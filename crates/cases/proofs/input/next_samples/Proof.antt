@@ -1,4 +1,4 @@
--- The room and the place go on, and the length of what is lent stays.
+-- The room and the place go on, and the lengths of the room and of what is lent stay.
 use borrow.Author.Needs.{needs}
 use mathlib.Core.Path.{_≡_}
 use Prim.Native.Nat.{_≤_, _-_}
@@ -8,7 +8,7 @@ use Rattle.cases.proofs.input.next_samples.Statement.{statement}
 use Rattle.cases.proofs.input.next_samples.Tie as tie
 
 abbrev Inv-loop : tie.InvT-loop
-Inv-loop room₀ into₀ p₀ i₀ room into p i = (length into ≡ length into₀) × (i ≤ length into)
+Inv-loop room₀ into₀ p₀ i₀ room into p i = (length room ≡ length room₀) × (length into ≡ length into₀) × (i ≤ length into)
 
 abbrev μ-loop : tie.MeasureT-loop
 μ-loop room₀ into₀ p₀ i₀ room into p i = length into - i
@@ -35,10 +35,13 @@ loop-less : tie.Need-loop-less Inv-loop μ-loop
 loop-less c = simp length-set (omega arith)
 
 loop-again : tie.Need-loop-again Inv-loop μ-loop
-loop-again c = simp length-set (omega arith, omega arith)
+loop-again c = simp length-set (omega arith, omega arith, omega arith)
 
 same-length : tie.Need-same-length Inv-loop μ-loop
 same-length c = search needs
+
+same-length-2 : tie.Need-same-length-2 Inv-loop μ-loop
+same-length-2 c = search needs
 
 returns : tie.Need-returns Inv-loop μ-loop
 returns c = search needs
@@ -58,4 +61,5 @@ next-samples-spec =
     loop-less
     loop-again
     same-length
+    same-length-2
     returns)

@@ -24,6 +24,9 @@ next-bytes-requires c κs = search needs
 same-length : tie.Need-same-length
 same-length c = search needs
 
+same-length-2 : tie.Need-same-length-2
+same-length-2 c = search needs
+
 returns-2 : tie.Need-returns-2
 returns-2 c = search needs
 
@@ -37,4 +40,5 @@ next-bank-spec =
     slice-aggregate-next-bytes
     next-bytes-requires
     same-length
+    same-length-2
     returns-2)

@@ -15,10 +15,13 @@ slice-aggregate-write-name c = sym (length-take-le _ _ (omega arith))
 write-name-requires : tie.Need-write-name-requires
 write-name-requires c κs = search needs
 
+same-length : tie.Need-same-length
+same-length c = search needs
+
 returns : tie.Need-returns
 returns c = search needs
 
 pub name-spec : {M : Type 1} → statement M
 name-spec =
     tie.close
-    (tie.spec array-borrow-prefix-bytes slice-aggregate-write-name write-name-requires returns)
+    (tie.spec array-borrow-prefix-bytes slice-aggregate-write-name write-name-requires same-length returns)

@@ -4,23 +4,16 @@ use Rattle.wave.proofs.PcmLaws.{itself, nan-output, output-bits}
 use borrow.Author.Needs.{needs}
 use Rattle.wave.proofs.pcm.is_output.Statement.{statement}
 use Rattle.wave.proofs.pcm.is_output.Tie as tie
-use Rattle.wave.proofs.pcm.is_output.Reads as reads
-use Rattle.wave.proofs.pcm.is_output.Lts as lts
-use Rattle.wave.proofs.pcm.is_output_bits.Reads as is-output-bits-reads
 
--- src/pcm.rt:61:9
 returns : tie.Need-returns
 returns c = nan-output (c .before .args .x) (c .if1 .taken)
 
--- src/pcm.rt:63:20
 float-to-bits-is-output-bits : tie.Need-float-to-bits-is-output-bits
 float-to-bits-is-output-bits c = itself (c .before .args .x) (c .if1 .left)
 
--- src/pcm.rt:63:5
 is-output-bits-requires : tie.Need-is-output-bits-requires
 is-output-bits-requires c κs = search needs
 
--- src/pcm.rt:57:1
 returns-2 : tie.Need-returns-2
 returns-2 c = c .is-output-bits .ensures ∙ sym (output-bits (c .before .before .args .x) (c .before .before .good .0 .1))
 

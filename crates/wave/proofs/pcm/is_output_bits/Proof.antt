@@ -6,41 +6,31 @@ use Rattle.wave.proofs.PcmLaws.{whole-digits}
 use borrow.Author.Needs.{needs}
 use Rattle.wave.proofs.pcm.is_output_bits.Statement.{statement}
 use Rattle.wave.proofs.pcm.is_output_bits.Tie as tie
-use Rattle.wave.proofs.pcm.is_output_bits.Reads as reads
-use Rattle.wave.proofs.pcm.is_output_bits.Lts as lts
 
--- src/pcm.rt:14:9
 returns : tie.Need-returns
 unfolding isOutputBits
 returns c = rw (eq-eqb _ _ (c .if1 .taken)) refl
 
--- src/pcm.rt:17:9
 returns-2 : tie.Need-returns-2
 unfolding isOutputBits
 returns-2 c = rw (ne-eqb _ _ (c .before .if1 .left), lt-ltb _ _ (c .if2 .taken)) refl
 
--- src/pcm.rt:21:9
 returns-3 : tie.Need-returns-3
 unfolding isOutputBits
 returns-3 c = rw (ne-eqb _ _ (c .before .before .if1 .left), le-ltb _ _ (c .before .if2 .left), lt-ltb _ _ (c .if3 .taken)) refl
 
--- src/pcm.rt:23:18
 add-digits : tie.Need-add-digits
 add-digits c = search needs
 
--- src/pcm.rt:24:16
 sub-tail : tie.Need-sub-tail
 sub-tail c = search needs
 
--- src/pcm.rt:25:5
 shr-result : tie.Need-shr-result
 shr-result c = search needs
 
--- src/pcm.rt:25:5
 shl-result : tie.Need-shl-result
 shl-result c = search needs
 
--- src/pcm.rt:10:1
 returns-4 : tie.Need-returns-4
 unfolding isOutputBits
 returns-4 c = rw (whole-digits (c .before .before .before .args .size), ne-eqb _ _ (c .before .before .if1 .left), le-ltb _ _ (c .before .if2 .left), le-ltb _ _ (c .if3 .left)) refl

@@ -7,27 +7,20 @@ use Rattle.wave.proofs.PcmLaws.{k-bits-le, short-tail, top-field}
 use borrow.Author.Needs.{needs}
 use Rattle.wave.proofs.pcm.k_of_bits.Statement.{statement}
 use Rattle.wave.proofs.pcm.k_of_bits.Tie as tie
-use Rattle.wave.proofs.pcm.k_of_bits.Reads as reads
-use Rattle.wave.proofs.pcm.k_of_bits.Lts as lts
 
--- src/pcm.rt:35:9
 returns : tie.Need-returns
 unfolding kBits
 returns c = (rw (eq-eqb _ _ (c .if1 .taken)) refl, lit≤ tt)
 
--- src/pcm.rt:37:18
 add-digits : tie.Need-add-digits
 add-digits c = search needs
 
--- src/pcm.rt:38:16
 sub-tail : tie.Need-sub-tail
 sub-tail c = top-field (c .before .args .size) (c .before .pre) (ne-eqb _ _ (c .if1 .left))
 
--- src/pcm.rt:39:5
 shr-result : tie.Need-shr-result
 shr-result c = short-tail (c .before .args .size) (c .before .pre) (ne-eqb _ _ (c .if1 .left))
 
--- src/pcm.rt:29:1
 returns-2 : tie.Need-returns-2
 unfolding kBits
 returns-2 c = (rw (ne-eqb _ _ (c .if1 .left)) refl, rw (ne-eqb _ _ (c .if1 .left)) at (k-bits-le (c .before .args .size) (c .before .pre)))

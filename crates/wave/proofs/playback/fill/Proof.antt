@@ -1,67 +1,100 @@
+-- The first i numbers are the file's, the others as they were.
+use borrow.Author.Needs.{needs}
+use mathlib.Core.Path.{_≡_, refl, ap, ap₂, _∙_}
+use mathlib.Core.List.{List, _++_}
+use Prim.Native.Nat.{ℕ, _≤_, _<_, _-_, _*_, _/_}
+use native.Mathlib.Nat.{le-of-eq}
+use native.Mathlib.Omega.{arith}
+use lib.IntN.{ℤ, pos}
+use lib.ListN.{length, getD, set, take, drop, length-set}
+use lib.Seq.{take-all}
+use mir.Facts.{toZ-ofZ}
+use mir.Syntax.{w16}
+use mir.Val.{toZ, ofZ}
+use Rattle.wave.specs.Playback.{framesIn, pcmsIn}
+use Rattle.wave.proofs.PlaybackLaws.{numbers-length, pcm-at, recording-frames, recording-length, recording-numbers}
+use Rattle.wave.proofs.PoursLaws.{copy-turn}
 use Rattle.wave.proofs.playback.fill.Statement.{statement}
 use Rattle.wave.proofs.playback.fill.Tie as tie
-use Rattle.wave.proofs.playback.fill.Reads as reads
-use Rattle.wave.proofs.playback.fill.Lts as lts
-use Rattle.arith.proofs.signed16.Reads as signed16-reads
-use Rattle.arith.proofs.u16_at.Reads as u16-at-reads
 
 abbrev Inv-loop : tie.InvT-loop
-Inv-loop file out₀ count i₀ out i = ?
+Inv-loop file out₀ count i₀ out i = (i ≤ count) × (length out ≡ length out₀) × (out ≡ take i (pcmsIn (drop 44 file)) ++ drop i out₀)
 
 abbrev μ-loop : tie.MeasureT-loop
-μ-loop file out₀ count i₀ out i = ?
+μ-loop file out₀ count i₀ out i = count - i
 
--- src/playback.rt:49:18
 sub-count : tie.Need-sub-count Inv-loop μ-loop
-sub-count c = ?
+sub-count c = let s = c .before in let whole = recording-length (s .args .file .now) (s .pre .0) in omega (arith, whole)
 
--- src/playback.rt:51:5
 loop-holds : tie.Need-loop-holds Inv-loop μ-loop
-loop-holds c = ?
+loop-holds c = (omega arith, refl, refl)
 
--- src/playback.rt:52:59
 mul-u16-at : tie.Need-mul-u16-at Inv-loop μ-loop
-mul-u16-at c = ?
+mul-u16-at c = let l = c .before in let s = l .before .before in let file = s .args .file .now in
+    let most : framesIn file ≤ 1073741814 = recording-frames file (s .pre .0) in
+    let numbers : (length file - 44) / 2 ≡ 2 * framesIn file = recording-numbers file (s .pre .0) in
+    omega arith
 
--- src/playback.rt:52:54
 add-u16-at : tie.Need-add-u16-at Inv-loop μ-loop
-add-u16-at c = ?
+add-u16-at c = let l = c .before in let s = l .before .before in let file = s .args .file .now in
+    let most : framesIn file ≤ 1073741814 = recording-frames file (s .pre .0) in
+    let numbers : (length file - 44) / 2 ≡ 2 * framesIn file = recording-numbers file (s .pre .0) in
+    omega arith
 
--- src/playback.rt:52:34
 u16-at-requires : tie.Need-u16-at-requires Inv-loop μ-loop
-u16-at-requires c κs = ?
+u16-at-requires c κs = let l = c .before in let s = l .before .before in let file = s .args .file .now in
+    let most : framesIn file ≤ 1073741814 = recording-frames file (s .pre .0) in
+    let numbers : (length file - 44) / 2 ≡ 2 * framesIn file = recording-numbers file (s .pre .0) in
+    omega arith
 
--- src/playback.rt:52:18
 signed16-requires : tie.Need-signed16-requires Inv-loop μ-loop
-signed16-requires c κs = ?
+signed16-requires c κs = tt
 
--- src/playback.rt:52:9
 mul-t12 : tie.Need-mul-t12 Inv-loop μ-loop
-mul-t12 c = ?
+mul-t12 c = let l = c .before .before .before in let s = l .before .before in let file = s .args .file .now in
+    let most : framesIn file ≤ 1073741814 = recording-frames file (s .pre .0) in
+    let numbers : (length file - 44) / 2 ≡ 2 * framesIn file = recording-numbers file (s .pre .0) in
+    omega arith
 
--- src/playback.rt:52:9
 slice-set-from-out : tie.Need-slice-set-from-out Inv-loop μ-loop
-slice-set-from-out c = ?
+slice-set-from-out c = let l = c .before .before .before in let s = l .before .before in let file = s .args .file .now in
+    let most : framesIn file ≤ 1073741814 = recording-frames file (s .pre .0) in
+    let numbers : (length file - 44) / 2 ≡ 2 * framesIn file = recording-numbers file (s .pre .0) in
+    omega (arith, l .loop .inv .1, s .pre .1)
 
--- src/playback.rt:53:9
 add-i : tie.Need-add-i Inv-loop μ-loop
-add-i c = ?
+add-i c = let l = c .before .before .before in let s = l .before .before in let file = s .args .file .now in
+    let most : framesIn file ≤ 1073741814 = recording-frames file (s .pre .0) in
+    let numbers : (length file - 44) / 2 ≡ 2 * framesIn file = recording-numbers file (s .pre .0) in
+    omega arith
 
--- src/playback.rt:51:5
 loop-less : tie.Need-loop-less Inv-loop μ-loop
-loop-less c = ?
+loop-less c = search needs
 
--- src/playback.rt:51:5
 loop-again : tie.Need-loop-again Inv-loop μ-loop
-loop-again c = ?
+loop-again c = let l = c .before .before .before in let s = l .before .before in
+    let file = s .args .file .now in let vs = pcmsIn (drop 44 file) in let i = l .loop .i in
+    let inside : i < (length file - 44) / 2 = omega arith in
+    let numbers : (length file - 44) / 2 ≡ 2 * framesIn file = recording-numbers file (s .pre .0) in
+    let many : length vs ≡ (length file - 44) / 2 = numbers-length file in
+    let v : toZ w16 (ofZ w16 (c .signed16 .result)) ≡ getD vs i (pos 0) =
+    toZ-ofZ {w = w16} {z = c .signed16 .result} (record { sfits = c .signed16 .ok }) ∙ c .signed16 .ensures ∙ ap (toZ w16) (c .before .u16-at .ensures) ∙ pcm-at file i (pos 0) (omega (arith, inside)) in (
+      omega arith,
+      length-set (l .loop .out) i (toZ w16 (ofZ w16 (c .signed16 .result))) ∙ l .loop .inv .1,
+      ap₂ (λ (o : List ℤ) (z : ℤ). set o i z) (l .loop .inv .2) v
+          ∙ copy-turn vs (s .args .out .now) i (pos 0) (omega (arith, inside, many)) (omega (arith, inside, numbers, s .pre .1)),
+    )
 
--- src/playback.rt:44:1
 same-length : tie.Need-same-length Inv-loop μ-loop
-same-length c = ?
+same-length c = c .before .loop .inv .1
 
--- src/playback.rt:44:1
 returns : tie.Need-returns Inv-loop μ-loop
-returns c = ?
+returns c = let l = c .before in let s = l .before .before in
+    let file = s .args .file .now in let vs = pcmsIn (drop 44 file) in
+    let all : l .loop .i ≡ 2 * framesIn file = omega (arith, recording-numbers file (s .pre .0)) in
+    let many : length vs ≡ 2 * framesIn file = numbers-length file ∙ recording-numbers file (s .pre .0) in
+    l .loop .inv .2 ∙ ap (λ (i : ℕ). take i vs ++ drop i (s .args .out .now)) all
+    ∙ ap (λ (t : List ℤ). t ++ drop (2 * framesIn file) (s .args .out .now)) (take-all (2 * framesIn file) vs (le-of-eq many))
 
 pub fill-spec : {M : Type 1} → statement M
 fill-spec =

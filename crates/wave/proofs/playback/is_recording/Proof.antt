@@ -1,40 +1,47 @@
+-- Each test is a law of the definition.
+use mathlib.Core.Path.{ap, _∙_}
+use lib.ListN.{take}
+use Rattle.wave.specs.Playback.{sameBytes}
+use Rattle.wave.proofs.PlaybackLaws.{by-heading, part-of-a-frame, too-long, too-short}
 use borrow.Author.Needs.{needs}
 use Rattle.wave.proofs.playback.is_recording.Statement.{statement}
 use Rattle.wave.proofs.playback.is_recording.Tie as tie
-use Rattle.wave.proofs.playback.is_recording.Reads as reads
-use Rattle.wave.proofs.playback.is_recording.Lts as lts
-use Rattle.wave.proofs.headings.bytes.Reads as bytes-reads
-use Rattle.wave.proofs.playback.begins.Reads as begins-reads
 
--- src/playback.rt:31:9
 returns : tie.Need-returns
-returns c = ?
+returns c = too-short (c .before .before .args .file .now) (c .if1 .taken)
 
--- src/playback.rt:33:16
 sub-data : tie.Need-sub-data
 sub-data c = search needs
 
--- src/playback.rt:35:9
 returns-2 : tie.Need-returns-2
-returns-2 c = ?
+returns-2 c = part-of-a-frame (c .before .before .before .args .file .now) (c .before .if1 .left) (c .if2 .taken)
 
--- src/playback.rt:38:9
 returns-3 : tie.Need-returns-3
-returns-3 c = ?
+returns-3 c = too-long (c .before .before .before .before .args .file .now) (c .if3 .taken)
 
--- src/playback.rt:40:18
 bytes-requires : tie.Need-bytes-requires
 bytes-requires c κs = search needs
 
--- src/playback.rt:40:5
+slice-aggregate-begins : tie.Need-slice-aggregate-begins
+slice-aggregate-begins c = search needs
+
 begins-requires : tie.Need-begins-requires
 begins-requires c κs = search needs
 
--- src/playback.rt:27:1
 returns-4 : tie.Need-returns-4
-returns-4 c = ?
+returns-4 c = let e = c .before .before .before in let file = e .before .before .before .before .args .file .now in
+    c .begins .ensures ∙ ap (sameBytes (take 44 file)) (c .before .before .bytes .ensures)
+    ∙ by-heading file (e .before .before .if1 .left) (e .before .if2 .left) (e .if3 .left)
 
 pub is-recording-spec : {M : Type 1} → statement M
 is-recording-spec =
     tie.close
-    (tie.spec returns sub-data returns-2 returns-3 bytes-requires begins-requires returns-4)
+    (tie.spec
+    returns
+    sub-data
+    returns-2
+    returns-3
+    bytes-requires
+    slice-aggregate-begins
+    begins-requires
+    returns-4)

@@ -1,46 +1,44 @@
+-- The tests are those of the definition, in its order.
+use borrow.Author.Tests.{not-false, not-true}
+use mathlib.Core.Path.{subst, sym, _∙_}
+use native.Mathlib.Omega.{arith}
+use lib.Dec.{T}
+use Rattle.wave.proofs.PlaybackLaws.{read-done, read-other, read-short, recording-frames, recording-length}
 use borrow.Author.Needs.{needs}
 use Rattle.wave.proofs.playback.read.Statement.{statement}
 use Rattle.wave.proofs.playback.read.Tie as tie
-use Rattle.wave.proofs.playback.read.Reads as reads
-use Rattle.wave.proofs.playback.read.Lts as lts
-use Rattle.wave.proofs.playback.fill.Reads as fill-reads
-use Rattle.wave.proofs.playback.is_recording.Reads as is-recording-reads
 
--- src/playback.rt:62:9
 is-recording-requires : tie.Need-is-recording-requires
 is-recording-requires c κs = search needs
 
--- src/playback.rt:63:9
 returns : tie.Need-returns
-returns c = ?
+returns c = let s = c .before .before .before in read-other (s .args .file .now) (s .args .out .now) (sym (c .before .is-recording .ensures) ∙ not-true _ (c .if1 .taken))
 
--- src/playback.rt:68:19
 sub-frames : tie.Need-sub-frames
-sub-frames c = ?
+sub-frames c = let s = c .before .before .before in let such = sym (c .before .is-recording .ensures) ∙ not-false _ (c .if1 .left) in
+    let whole = recording-length (s .args .file .now) (subst T (sym such) tt) in
+    omega (arith, whole)
 
--- src/playback.rt:69:20
 mul-if2 : tie.Need-mul-if2
 mul-if2 c = search needs
 
--- src/playback.rt:70:9
 returns-2 : tie.Need-returns-2
-returns-2 c = ?
+returns-2 c = let s = c .before .before .before .before in read-short (s .args .file .now) (s .args .out .now) (sym (c .before .before .is-recording .ensures) ∙ not-false _ (c .before .if1 .left)) (c .if2 .taken)
 
--- src/playback.rt:75:5
 fill-requires : tie.Need-fill-requires
-fill-requires c κs = ?
+fill-requires c κs = let s = c .before .before .before .before .before in
+    (subst T (sym (not-false _ (c .before .before .if1 .left)) ∙ c .before .before .before .is-recording .ensures) tt, c .before .if2 .left)
 
--- src/playback.rt:78:17
 cast-t11 : tie.Need-cast-t11
-cast-t11 c = ?
+cast-t11 c = let file = c .before .before .before .before .before .before .before .args .file .now in
+    let most = recording-frames file (subst T (sym (not-false _ (c .before .before .before .before .if1 .left)) ∙ c .before .before .before .before .before .is-recording .ensures) tt) in
+    record { fits = omega (arith, most) }
 
--- src/playback.rt:58:1
 same-length : tie.Need-same-length
 same-length c = search needs
 
--- src/playback.rt:58:1
 returns-3 : tie.Need-returns-3
-returns-3 c = ?
+returns-3 c = let s = c .before .before .before .before .before .before .before in read-done (s .args .file .now) (s .args .out .now) (c .before .fill .last .1 .0) (sym (c .before .before .before .before .before .is-recording .ensures) ∙ not-false _ (c .before .before .before .before .if1 .left)) (c .before .before .before .if2 .left) (c .before .fill .ensures)
 
 pub read-spec : {M : Type 1} → statement M
 read-spec =

@@ -1,14 +1,9 @@
 -- The part that is rendered into lies within the output.
-use mathlib.Core.Path.{sym}
-use lib.Ieee.{nanBits}
-use lib.Seq.{length-take-le}
 use borrow.Author.Needs.{needs}
-use Rattle.drive.proofs.output.into_output.Statement.{statement}
-use Rattle.drive.proofs.output.into_output.Tie as tie
-
-float-from-bits-before : tie.Need-float-from-bits-before
-unfolding nanBits
-float-from-bits-before c = tt
+use mathlib.Core.Path.{sym}
+use lib.Seq.{length-take-le}
+use Rattle.record.proofs.renders.render.Statement.{statement}
+use Rattle.record.proofs.renders.render.Tie as tie
 
 lent-numbers-requires : tie.Need-lent-numbers-requires
 lent-numbers-requires c κs = search needs
@@ -17,7 +12,7 @@ array-borrow-prefix-out : tie.Need-array-borrow-prefix-out
 array-borrow-prefix-out c = search needs
 
 slice-aggregate-sounded : tie.Need-slice-aggregate-sounded
-slice-aggregate-sounded c = sym (length-take-le _ _ (c .before .lent-numbers .ensures))
+slice-aggregate-sounded c = sym (length-take-le _ _ (c .before .before .before .lent-numbers .ensures))
 
 sounded-requires : tie.Need-sounded-requires
 sounded-requires c κs = search needs
@@ -25,11 +20,10 @@ sounded-requires c κs = search needs
 returns : tie.Need-returns
 returns c = search needs
 
-pub into-output-spec : {M : Type 1} → statement M
-into-output-spec =
+pub render-spec : {M : Type 1} → statement M
+render-spec =
     tie.close
     (tie.spec
-    float-from-bits-before
     lent-numbers-requires
     array-borrow-prefix-out
     slice-aggregate-sounded
