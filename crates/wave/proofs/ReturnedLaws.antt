@@ -29,9 +29,13 @@ use Rattle.wave.specs.Playback.{pcmsIn, heardOf, replayed}
 use Rattle.wave.specs.Fractions.{OutputAt, FloorHeld}
 use Rattle.wave.specs.Refusals.{FileOf}
 use Rattle.wave.specs.Returned.{AreBytes, fileIn, numbersIn, FileIsBytes, FileHoldsFloors, ReadIsWritten, ReadsEach, WrittenIsRead, WrittenAgain}
-use Rattle.wave.proofs.FractionsLaws.{passed-is-output, output-passes, pcm-is-floor, number-is-exact}
-use Rattle.wave.proofs.RefusalsLaws.{head-length, even-of, write-0, write-room, recorded-0, replayed-0, read-0, is-file, frames-of, counted, reader-numbers, poured-length, pcms-length, recording-length}
-use Rattle.wave.proofs.StreamsLaws.{file-written, whole-of, clean-of}
+use Rattle.wave.proofs.HeadingsLaws.{head-length}
+use Rattle.wave.proofs.PoursLaws.{even, poured-length, word-lt}
+use Rattle.wave.proofs.RecordingLaws.{recorded-0, recording-length, write-0}
+use Rattle.wave.proofs.PlaybackLaws.{pcms-get, pcms-length, read-0, replayed-0}
+use Rattle.wave.proofs.FractionsLaws.{number-is-exact, output-passes, passed-is-output, pcm-is-floor}
+use Rattle.wave.proofs.RefusalsLaws.{counted, frames-of, is-file, reader-numbers, write-room}
+use Rattle.wave.proofs.StreamsLaws.{clean-of, file-written, whole-of}
 
 -- ---- bytes
 bytes-append : (xs ys : List ℕ) → AreBytes xs → AreBytes ys → AreBytes (xs ++ ys)
@@ -106,11 +110,6 @@ to-sixteen n h = by (ltb n 32768) refl
         let s : 65536 - suc n < 32768 = omega arith in
         subst Sixteen (sym (to-high n l)) s
 
-mod-small : (v : ℤ) → modZ v 65536 < 65536
-unfolding modZ
-mod-small (pos a) = omega arith
-mod-small (negsuc a) = omega arith
-
 -- two bytes of a number, and the number of two bytes
 from-two : (n : ℕ) → n < 65536 → n % 256 + n / 256 % 256 * 256 ≡ n
 from-two n h = omega arith
@@ -134,14 +133,14 @@ read-poured (x ∷ xs) h = by (λ (g : anyOf isOther xs ≡ false). read-poured 
     by rest true e g =
         let v = pcmOf x in
         let n = modZ v 65536 in
-        ap₂ _∷_ (ap (toZ w16) (from-two n (mod-small v)) ∙ there-and-back v (pcm-sixteen x e)) (rest g)
+        ap₂ _∷_ (ap (toZ w16) (from-two n (word-lt v)) ∙ there-and-back v (pcm-sixteen x e)) (rest g)
     by rest false e g = absurd (subst T g tt)
 
 -- the file of numbers is one of their frames
 recording-of : (xs : List Float) → isBroken xs ≡ false → length xs / 2 ≤ mostFrames → FileOf (recordingOf xs) (length xs / 2)
 unfolding recordingOf
 recording-of xs p few =
-    let even = even-of xs p in
+    let even = even xs p in
     record { few = few; body = pouredOf xs; long = poured-length xs ∙ omega arith; whole = refl }
 
 abbrev answer : ℕ → ℕ → Heard
@@ -168,7 +167,7 @@ unfolding recording-of
 read-is-written xs out room h l =
     let d = write-room xs (length out) h in
     let f = recording-of xs (d .0) (d .1) in
-    let even = even-of xs (d .0) in
+    let even = even xs (d .0) in
     let w = file-written xs out h in
     let twice : 2 * (length xs / 2) ≡ length xs = omega arith in (
       ap (λ (file : List ℕ). heardOf file (length room)) w ∙ heard-0 (recordingOf xs) (length room) (length xs / 2) f (omega arith),
@@ -178,20 +177,7 @@ read-is-written xs out room h l =
 
 -- ---- number by number
 
--- number i of some bytes
-pcms-at : (n i : ℕ) (bytes : List ℕ) (past : ℤ) → length bytes ≡ 2 * n → i < n
-    → getD (pcmsIn bytes) i past ≡ toZ w16 (getD bytes (2 * i) 0 + getD bytes (2 * i + 1) 0 * 256)
-unfolding pcmsIn
-pcms-at n i [] past l h = absurd (omega arith)
-pcms-at n i (low ∷ []) past l h = absurd (omega arith)
-pcms-at n zero (low ∷ high ∷ bytes) past l h = refl
-pcms-at zero (suc i) (low ∷ high ∷ bytes) past l h = absurd (omega arith)
-pcms-at (suc n) (suc i) (low ∷ high ∷ bytes) past l h =
-    let a : 2 * suc i ≡ suc (suc (2 * i)) = omega arith in
-    let b : 2 * suc i + 1 ≡ suc (suc (2 * i + 1)) = omega arith in
-    rw (b, a) (pcms-at n i bytes past (omega arith) (omega arith))
-
--- .. behind a heading
+-- number i behind a heading
 behind-head : (frames i : ℕ) (body : List ℕ) → i16At (headingOf frames ++ body) (44 + 2 * i) ≡ toZ w16 (getD body (2 * i) 0 + getD body (2 * i + 1) 0 * 256)
 unfolding i16At u16At u8At
 behind-head frames i body =
@@ -210,10 +196,10 @@ reads-each file out i past r h =
     let c = counted file (length out) n f (d .1 .1) in
     let l = f .long in
     let long : length (f .body) ≡ 2 * (2 * n) = omega arith in
-    let few : i < length (pcmsIn (f .body)) = let m = pcms-length (2 * n) (f .body) long in omega arith in
+    let few : i < length (pcmsIn (f .body)) = let m = pcms-length (f .body) in omega arith in
     ap (λ (os : List ℤ). getD os i past) (replayed-of file out n f (d .1 .1))
     ∙ List·getD-append (pcmsIn (f .body)) (drop (2 * n) out) past i few
-    ∙ pcms-at (2 * n) i (f .body) past long (omega arith)
+    ∙ pcms-get (f .body) i past (omega arith)
     ∙ sym (behind-head n i (f .body)) ∙ ap (λ (b : List ℕ). i16At b (44 + 2 * i)) (sym (f .whole))
 
 pub file-holds-floors : FileHoldsFloors
@@ -224,7 +210,7 @@ file-holds-floors xs out i past k h l o =
     let here : i16At (fileIn xs out) (44 + 2 * i) ≡ pcmOfK k =
     ap (λ (b : List ℕ). i16At b (44 + 2 * i)) (file-written xs out h)
     ∙ behind-head (length xs / 2) i (pouredOf xs)
-    ∙ sym (pcms-at (length xs) i (pouredOf xs) (pcmOf past) (poured-length xs) l)
+    ∙ sym (pcms-get (pouredOf xs) i (pcmOf past) (let m = poured-length xs in omega arith))
     ∙ ap (λ (vs : List ℤ). getD vs i (pcmOf past)) (read-poured xs (clean-of xs (d .0)))
     ∙ List·getD-map pcmOf xs i past ∙ ap pcmOfK (p .1)
     in
@@ -328,7 +314,7 @@ module _ (file : List ℕ) (n : ℕ) (f : FileOf file n) (b : AreBytes file) whe
 
   floats-length : length floats ≡ 2 * n
   unfolding floats
-  floats-length = length-map (pcmsIn (f .body)) numberOf ∙ pcms-length (2 * n) (f .body) (let l = f .long in omega arith)
+  floats-length = length-map (pcmsIn (f .body)) numberOf ∙ pcms-length (f .body) ∙ (let l = f .long in omega arith)
 
   floats-poured : (anyOf isOther floats ≡ false) × (pouredOf floats ≡ f .body)
   unfolding floats
@@ -357,7 +343,7 @@ module _ (file : List ℕ) (n : ℕ) (f : FileOf file n) (b : AreBytes file) whe
   numbers-are room l =
       ap (map numberOf)
       (ap₂ (λ (h : Heard) (os : List ℤ). take (2 * h .frames) os) (heard-0 file (length room) n f l) (replayed-of file room n f l)
-      ∙ take-at (pcmsIn (f .body)) (drop (2 * n) room) (2 * n) (pcms-length (2 * n) (f .body) (let k = f .long in omega arith)))
+      ∙ take-at (pcmsIn (f .body)) (drop (2 * n) room) (2 * n) (pcms-length (f .body) ∙ (let k = f .long in omega arith)))
 
 pub written-is-read : WrittenIsRead
 written-is-read file out room b r l =
@@ -375,7 +361,7 @@ written-is-read file out room b r l =
 pub written-again : WrittenAgain
 written-again xs out room h l =
     let d = write-room xs (length out) h in
-    let even = even-of xs (d .0) in
+    let even = even xs (d .0) in
     let f = recording-of xs (d .0) (d .1) in
     let n = length xs / 2 in
     let b = recording-is-bytes xs in

@@ -11,7 +11,10 @@ use Rattle.arith.specs.Bytes.{u8At, u16At, u32At}
 use Rattle.wave.specs.Headings.{headingOf}
 use Rattle.wave.specs.Recording.{recordingOf}
 use Rattle.wave.specs.Sizes.{LargestCount, Fields, HeadingReadsBack, FileReadsBack, SizesAreTrue}
-use Rattle.wave.proofs.RefusalsLaws.{head-length, even-of, write-room, recording-length}
+use Rattle.wave.proofs.HeadingsLaws.{head-length}
+use Rattle.wave.proofs.PoursLaws.{even}
+use Rattle.wave.proofs.RecordingLaws.{recording-length}
+use Rattle.wave.proofs.RefusalsLaws.{write-room}
 use Rattle.wave.proofs.StreamsLaws.{file-written}
 
 pub largest-count : LargestCount
@@ -82,7 +85,7 @@ pub sizes-are-true : SizesAreTrue
 sizes-are-true xs out h =
     let d = write-room xs (length out) h in
     let few = d .1 in
-    let even = even-of xs (d .0) in
+    let even = even xs (d .0) in
     let f = file-fields xs (omega arith) in
     let riff = f .riff-size in
     let part = f .data-size in
