@@ -19,11 +19,12 @@ use Rattle.engine.specs.Rendering.{distance, leftSum, rightSum, output, played}
 use Rattle.engine.proofs.RenderingLaws.{clock-there}
 use Rattle.wave.specs.Pcm.{isOutput}
 use Rattle.wave.specs.Pours.{isOther, isBroken}
+use Rattle.wave.specs.Headings.{mostFrames}
 use Rattle.wave.specs.Recording.{recordingOf, writeNumber, recorded}
 use Rattle.wave.specs.Returned.{fileIn}
 use Rattle.wave.specs.Streams.{Share, AllRoomy, allNumbers}
 use Rattle.wave.proofs.FractionsLaws.{output-passes}
-use Rattle.wave.proofs.RefusalsLaws.{writer-numbers, fit-of}
+use Rattle.wave.proofs.RefusalsLaws.{writer-numbers, fit-of, write-0}
 use Rattle.wave.proofs.StreamsLaws.{whole-of, any-append, file-is-stream, stream-is-file}
 use Rattle.promises.specs.Calls.{Call, does, next, run, written, framesOf, framesRun}
 use Rattle.promises.specs.Cuts.{ahead, Pieces, none, asks, refuses, piece, AllDone, numbersOf}
@@ -88,6 +89,10 @@ run-fit (x ∷ xs) e =
 whole-run : (xs : List Call) (e : Engine) → isBroken (numbersOf xs e) ≡ false
 whole-run xs e = let f = run-fit xs e in let l = f .count in whole-of (numbersOf xs e) (omega arith) (f .clean)
 
+-- the writer takes them, where they are not too many and there is room
+run-done : (xs : List Call) (e : Engine) (room : ℕ) → framesRun xs e ≤ mostFrames → 44 + 4 * framesRun xs e ≤ room → writeNumber (numbersOf xs e) room ≡ 0
+run-done xs e room few long = let l = run-fit xs e .count in write-0 (numbersOf xs e) room (whole-run xs e) (omega arith) (omega arith)
+
 pub rendered-is-fit : RenderedIsFit
 rendered-is-fit xs e = (run-fit xs e .count, fit-of (numbersOf xs e) (whole-run xs e))
 
@@ -102,7 +107,7 @@ run-is-recorded xs e room =
       thirteen = λ h. fit (w .thirteen .0 h);
       fourteen = (λ h. let d = w .fourteen .0 h .1 in omega arith, λ h. w .fourteen .1 (fit, omega arith));
       fifteen = (λ h. let d = w .fifteen .0 h in (omega arith, omega arith), λ h. w .fifteen .1 (fit, omega arith, omega arith));
-      done = (λ h. let d = w .done .0 h in (omega arith, omega arith), λ h. w .done .1 (fit, omega arith, omega arith));
+      done = (λ h. let d = w .done .0 h in (omega arith, omega arith), λ h. run-done xs e room (h .0) (h .1));
     }
 
 -- ---- cuts
@@ -277,7 +282,7 @@ streamed-file xs e ss head out s few h room =
     let q = shared-numbers xs e ss s in
     let l = run-fit xs e .count in
     let k : length (allNumbers ss) ≡ length (numbersOf xs e) = ap length q in
-    let w : writeNumber (allNumbers ss) (length out) ≡ 0 = ap (λ (os : List Float). writeNumber os (length out)) q ∙ run-is-recorded xs e (length out) .done .1 (few, room) in
+    let w : writeNumber (allNumbers ss) (length out) ≡ 0 = ap (λ (os : List Float). writeNumber os (length out)) q ∙ run-done xs e (length out) few room in
     let back = file-is-stream (framesRun xs e) head out ss w (omega arith) h (shared-roomy xs e ss s) in
     let there = stream-is-file (framesRun xs e) head out ss (back .0) (back .1) (omega arith) (omega arith) in
     (back .0, back .1, ap (λ (os : List Float). fileIn os out) (sym q) ∙ there .1)

@@ -1,6 +1,6 @@
 -- What a heading says, read back from its bytes.
 use mathlib.Core.List.{List}
-use mathlib.Core.Path.{_≡_, refl, sym, _∙_}
+use mathlib.Core.Path.{_≡_, refl, sym, _∙_, subst}
 use Prim.Native.Nat.{ℕ, _+_, _*_, _/_, _%_, _<_}
 use native.Mathlib.Nat.{div-add-mod', div-div-eq-div-mul, mod-eq-of-lt}
 use native.Mathlib.Omega.{arith}
@@ -10,7 +10,7 @@ use lib.ListN.{length}
 use Rattle.arith.specs.Bytes.{u8At, u16At, u32At}
 use Rattle.wave.specs.Headings.{headingOf}
 use Rattle.wave.specs.Recording.{recordingOf}
-use Rattle.wave.specs.Sizes.{LargestCount, Fields, HeadingReadsBack, SizesAreTrue}
+use Rattle.wave.specs.Sizes.{LargestCount, Fields, HeadingReadsBack, FileReadsBack, SizesAreTrue}
 use Rattle.wave.proofs.RefusalsLaws.{head-length, even-of, write-room, recording-length}
 use Rattle.wave.proofs.StreamsLaws.{file-written}
 
@@ -34,14 +34,18 @@ from-four n h =
 head-fields : (frames : ℕ) → 36 + 4 * frames < 4294967296 → Fields (headingOf frames) frames
 unfolding headingOf u8At u16At u32At
 head-fields frames h = record {
-  riff = from-four (36 + 4 * frames) h;
-  part = refl;
+  riff = refl;
+  riff-size = from-four (36 + 4 * frames) h;
+  wave = refl;
+  fmt = refl;
+  fmt-size = refl;
   format = refl;
   channels = refl;
   rate = refl;
   speed = refl;
   block = refl;
   bits = refl;
+  data-name = refl;
   data-size = from-four (4 * frames) (omega arith);
 }
 
@@ -54,16 +58,25 @@ unfolding recordingOf headingOf u8At u16At u32At
 file-fields xs h =
     let f = head-fields (length xs / 2) h in
     record {
-      riff = f .riff;
-      part = refl;
+      riff = refl;
+      riff-size = f .riff-size;
+      wave = refl;
+      fmt = refl;
+      fmt-size = refl;
       format = refl;
       channels = refl;
       rate = refl;
       speed = refl;
       block = refl;
       bits = refl;
+      data-name = refl;
       data-size = f .data-size;
     }
+
+pub file-reads-back : FileReadsBack
+file-reads-back xs out h =
+    let few = write-room xs (length out) h .1 in
+    subst (λ (file : List ℕ). Fields file (length xs / 2)) (sym (file-written xs out h)) (file-fields xs (omega arith))
 
 pub sizes-are-true : SizesAreTrue
 sizes-are-true xs out h =
@@ -71,7 +84,7 @@ sizes-are-true xs out h =
     let few = d .1 in
     let even = even-of xs (d .0) in
     let f = file-fields xs (omega arith) in
-    let riff = f .riff in
+    let riff = f .riff-size in
     let part = f .data-size in
     let l = recording-length xs in
     rw (file-written xs out h) (omega arith, omega arith)
