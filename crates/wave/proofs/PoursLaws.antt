@@ -52,7 +52,7 @@ high-byte : (w : ℕ) → w < 65536 → w / 256 % 256 ≡ w / 256
 high-byte w h = mod-eq-of-lt (omega (arith, h))
 
 -- a number modulo 2^16 is one of 16 bits
-word-lt : (z : ℤ) → modZ z 65536 < 65536
+pub word-lt : (z : ℤ) → modZ z 65536 < 65536
 unfolding modZ
 word-lt (pos a) = omega arith
 word-lt (negsuc a) = omega arith

@@ -3,7 +3,7 @@ use mathlib.Core.Bool.{Bool, true, false, not, _&&_, _||_}
 use mathlib.Core.List.{List, [], _∷_, _++_}
 use mathlib.Core.Logic.{inl, inr}
 use mathlib.Core.Path.{_≡_, refl, ap, sym, _∙_, subst}
-use Prim.Native.Nat.{ℕ, zero, suc, _+_, _*_, _/_, _%_, _<_, _≤_}
+use Prim.Native.Nat.{ℕ, _+_, _*_, _/_, _%_, _<_, _≤_}
 use native.Mathlib.Omega.{arith}
 use borrow.Author.Tests.{eqb-true, eq-eqb, ne-eqb, ltb-true, ltb-false, lt-ltb, le-ltb, leb-true, le-leb}
 use lib.Dec.{T, eqb, leb, ltb}
@@ -19,16 +19,14 @@ use Rattle.wave.specs.Pours.{isOther, isBroken, pouredOf, pourNumber, po
 use Rattle.wave.specs.Recording.{recordingOf, writeNumber, recorded}
 use Rattle.wave.specs.Playback.{sameBytes, framesIn, isRecording, pcmsIn, readNumber, heardOf, replayed}
 use Rattle.wave.specs.Refusals.{HasOther, here, later, Unfit, WriteNumbers, WriterNumbers, HeadNumbers, HeadingNumbers, PourNumbers, PouringNumbers, FileOf, ReadNumbers, ReaderNumbers, OneCount, RefusedWritesNothing, KeptBehind, DoneKeepsTheRest}
+use Rattle.wave.proofs.PoursLaws.{even, poured-length}
+use Rattle.wave.proofs.RecordingLaws.{heading-length}
+use Rattle.wave.proofs.PlaybackLaws.{pcms-length}
 use Rattle.wave.proofs.FractionsLaws.{both, passed-is-output, output-passes}
 
 -- a flag is not both
 never : {A : Type 0} {b : Bool} → b ≡ true → b ≡ false → A
 never p q = absurd (subst T (sym p ∙ q) tt)
-
--- the heading's length
-pub head-length : (frames : ℕ) → length (headingOf frames) ≡ 44
-unfolding headingOf
-head-length frames = refl
 
 -- ---- 13
 
@@ -86,13 +84,6 @@ not-broken xs f = by (isBroken xs) refl
     by true e = absurd (f (broken-unfit xs e))
     by false e = refl
 
-pub even-of : (xs : List Float) → isBroken xs ≡ false → length xs % 2 ≡ 0
-even-of xs h = by (length xs % 2) refl
-  where
-    by : (n : ℕ) → length xs % 2 ≡ n → length xs % 2 ≡ 0
-    by zero e = e
-    by (suc n) e = let one : length xs % 2 ≡ 1 = omega arith in absurd (fit-of xs h (inl one))
-
 -- ---- the writer
 write-13 : (xs : List Float) (room : ℕ) → isBroken xs ≡ true → writeNumber xs room ≡ 13
 unfolding writeNumber
@@ -141,7 +132,7 @@ writer-numbers xs room = by (isBroken xs) refl (ltb mostFrames (length xs / 2)) 
         let s = ltb-true room (44 + 2 * length xs) r in
         let v = write-15 xs room p l s in
         let f = fit-of xs p in
-        let even = even-of xs p in
+        let evenly = even xs p in
         let short : room < 44 + 4 * (length xs / 2) = omega arith in
         record {
           thirteen = (λ e. absurd (omega arith), λ k. absurd (f k));
@@ -155,7 +146,7 @@ writer-numbers xs room = by (isBroken xs) refl (ltb mostFrames (length xs / 2)) 
         let s = ltb-false room (44 + 2 * length xs) r in
         let v = write-0 xs room p l s in
         let f = fit-of xs p in
-        let even = even-of xs p in
+        let evenly = even xs p in
         let long : 44 + 4 * (length xs / 2) ≤ room = omega arith in
         record {
           thirteen = (λ e. absurd (omega arith), λ k. absurd (f k));
@@ -242,7 +233,7 @@ pouring-numbers xs room = by (isBroken xs) refl (ltb room (2 * length xs)) refl
         let s = ltb-true room (2 * length xs) q in
         let v = pour-15 xs room p s in
         let f = fit-of xs p in
-        let even = even-of xs p in
+        let evenly = even xs p in
         let short : room < 4 * (length xs / 2) = omega arith in
         record {
           thirteen = (λ e. absurd (omega arith), λ k. absurd (f k));
@@ -254,7 +245,7 @@ pouring-numbers xs room = by (isBroken xs) refl (ltb room (2 * length xs)) refl
         let s = ltb-false room (2 * length xs) q in
         let v = pour-0 xs room p s in
         let f = fit-of xs p in
-        let even = even-of xs p in
+        let evenly = even xs p in
         let long : 4 * (length xs / 2) ≤ room = omega arith in
         record {
           thirteen = (λ e. absurd (omega arith), λ k. absurd (f k));
@@ -295,7 +286,7 @@ file-of file h =
 
 -- a file of n frames has so many bytes
 file-length : (file : List ℕ) (n : ℕ) → FileOf file n → length file ≡ 44 + 4 * n
-file-length file n f = ap length (f .whole) ∙ length-append (headingOf n) (f .body) ∙ omega (arith, head-length n, f .long)
+file-length file n f = ap length (f .whole) ∙ length-append (headingOf n) (f .body) ∙ omega (arith, heading-length n, f .long)
 
 pub frames-of : (file : List ℕ) (n : ℕ) → FileOf file n → framesIn file ≡ n
 frames-of file n f = let l = file-length file n f in omega arith
@@ -304,7 +295,7 @@ pub is-file : (file : List ℕ) (n : ℕ) → FileOf file n → isRecording file
 unfolding isRecording
 is-file file n f =
     let l = file-length file n f in
-    let t : take 44 file ≡ headingOf n = ap (take 44) (f .whole) ∙ take-at (headingOf n) (f .body) 44 (head-length n) in
+    let t : take 44 file ≡ headingOf n = ap (take 44) (f .whole) ∙ take-at (headingOf n) (f .body) 44 (heading-length n) in
     rw (frames-of file n f, eq-eqb (length file) (44 + 4 * n) l, le-leb n mostFrames (f .few), t) (same-refl (headingOf n))
 
 pub one-count : OneCount
@@ -380,7 +371,7 @@ pub write-room : (xs : List Float) (room : ℕ) → writeNumber xs room ≡ 0 �
 write-room xs room h =
     let d = writer-numbers xs room .done .0 h in
     let p = not-broken xs (d .0) in
-    let even = even-of xs p in
+    let evenly = even xs p in
     let long : 44 + 2 * length xs ≤ room = omega arith in
     (p, d .1, long)
 
@@ -388,7 +379,7 @@ pub pour-room : (xs : List Float) (room : ℕ) → pourNumber xs room ≡ 0 → 
 pour-room xs room h =
     let d = pouring-numbers xs room .done .0 h in
     let p = not-broken xs (d .0) in
-    let even = even-of xs p in
+    let evenly = even xs p in
     let long : 2 * length xs ≤ room = omega arith in
     (p, long)
 
@@ -409,24 +400,14 @@ pub replayed-0 : (file : List ℕ) (out : List ℤ) → readNumber file (length 
 unfolding replayed
 replayed-0 file out h = rw (eq-eqb (readNumber file (length out)) 0 h)
 
--- the bytes of some numbers
-pub poured-length : (xs : List Float) → length (pouredOf xs) ≡ 2 * length xs
-unfolding pouredOf
-poured-length [] = refl
-poured-length (x ∷ xs) = omega (arith, poured-length xs)
-
+-- the bytes of a file
 pub recording-length : (xs : List Float) → length (recordingOf xs) ≡ 44 + 2 * length xs
 unfolding recordingOf
-recording-length xs = length-append (headingOf (length xs / 2)) (pouredOf xs) ∙ omega (arith, head-length (length xs / 2), poured-length xs)
+recording-length xs = length-append (headingOf (length xs / 2)) (pouredOf xs) ∙ omega (arith, heading-length (length xs / 2), poured-length xs)
 
 -- the numbers of some bytes
-pub pcms-length : (n : ℕ) (bytes : List ℕ) → length bytes ≡ 2 * n → length (pcmsIn bytes) ≡ n
-unfolding pcmsIn
-pcms-length zero [] h = refl
-pcms-length (suc n) [] h = absurd (omega arith)
-pcms-length n (low ∷ []) h = absurd (omega arith)
-pcms-length zero (low ∷ high ∷ bytes) h = absurd (omega arith)
-pcms-length (suc n) (low ∷ high ∷ bytes) h = ap suc (pcms-length n bytes (omega arith))
+pub pcms-count : (n : ℕ) (bytes : List ℕ) → length bytes ≡ 2 * n → length (pcmsIn bytes) ≡ n
+pcms-count n bytes h = pcms-length bytes ∙ omega arith
 
 -- a front of `count` in place of as many
 kept : {A : Type 0} (count : ℕ) (front before now : List A) → length front ≡ count → count ≤ length before → now ≡ front ++ drop count before
@@ -438,7 +419,7 @@ kept count front before now l room e = (
 
 pub done-keeps-the-rest : DoneKeepsTheRest
 done-keeps-the-rest = (
-  λ frames out h. kept 44 (headingOf frames) out (headed frames out) (head-length frames) (heading-numbers frames (length out) .done .0 h .1) (headed-0 frames out h),
+  λ frames out h. kept 44 (headingOf frames) out (headed frames out) (heading-length frames) (heading-numbers frames (length out) .done .0 h .1) (headed-0 frames out h),
   poured,
   written,
   played,
@@ -456,6 +437,6 @@ done-keeps-the-rest = (
         let same = one-count file (d .0) n (d .1 .0) f in
         let l = file-length file n f in
         kept (2 * n) (pcmsIn (drop 44 file)) out (replayed file out)
-        (pcms-length (2 * n) (drop 44 file) (simp length-drop (omega arith)))
+        (pcms-count (2 * n) (drop 44 file) (simp length-drop (omega arith)))
         (omega arith)
         (replayed-0 file out h ∙ ap (λ (m : ℕ). pcmsIn (drop 44 file) ++ drop (2 * m) out) (frames-of file n f))
