@@ -24,7 +24,8 @@ use Rattle.wave.specs.Recording.{recordingOf, writeNumber, recorded}
 use Rattle.wave.specs.Returned.{fileIn}
 use Rattle.wave.specs.Streams.{Share, AllRoomy, allNumbers}
 use Rattle.wave.proofs.FractionsLaws.{output-passes}
-use Rattle.wave.proofs.RefusalsLaws.{writer-numbers, fit-of, write-0}
+use Rattle.wave.proofs.RecordingLaws.{write-0}
+use Rattle.wave.proofs.RefusalsLaws.{writer-numbers, fit-of}
 use Rattle.wave.proofs.StreamsLaws.{whole-of, any-append, file-is-stream, stream-is-file}
 use Rattle.promises.specs.Calls.{Call, does, next, run, written, framesOf, framesRun}
 use Rattle.promises.specs.Cuts.{ahead, Pieces, none, asks, refuses, piece, AllDone, numbersOf}

@@ -14,7 +14,7 @@ use Rattle.wave.specs.Headings.{headingOf, mostFrames, headingNumber}
 use Rattle.wave.specs.Pours.{isOther, isBroken, pouredOf, pourNumber, pouredInto}
 use Rattle.wave.specs.Recording.{recordingOf, writeNumber}
 use Rattle.wave.specs.Playback.{sameBytes, isRecording, pcmsIn, readNumber, heardOf, replayed}
-use Rattle.wave.proofs.RefusalsLaws.{write-14}
+use Rattle.wave.proofs.RecordingLaws.{write-14}
 use Rattle.wave.proofs.StreamsLaws.{whole-of}
 
 -- -257/2^23

@@ -1,5 +1,5 @@
 -- What an output number is, and its 16-bit number.
-use mathlib.Core.Bool.{Bool, true, false, cond, _&&_}
+use mathlib.Core.Bool.{Bool, true, false, cond}
 use mathlib.Core.Logic.{_⊎_, inl, inr}
 use mathlib.Core.Path.{_≡_, refl, ap, sym, _∙_, subst}
 use Prim.Native.Nat.{ℕ, zero, suc, _+_, _*_, _/_, _%_, _≤_}
@@ -16,11 +16,7 @@ use Rattle.arith.proofs.FloatsLaws.{round-down}
 use Rattle.arith.proofs.FloorsLaws.{floor-low, floor-high}
 use Rattle.wave.specs.Pcm.{isOutput, kOf, pcmOfK, numberOf}
 use Rattle.wave.specs.Fractions.{PassedIsOutput, OutputPasses, FloorHeld, PcmIsFloor, NumberIsExact}
-
--- both tests of a conjunction
-pub both : (a b : Bool) → (a && b) ≡ true → (a ≡ true) × (b ≡ true)
-both true b h = (refl, h)
-both false b h = absurd (subst T (sym h) tt)
+use Rattle.wave.proofs.PcmLaws.{both}
 
 -- ---- the k of a size and a sign
 abbrev signed : Bool → ℕ → ℤ

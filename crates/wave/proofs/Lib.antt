@@ -1,4 +1,5 @@
 pub mod PcmLaws
+pub mod HeadingsLaws
 pub mod PoursLaws
 pub mod RecordingLaws
 pub mod PlaybackLaws

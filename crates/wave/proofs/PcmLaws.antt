@@ -26,6 +26,11 @@ same-test true false p q = absurd (p tt)
 same-test false true p q = absurd (q tt)
 same-test false false p q = refl
 
+-- both tests of a conjunction
+pub both : (a b : Bool) → (a && b) ≡ true → (a ≡ true) × (b ≡ true)
+both true b h = (refl, h)
+both false b h = absurd (subst T (sym h) tt)
+
 -- u / d and a / c are one fraction: where K times the one is whole, K times the other is
 whole-too : (u d a c K : ℕ) → 0 < d → u * c ≡ a * d → u * K % d ≡ 0 → a * K % c ≡ 0
 whole-too u d a c K D e h =

@@ -1,14 +1,14 @@
 -- Bytes that are the same, and the 16-bit numbers of bytes.
 use mathlib.Core.Path.{_≡_, refl, sym, ap, ap₂, _∙_, subst}
-use borrow.Author.Tests.{eq-eqb, le-leb, le-ltb, lt-leb, lt-ltb, ne-eqb}
-use mathlib.Core.Bool.{Bool, true, false, _&&_, and-false}
+use borrow.Author.Tests.{eq-eqb, eqb-true, le-leb, le-ltb, lt-leb, lt-ltb, ne-eqb}
+use mathlib.Core.Bool.{Bool, true, false, _&&_, and-false, true≢false}
 use mathlib.Core.List.{List, [], _∷_, _++_}
 use Prim.Native.Nat.{ℕ, zero, suc, _+_, _-_, _*_, _/_, _%_, _≤_, _<_}
 use native.Mathlib.Nat.{lt-irrefl, not-suc-le-zero}
 use native.Mathlib.Numerals.{add-one}
 use native.Mathlib.Omega.{arith}
-use lib.Dec.{T, eqb, eqb→eq, eqb-refl, leb, leb→le}
-use lib.Ieee.Fits.{and-i, and-l, and-r}
+use lib.Dec.{T, eqb, eqb→eq, leb, leb→le}
+use lib.Ieee.Fits.{and-l, and-r}
 use lib.IntN.{ℤ}
 use lib.ListN.{length, getD, take, drop, length-drop}
 use lib.Seq.{getD-drop, take-suc}
@@ -16,29 +16,31 @@ use mir.Syntax.{w16}
 use mir.Val.{toZ}
 use Rattle.arith.specs.Bytes.{u8At, u16At}
 use Rattle.wave.specs.Headings.{headingOf, mostFrames}
+use Rattle.wave.proofs.PcmLaws.{both}
 use Rattle.wave.specs.Playback.{framesIn, heardOf, isRecording, pcmsIn, readNumber, replayed, sameBytes}
 
--- the same bytes at each place
-pub same-at : (xs ys : List ℕ) (i d : ℕ) → T (sameBytes xs ys) → getD xs i d ≡ getD ys i d
+-- bytes that are the same are one list
+pub same-eq : (xs ys : List ℕ) → sameBytes xs ys ≡ true → xs ≡ ys
 unfolding sameBytes
-same-at [] [] i d t = refl
-same-at [] (y ∷ ys) i d t = absurd t
-same-at (x ∷ xs) [] i d t = absurd t
-same-at (x ∷ xs) (y ∷ ys) zero d t = eqb→eq x y (and-l (eqb x y) (sameBytes xs ys) t)
-same-at (x ∷ xs) (y ∷ ys) (suc i) d t = same-at xs ys i d (and-r (eqb x y) (sameBytes xs ys) t)
+same-eq [] [] h = refl
+same-eq [] (y ∷ ys) h = absurd (true≢false (sym h))
+same-eq (x ∷ xs) [] h = absurd (true≢false (sym h))
+same-eq (x ∷ xs) (y ∷ ys) h =
+    let two = both (eqb x y) (sameBytes xs ys) h in
+    rw (eqb-true x y (two .0)) (ap (_∷_ y) (same-eq xs ys (two .1)))
 
 -- bytes are the same as themselves
-pub same-self : (xs : List ℕ) → T (sameBytes xs xs)
+pub same-refl : (xs : List ℕ) → sameBytes xs xs ≡ true
 unfolding sameBytes
-same-self [] = tt
-same-self (x ∷ xs) = and-i (eqb x x) (sameBytes xs xs) (eqb-refl x) (same-self xs)
+same-refl [] = refl
+same-refl (x ∷ xs) = rw (eq-eqb x x refl) (same-refl xs)
 
 -- one byte that differs
 pub differ-at : (xs ys : List ℕ) (i d : ℕ) → (getD xs i d ≡ getD ys i d → ⊥) → false ≡ sameBytes xs ys
-differ-at xs ys i d n = go (sameBytes xs ys) (λ t. n (same-at xs ys i d t))
+differ-at xs ys i d n = go (sameBytes xs ys) (λ e. n (ap (λ (l : List ℕ). getD l i d) (same-eq xs ys e)))
   where
-    go : (b : Bool) → (T b → ⊥) → false ≡ b
-    go true n = absurd (n tt)
+    go : (b : Bool) → (b ≡ true → ⊥) → false ≡ b
+    go true n = absurd (n refl)
     go false n = refl
 
 -- one number for each two bytes
@@ -48,7 +50,7 @@ pcms-length [] = refl
 pcms-length (low ∷ []) = refl
 pcms-length (low ∷ high ∷ b) = let e : length (pcmsIn b) ≡ length b / 2 = pcms-length b in omega (arith, e)
 
-pcms-get : (b : List ℕ) (i : ℕ) (z : ℤ) → 2 * i + 1 < length b → getD (pcmsIn b) i z ≡ toZ w16 (getD b (2 * i) 0 + getD b (2 * i + 1) 0 * 256)
+pub pcms-get : (b : List ℕ) (i : ℕ) (z : ℤ) → 2 * i + 1 < length b → getD (pcmsIn b) i z ≡ toZ w16 (getD b (2 * i) 0 + getD b (2 * i + 1) 0 * 256)
 unfolding pcmsIn
 pcms-get [] i z h = absurd (not-suc-le-zero h)
 pcms-get (low ∷ []) i z h = absurd (lt-irrefl 0 (omega (arith, h)))
@@ -71,16 +73,16 @@ pcm-at file i z h =
     ∙ ap (λ (k : ℕ). toZ w16 (getD file (44 + 2 * i) 0 + k * 256)) (getD-drop 44 file (2 * i + 1) 0 ∙ ap (λ (k : ℕ). getD file k 0) o))
 
 -- what the test of a file says of its length and its frames
-pub recording-length : (file : List ℕ) → T (isRecording file) → length file ≡ 44 + 4 * framesIn file
+pub taken-length : (file : List ℕ) → T (isRecording file) → length file ≡ 44 + 4 * framesIn file
 unfolding isRecording
-recording-length file t =
+taken-length file t =
     eqb→eq (length file) (44 + 4 * framesIn file)
     (and-l (eqb (length file) (44 + 4 * framesIn file)) (leb (framesIn file) mostFrames)
     (and-l (eqb (length file) (44 + 4 * framesIn file) && leb (framesIn file) mostFrames) (sameBytes (take 44 file) (headingOf (framesIn file))) t))
 
-pub recording-frames : (file : List ℕ) → T (isRecording file) → framesIn file ≤ 1073741814
+pub taken-frames : (file : List ℕ) → T (isRecording file) → framesIn file ≤ 1073741814
 unfolding isRecording
-recording-frames file t =
+taken-frames file t =
     leb→le (framesIn file) mostFrames
     (and-r (eqb (length file) (44 + 4 * framesIn file)) (leb (framesIn file) mostFrames)
     (and-l (eqb (length file) (44 + 4 * framesIn file) && leb (framesIn file) mostFrames) (sameBytes (take 44 file) (headingOf (framesIn file))) t))
@@ -115,25 +117,41 @@ by-heading file h z l =
 
 -- ---- the answers of `read`
 
+pub read-28 : (file : List ℕ) (room : ℕ) → isRecording file ≡ false → readNumber file room ≡ 28
+unfolding readNumber
+read-28 file room a = rw a
+
+pub read-15 : (file : List ℕ) (room : ℕ) → isRecording file ≡ true → room < 2 * framesIn file → readNumber file room ≡ 15
+unfolding readNumber
+read-15 file room a b = rw (a, lt-ltb room (2 * framesIn file) b)
+
+pub read-0 : (file : List ℕ) (room : ℕ) → isRecording file ≡ true → 2 * framesIn file ≤ room → readNumber file room ≡ 0
+unfolding readNumber
+read-0 file room a b = rw (a, le-ltb room (2 * framesIn file) b)
+
+pub replayed-0 : (file : List ℕ) (out : List ℤ) → readNumber file (length out) ≡ 0 → replayed file out ≡ pcmsIn (drop 44 file) ++ drop (2 * framesIn file) out
+unfolding replayed
+replayed-0 file out h = rw (eq-eqb (readNumber file (length out)) 0 h)
+
 pub read-other : (file : List ℕ) (out : List ℤ) → isRecording file ≡ false
     → (record { number = 28; frames = 0 } ≡ heardOf file (length out)) × (out ≡ replayed file out)
-unfolding readNumber heardOf replayed
-read-other file out e = (rw e refl, rw e refl)
+unfolding heardOf replayed
+read-other file out e = let n = read-28 file (length out) e in (rw n refl, rw n refl)
 
 pub read-short : (file : List ℕ) (out : List ℤ) → isRecording file ≡ true → length out < 2 * framesIn file
     → (record { number = 15; frames = 0 } ≡ heardOf file (length out)) × (out ≡ replayed file out)
-unfolding readNumber heardOf replayed
-read-short file out e h = (rw (e, lt-ltb _ _ h) refl, rw (e, lt-ltb _ _ h) refl)
+unfolding heardOf replayed
+read-short file out e h = let n = read-15 file (length out) e h in (rw n refl, rw n refl)
 
 pub read-done : (file : List ℕ) (out o : List ℤ) → isRecording file ≡ true → 2 * framesIn file ≤ length out
     → o ≡ pcmsIn (drop 44 file) ++ drop (2 * framesIn file) out
     → (record { number = 0; frames = framesIn file } ≡ heardOf file (length out)) × (o ≡ replayed file out)
-unfolding readNumber heardOf replayed
-read-done file out o e h q = (rw (e, le-ltb _ _ h) refl, rw (e, le-ltb _ _ h) q)
+unfolding heardOf
+read-done file out o e h q = let n = read-0 file (length out) e h in (rw n refl, q ∙ sym (replayed-0 file out n))
 
 -- as many numbers as two for each frame
-pub recording-numbers : (file : List ℕ) → T (isRecording file) → (length file - 44) / 2 ≡ 2 * framesIn file
-recording-numbers file t = let whole = recording-length file t in omega (arith, whole)
+pub taken-numbers : (file : List ℕ) → T (isRecording file) → (length file - 44) / 2 ≡ 2 * framesIn file
+taken-numbers file t = let whole = taken-length file t in omega (arith, whole)
 
 -- how many 16-bit numbers stand behind a heading
 pub numbers-length : (file : List ℕ) → length (pcmsIn (drop 44 file)) ≡ (length file - 44) / 2

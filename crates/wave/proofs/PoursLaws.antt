@@ -7,7 +7,7 @@ use Prim.Native.Nat.{ℕ, zero, suc, _+_, _*_, _/_, _%_, _≤_, _<_}
 use native.Mathlib.Nat.{add-zero, eq-zero-or-pos, zero-add, not-suc-le-zero, le-of-suc-le-suc, mod-eq-of-lt}
 use native.Mathlib.Numerals.{add-one}
 use native.Mathlib.Omega.{arith}
-use borrow.Author.Tests.{eqb-false, le-ltb, lt-ltb}
+use borrow.Author.Tests.{eq-eqb, eqb-false, le-ltb, lt-ltb}
 use lib.Dec.{T, eqb}
 use lib.Ieee.{Float, nan}
 use lib.IntN.{ℤ, pos, negsuc}
@@ -140,15 +140,32 @@ even xs e = go (eqb (length xs % 2) 1) (eqb-false (length xs % 2) 1) e
           | inr p ↦ absurd (n (omega (arith, p)))
         ]
 
+pub pour-13 : (xs : List Float) (room : ℕ) → isBroken xs ≡ true → pourNumber xs room ≡ 13
+unfolding pourNumber
+pour-13 xs room a = rw a
+
+pub pour-15 : (xs : List Float) (room : ℕ) → isBroken xs ≡ false → room < 2 * length xs → pourNumber xs room ≡ 15
+unfolding pourNumber
+pour-15 xs room a b = rw (a, lt-ltb room (2 * length xs) b)
+
+pub pour-0 : (xs : List Float) (room : ℕ) → isBroken xs ≡ false → 2 * length xs ≤ room → pourNumber xs room ≡ 0
+unfolding pourNumber
+pour-0 xs room a b = rw (a, le-ltb room (2 * length xs) b)
+
+pub poured-0 : (xs : List Float) (out : List ℕ) → pourNumber xs (length out) ≡ 0 → pouredInto xs out ≡ pouredOf xs ++ drop (2 * length xs) out
+unfolding pouredInto
+poured-0 xs out h = rw (eq-eqb (pourNumber xs (length out)) 0 h)
+
 pub pour-broken : (xs : List Float) (out : List ℕ) → isBroken xs ≡ true → (13 ≡ pourNumber xs (length out)) × (out ≡ pouredInto xs out)
-unfolding pourNumber pouredInto
-pour-broken xs out e = (rw e refl, rw e refl)
+unfolding pouredInto
+pour-broken xs out e = let n = pour-13 xs (length out) e in (sym n, rw n refl)
 
 pub pour-short : (xs : List Float) (out : List ℕ) → isBroken xs ≡ false → length out < 2 * length xs → (15 ≡ pourNumber xs (length out)) × (out ≡ pouredInto xs out)
-unfolding pourNumber pouredInto
-pour-short xs out e h = (rw (e, lt-ltb _ _ h) refl, rw (e, lt-ltb _ _ h) refl)
+unfolding pouredInto
+pour-short xs out e h = let n = pour-15 xs (length out) e h in (sym n, rw n refl)
 
 pub pour-done : (xs : List Float) (out o : List ℕ) → isBroken xs ≡ false → 2 * length xs ≤ length out
     → o ≡ (take 0 out ++ pouredOf xs) ++ drop (0 + 2 * length xs) out → (0 ≡ pourNumber xs (length out)) × (o ≡ pouredInto xs out)
-unfolding pourNumber pouredInto
-pour-done xs out o e h q = (rw (e, le-ltb _ _ h) refl, rw (e, le-ltb _ _ h) (q ∙ ap (λ (k : ℕ). pouredOf xs ++ drop k out) (zero-add (2 * length xs))))
+pour-done xs out o e h q =
+    let n = pour-0 xs (length out) e h in
+    (sym n, q ∙ ap (λ (k : ℕ). pouredOf xs ++ drop k out) (zero-add (2 * length xs)) ∙ sym (poured-0 xs out n))

@@ -5,7 +5,7 @@ use mathlib.Core.Logic.{inl, inr}
 use mathlib.Core.Path.{_≡_, refl, ap, sym, _∙_, subst}
 use Prim.Native.Nat.{ℕ, _+_, _*_, _/_, _%_, _<_, _≤_}
 use native.Mathlib.Omega.{arith}
-use borrow.Author.Tests.{eqb-true, eq-eqb, ne-eqb, ltb-true, ltb-false, lt-ltb, le-ltb, leb-true, le-leb}
+use borrow.Author.Tests.{eqb-true, eq-eqb, ne-eqb, ltb-true, ltb-false, leb-true, le-leb}
 use lib.Dec.{T, eqb, leb, ltb}
 use lib.Ieee.{Float}
 use lib.IntN.{ℤ}
@@ -19,10 +19,12 @@ use Rattle.wave.specs.Pours.{isOther, isBroken, pouredOf, pourNumber, po
 use Rattle.wave.specs.Recording.{recordingOf, writeNumber, recorded}
 use Rattle.wave.specs.Playback.{sameBytes, framesIn, isRecording, pcmsIn, readNumber, heardOf, replayed}
 use Rattle.wave.specs.Refusals.{HasOther, here, later, Unfit, WriteNumbers, WriterNumbers, HeadNumbers, HeadingNumbers, PourNumbers, PouringNumbers, FileOf, ReadNumbers, ReaderNumbers, OneCount, RefusedWritesNothing, KeptBehind, DoneKeepsTheRest}
-use Rattle.wave.proofs.PoursLaws.{even, poured-length}
-use Rattle.wave.proofs.RecordingLaws.{heading-length}
-use Rattle.wave.proofs.PlaybackLaws.{pcms-length}
-use Rattle.wave.proofs.FractionsLaws.{both, passed-is-output, output-passes}
+use Rattle.wave.proofs.PcmLaws.{both}
+use Rattle.wave.proofs.HeadingsLaws.{head-0, head-14, head-15, head-length, headed-0}
+use Rattle.wave.proofs.PoursLaws.{even, pour-0, pour-13, pour-15, poured-0, poured-length}
+use Rattle.wave.proofs.RecordingLaws.{recorded-0, recording-length, write-0, write-13, write-14, write-15}
+use Rattle.wave.proofs.PlaybackLaws.{numbers-length, read-0, read-15, read-28, replayed-0, same-eq, same-refl}
+use Rattle.wave.proofs.FractionsLaws.{output-passes, passed-is-output}
 
 -- a flag is not both
 never : {A : Type 0} {b : Bool} → b ≡ true → b ≡ false → A
@@ -85,22 +87,6 @@ not-broken xs f = by (isBroken xs) refl
     by false e = refl
 
 -- ---- the writer
-write-13 : (xs : List Float) (room : ℕ) → isBroken xs ≡ true → writeNumber xs room ≡ 13
-unfolding writeNumber
-write-13 xs room a = rw a
-
-pub write-14 : (xs : List Float) (room : ℕ) → isBroken xs ≡ false → mostFrames < length xs / 2 → writeNumber xs room ≡ 14
-unfolding writeNumber
-write-14 xs room a b = rw (a, lt-ltb mostFrames (length xs / 2) b)
-
-write-15 : (xs : List Float) (room : ℕ) → isBroken xs ≡ false → length xs / 2 ≤ mostFrames → room < 44 + 2 * length xs → writeNumber xs room ≡ 15
-unfolding writeNumber
-write-15 xs room a b c = rw (a, le-ltb mostFrames (length xs / 2) b, lt-ltb room (44 + 2 * length xs) c)
-
-pub write-0 : (xs : List Float) (room : ℕ) → isBroken xs ≡ false → length xs / 2 ≤ mostFrames → 44 + 2 * length xs ≤ room → writeNumber xs room ≡ 0
-unfolding writeNumber
-write-0 xs room a b c = rw (a, le-ltb mostFrames (length xs / 2) b, le-ltb room (44 + 2 * length xs) c)
-
 pub writer-numbers : WriterNumbers
 writer-numbers xs room = by (isBroken xs) refl (ltb mostFrames (length xs / 2)) refl (ltb room (44 + 2 * length xs)) refl
   where
@@ -132,7 +118,7 @@ writer-numbers xs room = by (isBroken xs) refl (ltb mostFrames (length xs / 2)) 
         let s = ltb-true room (44 + 2 * length xs) r in
         let v = write-15 xs room p l s in
         let f = fit-of xs p in
-        let evenly = even xs p in
+        let pairs = even xs p in
         let short : room < 44 + 4 * (length xs / 2) = omega arith in
         record {
           thirteen = (λ e. absurd (omega arith), λ k. absurd (f k));
@@ -146,7 +132,7 @@ writer-numbers xs room = by (isBroken xs) refl (ltb mostFrames (length xs / 2)) 
         let s = ltb-false room (44 + 2 * length xs) r in
         let v = write-0 xs room p l s in
         let f = fit-of xs p in
-        let evenly = even xs p in
+        let pairs = even xs p in
         let long : 44 + 4 * (length xs / 2) ≤ room = omega arith in
         record {
           thirteen = (λ e. absurd (omega arith), λ k. absurd (f k));
@@ -157,18 +143,6 @@ writer-numbers xs room = by (isBroken xs) refl (ltb mostFrames (length xs / 2)) 
         }
 
 -- ---- the heading
-head-14 : (frames room : ℕ) → mostFrames < frames → headingNumber frames room ≡ 14
-unfolding headingNumber
-head-14 frames room a = rw (lt-ltb mostFrames frames a)
-
-head-15 : (frames room : ℕ) → frames ≤ mostFrames → room < 44 → headingNumber frames room ≡ 15
-unfolding headingNumber
-head-15 frames room a b = rw (le-ltb mostFrames frames a, lt-ltb room 44 b)
-
-pub head-0 : (frames room : ℕ) → frames ≤ mostFrames → 44 ≤ room → headingNumber frames room ≡ 0
-unfolding headingNumber
-head-0 frames room a b = rw (le-ltb mostFrames frames a, le-ltb room 44 b)
-
 pub heading-numbers : HeadingNumbers
 heading-numbers frames room = by (ltb mostFrames frames) refl (ltb room 44) refl
   where
@@ -204,18 +178,6 @@ heading-numbers frames room = by (ltb mostFrames frames) refl (ltb room 44) refl
         }
 
 -- ---- a pour
-pour-13 : (xs : List Float) (room : ℕ) → isBroken xs ≡ true → pourNumber xs room ≡ 13
-unfolding pourNumber
-pour-13 xs room a = rw a
-
-pour-15 : (xs : List Float) (room : ℕ) → isBroken xs ≡ false → room < 2 * length xs → pourNumber xs room ≡ 15
-unfolding pourNumber
-pour-15 xs room a b = rw (a, lt-ltb room (2 * length xs) b)
-
-pub pour-0 : (xs : List Float) (room : ℕ) → isBroken xs ≡ false → 2 * length xs ≤ room → pourNumber xs room ≡ 0
-unfolding pourNumber
-pour-0 xs room a b = rw (a, le-ltb room (2 * length xs) b)
-
 pub pouring-numbers : PouringNumbers
 pouring-numbers xs room = by (isBroken xs) refl (ltb room (2 * length xs)) refl
   where
@@ -233,7 +195,7 @@ pouring-numbers xs room = by (isBroken xs) refl (ltb room (2 * length xs)) refl
         let s = ltb-true room (2 * length xs) q in
         let v = pour-15 xs room p s in
         let f = fit-of xs p in
-        let evenly = even xs p in
+        let pairs = even xs p in
         let short : room < 4 * (length xs / 2) = omega arith in
         record {
           thirteen = (λ e. absurd (omega arith), λ k. absurd (f k));
@@ -245,7 +207,7 @@ pouring-numbers xs room = by (isBroken xs) refl (ltb room (2 * length xs)) refl
         let s = ltb-false room (2 * length xs) q in
         let v = pour-0 xs room p s in
         let f = fit-of xs p in
-        let evenly = even xs p in
+        let pairs = even xs p in
         let long : 4 * (length xs / 2) ≤ room = omega arith in
         record {
           thirteen = (λ e. absurd (omega arith), λ k. absurd (f k));
@@ -255,20 +217,6 @@ pouring-numbers xs room = by (isBroken xs) refl (ltb room (2 * length xs)) refl
         }
 
 -- ---- the reader
-same-eq : (xs ys : List ℕ) → sameBytes xs ys ≡ true → xs ≡ ys
-unfolding sameBytes
-same-eq [] [] h = refl
-same-eq [] (y ∷ ys) h = never h refl
-same-eq (x ∷ xs) [] h = never h refl
-same-eq (x ∷ xs) (y ∷ ys) h =
-    let two = both (eqb x y) (sameBytes xs ys) h in
-    rw (eqb-true x y (two .0)) (ap (_∷_ y) (same-eq xs ys (two .1)))
-
-same-refl : (xs : List ℕ) → sameBytes xs xs ≡ true
-unfolding sameBytes
-same-refl [] = refl
-same-refl (x ∷ xs) = rw (eq-eqb x x refl) (same-refl xs)
-
 -- what passes the test is a file of its frames
 pub file-of : (file : List ℕ) → isRecording file ≡ true → FileOf file (framesIn file)
 unfolding isRecording
@@ -286,7 +234,7 @@ file-of file h =
 
 -- a file of n frames has so many bytes
 file-length : (file : List ℕ) (n : ℕ) → FileOf file n → length file ≡ 44 + 4 * n
-file-length file n f = ap length (f .whole) ∙ length-append (headingOf n) (f .body) ∙ omega (arith, heading-length n, f .long)
+file-length file n f = ap length (f .whole) ∙ length-append (headingOf n) (f .body) ∙ omega (arith, head-length n, f .long)
 
 pub frames-of : (file : List ℕ) (n : ℕ) → FileOf file n → framesIn file ≡ n
 frames-of file n f = let l = file-length file n f in omega arith
@@ -295,23 +243,11 @@ pub is-file : (file : List ℕ) (n : ℕ) → FileOf file n → isRecording file
 unfolding isRecording
 is-file file n f =
     let l = file-length file n f in
-    let t : take 44 file ≡ headingOf n = ap (take 44) (f .whole) ∙ take-at (headingOf n) (f .body) 44 (heading-length n) in
+    let t : take 44 file ≡ headingOf n = ap (take 44) (f .whole) ∙ take-at (headingOf n) (f .body) 44 (head-length n) in
     rw (frames-of file n f, eq-eqb (length file) (44 + 4 * n) l, le-leb n mostFrames (f .few), t) (same-refl (headingOf n))
 
 pub one-count : OneCount
 one-count file m n f g = sym (frames-of file m f) ∙ frames-of file n g
-
-read-28 : (file : List ℕ) (room : ℕ) → isRecording file ≡ false → readNumber file room ≡ 28
-unfolding readNumber
-read-28 file room a = rw a
-
-read-15 : (file : List ℕ) (room : ℕ) → isRecording file ≡ true → room < 2 * framesIn file → readNumber file room ≡ 15
-unfolding readNumber
-read-15 file room a b = rw (a, lt-ltb room (2 * framesIn file) b)
-
-pub read-0 : (file : List ℕ) (room : ℕ) → isRecording file ≡ true → 2 * framesIn file ≤ room → readNumber file room ≡ 0
-unfolding readNumber
-read-0 file room a b = rw (a, le-ltb room (2 * framesIn file) b)
 
 -- the frames that a done reader answers
 pub counted : (file : List ℕ) (room n : ℕ) → FileOf file n → 2 * n ≤ room → heardOf file room .frames ≡ n
@@ -371,7 +307,7 @@ pub write-room : (xs : List Float) (room : ℕ) → writeNumber xs room ≡ 0 �
 write-room xs room h =
     let d = writer-numbers xs room .done .0 h in
     let p = not-broken xs (d .0) in
-    let evenly = even xs p in
+    let pairs = even xs p in
     let long : 44 + 2 * length xs ≤ room = omega arith in
     (p, d .1, long)
 
@@ -379,35 +315,9 @@ pub pour-room : (xs : List Float) (room : ℕ) → pourNumber xs room ≡ 0 → 
 pour-room xs room h =
     let d = pouring-numbers xs room .done .0 h in
     let p = not-broken xs (d .0) in
-    let evenly = even xs p in
+    let pairs = even xs p in
     let long : 2 * length xs ≤ room = omega arith in
     (p, long)
-
--- what a done call leaves
-pub headed-0 : (frames : ℕ) (out : List ℕ) → headingNumber frames (length out) ≡ 0 → headed frames out ≡ headingOf frames ++ drop 44 out
-unfolding headed
-headed-0 frames out h = rw (eq-eqb (headingNumber frames (length out)) 0 h)
-
-pub poured-0 : (xs : List Float) (out : List ℕ) → pourNumber xs (length out) ≡ 0 → pouredInto xs out ≡ pouredOf xs ++ drop (2 * length xs) out
-unfolding pouredInto
-poured-0 xs out h = rw (eq-eqb (pourNumber xs (length out)) 0 h)
-
-pub recorded-0 : (xs : List Float) (out : List ℕ) → writeNumber xs (length out) ≡ 0 → recorded xs out ≡ recordingOf xs ++ drop (44 + 2 * length xs) out
-unfolding recorded
-recorded-0 xs out h = rw (eq-eqb (writeNumber xs (length out)) 0 h)
-
-pub replayed-0 : (file : List ℕ) (out : List ℤ) → readNumber file (length out) ≡ 0 → replayed file out ≡ pcmsIn (drop 44 file) ++ drop (2 * framesIn file) out
-unfolding replayed
-replayed-0 file out h = rw (eq-eqb (readNumber file (length out)) 0 h)
-
--- the bytes of a file
-pub recording-length : (xs : List Float) → length (recordingOf xs) ≡ 44 + 2 * length xs
-unfolding recordingOf
-recording-length xs = length-append (headingOf (length xs / 2)) (pouredOf xs) ∙ omega (arith, heading-length (length xs / 2), poured-length xs)
-
--- the numbers of some bytes
-pub pcms-count : (n : ℕ) (bytes : List ℕ) → length bytes ≡ 2 * n → length (pcmsIn bytes) ≡ n
-pcms-count n bytes h = pcms-length bytes ∙ omega arith
 
 -- a front of `count` in place of as many
 kept : {A : Type 0} (count : ℕ) (front before now : List A) → length front ≡ count → count ≤ length before → now ≡ front ++ drop count before
@@ -419,7 +329,7 @@ kept count front before now l room e = (
 
 pub done-keeps-the-rest : DoneKeepsTheRest
 done-keeps-the-rest = (
-  λ frames out h. kept 44 (headingOf frames) out (headed frames out) (heading-length frames) (heading-numbers frames (length out) .done .0 h .1) (headed-0 frames out h),
+  λ frames out h. kept 44 (headingOf frames) out (headed frames out) (head-length frames) (heading-numbers frames (length out) .done .0 h .1) (headed-0 frames out h),
   poured,
   written,
   played,
@@ -437,6 +347,6 @@ done-keeps-the-rest = (
         let same = one-count file (d .0) n (d .1 .0) f in
         let l = file-length file n f in
         kept (2 * n) (pcmsIn (drop 44 file)) out (replayed file out)
-        (pcms-count (2 * n) (drop 44 file) (simp length-drop (omega arith)))
+        (numbers-length file ∙ omega arith)
         (omega arith)
         (replayed-0 file out h ∙ ap (λ (m : ℕ). pcmsIn (drop 44 file) ++ drop (2 * m) out) (frames-of file n f))

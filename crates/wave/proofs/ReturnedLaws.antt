@@ -11,10 +11,10 @@ use lib.Dec.{T, ltb, leb→le}
 use lib.Ieee.{Float, nan, inf, fin, up, down}
 use lib.Ieee.Exact.{HasValue}
 use lib.IntN.{ℤ, pos, negsuc, natAbs}
-use lib.ListN.{length, take, drop, getD, length-append, length-drop, length-map, List·getD-append, List·getD-map}
+use lib.ListN.{length, take, drop, getD, length-append, length-map, List·getD-append, List·getD-map}
 use lib.Signed.{_≤ℤ_}
-use lib.Seq.{take-at, drop-at}
-use Rattle.arith.specs.Bytes.{i16At}
+use lib.Seq.{take-at, drop-at, getD-append-add}
+use Rattle.arith.specs.Bytes.{u8At, u16At, i16At}
 use mir.Syntax.{w16}
 use mir.Val.{toZ}
 use Rattle.arith.specs.Floats.{isNeg}
@@ -29,12 +29,13 @@ use Rattle.wave.specs.Playback.{pcmsIn, heardOf, replayed}
 use Rattle.wave.specs.Fractions.{OutputAt, FloorHeld}
 use Rattle.wave.specs.Refusals.{FileOf}
 use Rattle.wave.specs.Returned.{AreBytes, fileIn, numbersIn, FileIsBytes, FileHoldsFloors, ReadIsWritten, ReadsEach, WrittenIsRead, WrittenAgain}
-use Rattle.wave.proofs.FractionsLaws.{passed-is-output, output-passes, pcm-is-floor, number-is-exact}
+use Rattle.wave.proofs.HeadingsLaws.{head-length}
 use Rattle.wave.proofs.PoursLaws.{even, poured-length, word-lt}
-use Rattle.wave.proofs.RecordingLaws.{heading-length}
-use Rattle.wave.proofs.PlaybackLaws.{pcm-at}
-use Rattle.wave.proofs.RefusalsLaws.{write-0, write-room, recorded-0, replayed-0, read-0, is-file, frames-of, counted, reader-numbers, pcms-count, recording-length}
-use Rattle.wave.proofs.StreamsLaws.{file-written, whole-of, clean-of}
+use Rattle.wave.proofs.RecordingLaws.{recorded-0, recording-length, write-0}
+use Rattle.wave.proofs.PlaybackLaws.{pcms-get, pcms-length, read-0, replayed-0}
+use Rattle.wave.proofs.FractionsLaws.{number-is-exact, output-passes, passed-is-output, pcm-is-floor}
+use Rattle.wave.proofs.RefusalsLaws.{counted, frames-of, is-file, reader-numbers, write-room}
+use Rattle.wave.proofs.StreamsLaws.{clean-of, file-written, whole-of}
 
 -- ---- bytes
 bytes-append : (xs ys : List ℕ) → AreBytes xs → AreBytes ys → AreBytes (xs ++ ys)
@@ -139,7 +140,7 @@ read-poured (x ∷ xs) h = by (λ (g : anyOf isOther xs ≡ false). read-poured 
 recording-of : (xs : List Float) → isBroken xs ≡ false → length xs / 2 ≤ mostFrames → FileOf (recordingOf xs) (length xs / 2)
 unfolding recordingOf
 recording-of xs p few =
-    let evenly = even xs p in
+    let even = even xs p in
     record { few = few; body = pouredOf xs; long = poured-length xs ∙ omega arith; whole = refl }
 
 abbrev answer : ℕ → ℕ → Heard
@@ -153,24 +154,20 @@ heard-0 file room n f l =
     let r = read-0 file room (is-file file n f) (omega arith) in
     rw (r, q)
 
--- what stands behind the heading
-body-of : (file : List ℕ) (n : ℕ) → (f : FileOf file n) → drop 44 file ≡ f .body
-body-of file n f = ap (drop 44) (f .whole) ∙ drop-at (headingOf n) (f .body) 44 (heading-length n)
-
 -- what it leaves
 replayed-of : (file : List ℕ) (room : List ℤ) (n : ℕ) → (f : FileOf file n) → 2 * n ≤ length room → replayed file room ≡ pcmsIn (f .body) ++ drop (2 * n) room
 replayed-of file room n f l =
     let q = frames-of file n f in
     let r = read-0 file (length room) (is-file file n f) (omega arith) in
     replayed-0 file room r
-    ∙ ap₂ (λ (bs : List ℕ) (m : ℕ). pcmsIn bs ++ drop (2 * m) room) (body-of file n f) q
+    ∙ ap₂ (λ (bs : List ℕ) (m : ℕ). pcmsIn bs ++ drop (2 * m) room) (ap (drop 44) (f .whole) ∙ drop-at (headingOf n) (f .body) 44 (head-length n)) q
 
 pub read-is-written : ReadIsWritten
 unfolding recording-of
 read-is-written xs out room h l =
     let d = write-room xs (length out) h in
     let f = recording-of xs (d .0) (d .1) in
-    let evenly = even xs (d .0) in
+    let even = even xs (d .0) in
     let w = file-written xs out h in
     let twice : 2 * (length xs / 2) ≡ length xs = omega arith in (
       ap (λ (file : List ℕ). heardOf file (length room)) w ∙ heard-0 (recordingOf xs) (length room) (length xs / 2) f (omega arith),
@@ -180,32 +177,40 @@ read-is-written xs out room h l =
 
 -- ---- number by number
 
+-- number i behind a heading
+behind-head : (frames i : ℕ) (body : List ℕ) → i16At (headingOf frames ++ body) (44 + 2 * i) ≡ toZ w16 (getD body (2 * i) 0 + getD body (2 * i + 1) 0 * 256)
+unfolding i16At u16At u8At
+behind-head frames i body =
+    let l = head-length frames in
+    let at : (j : ℕ) → getD (headingOf frames ++ body) (44 + j) 0 ≡ getD body j 0 =
+    λ j. subst (λ (m : ℕ). getD (headingOf frames ++ body) (m + j) 0 ≡ getD body j 0) l (getD-append-add (headingOf frames) body j 0)
+    in
+    let one : 44 + 2 * i + 1 ≡ 44 + (2 * i + 1) = omega arith in
+    ap (toZ w16) (ap₂ (λ (a b : ℕ). a + b * 256) (at (2 * i)) (ap (λ (m : ℕ). getD (headingOf frames ++ body) m 0) one ∙ at (2 * i + 1)))
+
 pub reads-each : ReadsEach
-unfolding i16At
 reads-each file out i past r h =
     let d = reader-numbers file (length out) .done .0 r in
     let n = d .0 in
     let f = d .1 .0 in
     let c = counted file (length out) n f (d .1 .1) in
     let l = f .long in
-    let behind : drop 44 file ≡ f .body = body-of file n f in
-    let long : length (drop 44 file) ≡ 2 * (2 * n) = ap length behind ∙ omega arith in
-    let all = length-drop 44 file in
-    let few : i < length (pcmsIn (drop 44 file)) = let m = pcms-count (2 * n) (drop 44 file) long in omega arith in
-    ap (λ (os : List ℤ). getD os i past) (replayed-of file out n f (d .1 .1) ∙ ap (λ (b : List ℕ). pcmsIn b ++ drop (2 * n) out) (sym behind))
-    ∙ List·getD-append (pcmsIn (drop 44 file)) (drop (2 * n) out) past i few
-    ∙ sym (pcm-at file i past (omega arith))
+    let long : length (f .body) ≡ 2 * (2 * n) = omega arith in
+    let few : i < length (pcmsIn (f .body)) = let m = pcms-length (f .body) in omega arith in
+    ap (λ (os : List ℤ). getD os i past) (replayed-of file out n f (d .1 .1))
+    ∙ List·getD-append (pcmsIn (f .body)) (drop (2 * n) out) past i few
+    ∙ pcms-get (f .body) i past (omega arith)
+    ∙ sym (behind-head n i (f .body)) ∙ ap (λ (b : List ℕ). i16At b (44 + 2 * i)) (sym (f .whole))
 
 pub file-holds-floors : FileHoldsFloors
-unfolding i16At recordingOf pcmOf
+unfolding recordingOf pcmOf
 file-holds-floors xs out i past k h l o =
     let d = write-room xs (length out) h in
     let p = output-passes (getD xs i past) k o in
-    let long = recording-length xs in
     let here : i16At (fileIn xs out) (44 + 2 * i) ≡ pcmOfK k =
     ap (λ (b : List ℕ). i16At b (44 + 2 * i)) (file-written xs out h)
-    ∙ pcm-at (recordingOf xs) i (pcmOf past) (omega arith)
-    ∙ ap (λ (b : List ℕ). getD (pcmsIn b) i (pcmOf past)) (drop-at (headingOf (length xs / 2)) (pouredOf xs) 44 (heading-length (length xs / 2)))
+    ∙ behind-head (length xs / 2) i (pouredOf xs)
+    ∙ sym (pcms-get (pouredOf xs) i (pcmOf past) (let m = poured-length xs in omega arith))
     ∙ ap (λ (vs : List ℤ). getD vs i (pcmOf past)) (read-poured xs (clean-of xs (d .0)))
     ∙ List·getD-map pcmOf xs i past ∙ ap pcmOfK (p .1)
     in
@@ -297,8 +302,11 @@ bytes-behind (suc k) (x ∷ xs) h = bytes-behind k xs (h .1)
 
 -- a file of n frames, read and written
 module _ (file : List ℕ) (n : ℕ) (f : FileOf file n) (b : AreBytes file) where
+  body-is : drop 44 file ≡ f .body
+  body-is = ap (drop 44) (f .whole) ∙ drop-at (headingOf n) (f .body) 44 (head-length n)
+
   body-bytes : AreBytes (f .body)
-  body-bytes = subst AreBytes (body-of file n f) (bytes-behind 44 file b)
+  body-bytes = subst AreBytes body-is (bytes-behind 44 file b)
 
   -- its numbers as floats
   floats : List Float
@@ -306,7 +314,7 @@ module _ (file : List ℕ) (n : ℕ) (f : FileOf file n) (b : AreBytes file) whe
 
   floats-length : length floats ≡ 2 * n
   unfolding floats
-  floats-length = length-map (pcmsIn (f .body)) numberOf ∙ pcms-count (2 * n) (f .body) (let l = f .long in omega arith)
+  floats-length = length-map (pcmsIn (f .body)) numberOf ∙ pcms-length (f .body) ∙ (let l = f .long in omega arith)
 
   floats-poured : (anyOf isOther floats ≡ false) × (pouredOf floats ≡ f .body)
   unfolding floats
@@ -326,7 +334,7 @@ module _ (file : List ℕ) (n : ℕ) (f : FileOf file n) (b : AreBytes file) whe
   floats-done room l =
       let k = floats-length in
       let few = f .few in
-      let whole : length file ≡ 44 + 4 * n = ap length (f .whole) ∙ length-append (headingOf n) (f .body) ∙ omega (arith, heading-length n, f .long) in
+      let whole : length file ≡ 44 + 4 * n = ap length (f .whole) ∙ length-append (headingOf n) (f .body) ∙ omega (arith, head-length n, f .long) in
       write-0 floats room floats-whole (omega arith) (omega arith)
 
   -- what the reader leaves of it
@@ -335,7 +343,7 @@ module _ (file : List ℕ) (n : ℕ) (f : FileOf file n) (b : AreBytes file) whe
   numbers-are room l =
       ap (map numberOf)
       (ap₂ (λ (h : Heard) (os : List ℤ). take (2 * h .frames) os) (heard-0 file (length room) n f l) (replayed-of file room n f l)
-      ∙ take-at (pcmsIn (f .body)) (drop (2 * n) room) (2 * n) (pcms-count (2 * n) (f .body) (let k = f .long in omega arith)))
+      ∙ take-at (pcmsIn (f .body)) (drop (2 * n) room) (2 * n) (pcms-length (f .body) ∙ (let k = f .long in omega arith)))
 
 pub written-is-read : WrittenIsRead
 written-is-read file out room b r l =
@@ -353,7 +361,7 @@ written-is-read file out room b r l =
 pub written-again : WrittenAgain
 written-again xs out room h l =
     let d = write-room xs (length out) h in
-    let evenly = even xs (d .0) in
+    let even = even xs (d .0) in
     let f = recording-of xs (d .0) (d .1) in
     let n = length xs / 2 in
     let b = recording-is-bytes xs in

@@ -11,9 +11,10 @@ use Rattle.arith.specs.Bytes.{u8At, u16At, u32At}
 use Rattle.wave.specs.Headings.{headingOf}
 use Rattle.wave.specs.Recording.{recordingOf}
 use Rattle.wave.specs.Sizes.{LargestCount, Fields, HeadingReadsBack, FileReadsBack, SizesAreTrue}
+use Rattle.wave.proofs.HeadingsLaws.{head-length}
 use Rattle.wave.proofs.PoursLaws.{even}
-use Rattle.wave.proofs.RecordingLaws.{heading-length}
-use Rattle.wave.proofs.RefusalsLaws.{write-room, recording-length}
+use Rattle.wave.proofs.RecordingLaws.{recording-length}
+use Rattle.wave.proofs.RefusalsLaws.{write-room}
 use Rattle.wave.proofs.StreamsLaws.{file-written}
 
 pub largest-count : LargestCount
@@ -52,7 +53,7 @@ head-fields frames h = record {
 }
 
 pub heading-reads-back : HeadingReadsBack
-heading-reads-back frames h = (heading-length frames, head-fields frames (omega arith))
+heading-reads-back frames h = (head-length frames, head-fields frames (omega arith))
 
 -- .. in a whole file
 file-fields : (xs : List Float) → 36 + 4 * (length xs / 2) < 4294967296 → Fields (recordingOf xs) (length xs / 2)
@@ -84,7 +85,7 @@ pub sizes-are-true : SizesAreTrue
 sizes-are-true xs out h =
     let d = write-room xs (length out) h in
     let few = d .1 in
-    let evenly = even xs (d .0) in
+    let even = even xs (d .0) in
     let f = file-fields xs (omega arith) in
     let riff = f .riff-size in
     let part = f .data-size in

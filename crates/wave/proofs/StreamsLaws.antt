@@ -15,9 +15,10 @@ use Rattle.wave.specs.Pours.{isOther, isBroken, pouredOf}
 use Rattle.wave.specs.Recording.{recordingOf, writeNumber}
 use Rattle.wave.specs.Returned.{fileIn}
 use Rattle.wave.specs.Streams.{Share, allNumbers, pouredBytes, AllPoured, AllRoomy, StreamIsFile, FileIsStream}
-use Rattle.wave.proofs.PoursLaws.{even, poured-append, poured-length}
-use Rattle.wave.proofs.RecordingLaws.{heading-length}
-use Rattle.wave.proofs.RefusalsLaws.{heading-numbers, write-0, pour-0, head-0, write-room, pour-room, headed-0, poured-0, recorded-0, recording-length}
+use Rattle.wave.proofs.HeadingsLaws.{head-0, head-length, headed-0}
+use Rattle.wave.proofs.PoursLaws.{even, pour-0, poured-0, poured-append, poured-length}
+use Rattle.wave.proofs.RecordingLaws.{recorded-0, recording-length, write-0}
+use Rattle.wave.proofs.RefusalsLaws.{heading-numbers, pour-room, write-room}
 
 -- the writer's file, where it is done
 pub file-written : (xs : List Float) (out : List ℕ) → writeNumber xs (length out) ≡ 0 → fileIn xs out ≡ recordingOf xs
@@ -25,7 +26,6 @@ file-written xs out h =
     ap (take (44 + 2 * length xs)) (recorded-0 xs out h)
     ∙ take-at (recordingOf xs) (drop (44 + 2 * length xs) out) (44 + 2 * length xs) (recording-length xs)
 
--- a test of two runs
 pub any-append : {A : Type 0} (p : A → Bool) (xs ys : List A) → anyOf p (xs ++ ys) ≡ (anyOf p xs || anyOf p ys)
 any-append p [] ys = refl
 any-append p (x ∷ xs) ys = ap (λ (b : Bool). p x || b) (any-append p xs ys) ∙ sym (or-assoc (p x) (anyOf p xs) (anyOf p ys))
@@ -51,7 +51,7 @@ together : (ss : List Share) → AllPoured ss → (length (allNumbers ss) % 2 �
 together [] h = (refl, refl)
 together (s ∷ ss) h =
     let p = pour-room (s .numbers) (length (s .out)) (h .0) .0 in
-    let evenly = even (s .numbers) p in
+    let even = even (s .numbers) p in
     let rest = together ss (h .1) in
     let evens = rest .0 in
     let l = length-append (s .numbers) (allNumbers ss) in
@@ -69,7 +69,7 @@ bytes-of (s ∷ ss) h =
 
 -- the heading's bytes
 pub head-bytes : (frames : ℕ) (out : List ℕ) → headingNumber frames (length out) ≡ 0 → take 44 (headed frames out) ≡ headingOf frames
-head-bytes frames out h = ap (take 44) (headed-0 frames out h) ∙ take-at (headingOf frames) (drop 44 out) 44 (heading-length frames)
+head-bytes frames out h = ap (take 44) (headed-0 frames out h) ∙ take-at (headingOf frames) (drop 44 out) 44 (head-length frames)
 
 pub stream-is-file : StreamIsFile
 unfolding recordingOf

@@ -1,16 +1,14 @@
 -- The first i bytes are the heading's.
 use borrow.Author.Needs.{needs}
 use mathlib.Core.List.{List}
-use mathlib.Core.Path.{_≡_, refl, subst, sym, _∙_}
+use mathlib.Core.Path.{_≡_, refl, ap, subst, sym, _∙_}
 use Prim.Native.Nat.{ℕ, _≤_, _<_, _-_}
 use native.Mathlib.Nat.{le-of-eq}
 use native.Mathlib.Omega.{arith}
-use lib.Dec.{T}
-use lib.Ieee.Bits.{is-true}
 use lib.ListN.{take}
 use lib.Seq.{getD-take, take-all}
 use Rattle.wave.specs.Playback.{sameBytes}
-use Rattle.wave.proofs.PlaybackLaws.{differ-at, same-self, same-turn}
+use Rattle.wave.proofs.PlaybackLaws.{differ-at, same-refl, same-turn}
 use Rattle.wave.proofs.playback.begins.Statement.{statement}
 use Rattle.wave.proofs.playback.begins.Tie as tie
 
@@ -49,7 +47,7 @@ returns-2 : tie.Need-returns-2 Inv-loop μ-loop
 returns-2 c = let l = c .before in let s = l .before in let xs = s .args .file .now in let ys = s .args .head .now in
     let i44 : l .loop .i ≡ 44 = omega arith in
     let whole : take 44 xs ≡ ys = subst (λ (i : ℕ). take i xs ≡ take i ys) i44 (l .loop .inv .1) ∙ take-all 44 ys (le-of-eq (s .pre .0)) in
-    sym (is-true (sameBytes (take 44 xs) ys) (subst (λ (t : List ℕ). T (sameBytes t ys)) (sym whole) (same-self ys)))
+    sym (ap (λ (t : List ℕ). sameBytes t ys) whole ∙ same-refl ys)
 
 pub begins-spec : {M : Type 1} → statement M
 begins-spec =

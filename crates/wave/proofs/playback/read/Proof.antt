@@ -3,7 +3,7 @@ use borrow.Author.Tests.{not-false, not-true}
 use mathlib.Core.Path.{subst, sym, _∙_}
 use native.Mathlib.Omega.{arith}
 use lib.Dec.{T}
-use Rattle.wave.proofs.PlaybackLaws.{read-done, read-other, read-short, recording-frames, recording-length}
+use Rattle.wave.proofs.PlaybackLaws.{read-done, read-other, read-short, taken-frames, taken-length}
 use borrow.Author.Needs.{needs}
 use Rattle.wave.proofs.playback.read.Statement.{statement}
 use Rattle.wave.proofs.playback.read.Tie as tie
@@ -16,7 +16,7 @@ returns c = let s = c .before .before .before in read-other (s .args .file .now)
 
 sub-frames : tie.Need-sub-frames
 sub-frames c = let s = c .before .before .before in let such = sym (c .before .is-recording .ensures) ∙ not-false _ (c .if1 .left) in
-    let whole = recording-length (s .args .file .now) (subst T (sym such) tt) in
+    let whole = taken-length (s .args .file .now) (subst T (sym such) tt) in
     omega (arith, whole)
 
 mul-if2 : tie.Need-mul-if2
@@ -31,7 +31,7 @@ fill-requires c κs = let s = c .before .before .before .before .before in
 
 cast-t11 : tie.Need-cast-t11
 cast-t11 c = let file = c .before .before .before .before .before .before .before .args .file .now in
-    let most = recording-frames file (subst T (sym (not-false _ (c .before .before .before .before .if1 .left)) ∙ c .before .before .before .before .before .is-recording .ensures) tt) in
+    let most = taken-frames file (subst T (sym (not-false _ (c .before .before .before .before .if1 .left)) ∙ c .before .before .before .before .before .is-recording .ensures) tt) in
     record { fits = omega (arith, most) }
 
 same-length : tie.Need-same-length

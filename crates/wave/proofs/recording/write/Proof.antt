@@ -5,7 +5,7 @@ use mathlib.Core.Path.{ap, subst, sym, _∙_}
 use Prim.Native.Nat.{ℕ}
 use lib.Dec.{T}
 use lib.ListN.{drop}
-use Rattle.wave.proofs.RecordingLaws.{write-broken, write-done, write-long, write-room, write-short}
+use Rattle.wave.proofs.RecordingLaws.{write-broken, write-done, write-long, room-left, write-short}
 use borrow.Author.Needs.{needs}
 use Rattle.wave.proofs.recording.write.Statement.{statement}
 use Rattle.wave.proofs.recording.write.Tie as tie
@@ -41,7 +41,7 @@ fill-requires : tie.Need-fill-requires
 fill-requires c κs = let s = c .before .before .before .before .before .before .before .before .before .before .before .before .before in let xs = s .args .numbers .now in let out = s .args .out .now in
     let whole = sym (c .before .before .before .before .before .before .before .before .before .before .is-broken .ensures) ∙ c .before .before .before .before .before .before .before .before .before .if1 .left in (
       subst (λ (b : Bool). T (not b)) (sym whole) tt,
-      write-room xs out (c .before .before .before .put .last .1 .0) whole (c .before .before .before .before .before .before .before .if3 .left)
+      room-left xs out (c .before .before .before .put .last .1 .0) whole (c .before .before .before .before .before .before .before .if3 .left)
           (c .before .before .before .put .ensures ∙ ap (λ (h : List ℕ). h ++ drop 44 out) (c .before .before .before .before .before .before .bytes .ensures)),
     )
 
