@@ -1,3 +1,4 @@
+pub mod BytesLaws
 pub mod Expressions
 pub mod FloatsLaws
 pub mod FloorsLaws

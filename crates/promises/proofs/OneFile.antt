@@ -29,7 +29,7 @@ use Rattle.wave.proofs.RefusalsLaws.{writer-numbers, fit-of}
 use Rattle.wave.proofs.StreamsLaws.{whole-of, any-append, file-is-stream, stream-is-file}
 use Rattle.promises.specs.Calls.{Call, does, next, run, written, framesOf, framesRun}
 use Rattle.promises.specs.Cuts.{ahead, Pieces, none, asks, refuses, piece, AllDone, numbersOf}
-use Rattle.promises.specs.OneFile.{RenderedIsFit, RunIsRecorded, CutFile, Recut, at-end, alike, cut-anew, AnyLengths, Shared, no-share, one-share, StreamedFile}
+use Rattle.promises.specs.OneFile.{RenderedIsFit, RunIsRecorded, CutFile, Recut, at-end, alike, cut-anew, AnyLengths, Shared, no-share, passed-over, one-share, StreamedFile}
 use Rattle.promises.proofs.Cuts.{output-cut, played-cut, output-clock, played-clock, no-frames, done-frames, done-numbers, any-cut}
 use Rattle.promises.proofs.Demand1.{changes-nothing}
 use Rattle.promises.proofs.Output.{out-length, done-state, mixed-fraction}
@@ -266,12 +266,15 @@ any-lengths xs ys e r =
 shared-numbers : (xs : List Call) (e : Engine) (ss : List Share) → Shared xs e ss → allNumbers ss ≡ numbersOf xs e
 unfolding numbersOf
 shared-numbers xs e ss no-share = refl
+shared-numbers xs e ss (passed-over {xs = ys} x z r) =
+    shared-numbers ys (next x e) ss r ∙ ap (λ (n : ℕ). take (2 * n) (written x e) ++ numbersOf ys (next x e)) (sym z)
 shared-numbers xs e ss (one-share {xs = ys} {ss = ts} x out room r) =
     ap (λ (l : List Float). take (2 * framesOf x e) (written x e) ++ l) (shared-numbers ys (next x e) ts r)
 
 -- each has an even count, and room
 shared-roomy : (xs : List Call) (e : Engine) (ss : List Share) → Shared xs e ss → AllRoomy ss
 shared-roomy xs e ss no-share = tt
+shared-roomy xs e ss (passed-over {xs = ys} x z r) = shared-roomy ys (next x e) ss r
 shared-roomy xs e ss (one-share {xs = ys} {ss = ts} x out room r) =
     let l = call-fit x e .count in
     let even : length (take (2 * framesOf x e) (written x e)) % 2 ≡ 0 = omega arith in

@@ -67,9 +67,10 @@ AnyLengths = (xs ys : List Call) (e : Engine) → Recut xs ys e → SameFile xs 
 
 -- ---- streams
 
--- for each call of a run a share: the numbers that it renders, and an output with room for their bytes
+-- for each call of a run a share: the numbers that it renders, and an output with room for their bytes; a call that renders no frame may be passed over
 pub data Shared : List Call → Engine → List Share → Type 0 where
   no-share : {e : Engine} → Shared [] e []
+  passed-over : {xs : List Call} {e : Engine} {ss : List Share} (x : Call) → framesOf x e ≡ 0 → Shared xs (next x e) ss → Shared (x ∷ xs) e ss
   one-share : {xs : List Call} {e : Engine} {ss : List Share} (x : Call) (out : List ℕ) → 4 * framesOf x e ≤ length out
       → Shared xs (next x e) ss
       → Shared (x ∷ xs) e (record { numbers = take (2 * framesOf x e) (written x e); out = out } ∷ ss)

@@ -26,7 +26,9 @@ use Rattle.smf.specs.Ticks.{sumAfter, isLate, frameOf}
 use Rattle.smf.specs.Track.{Song, Events, Refused, edgeOf, isBad, carried, eventOf, acted, obeyed, meetAt, behindEvent, songFrom}
 use Rattle.smf.specs.Songs.{startAt, turns, eventsOf, verdict, testOf}
 use Rattle.smf.specs.Reading.{entry}
-use Rattle.smf.specs.Spelling.{Mark, Score, hasOne, GoodMark, GoodMarks, GoodScore, ticksOf, tempoBehind, ringing, rungFrom, inTimeFrom, rung, inTime, twoBytes, threeBytes, fourBytes, quantityBytes, statusBytes, dataBytes, eventBytes, runningBehind, trackBytes, trackOf, fileBytes, AllBytes, WrittenInBytes, WrittenIsRung, WrittenTooLate, RunningIsSpelling, RunningReadsTheSame}
+use Rattle.arith.specs.Bytes.{AllBytes}
+use Rattle.arith.proofs.BytesLaws.{all-append}
+use Rattle.smf.specs.Spelling.{Mark, Score, hasOne, GoodMark, GoodMarks, GoodScore, ticksOf, tempoBehind, ringing, rungFrom, inTimeFrom, rung, inTime, twoBytes, threeBytes, fourBytes, quantityBytes, statusBytes, dataBytes, eventBytes, runningBehind, trackBytes, trackOf, fileBytes, WrittenInBytes, WrittenIsRung, WrittenTooLate, RunningIsSpelling, RunningReadsTheSame}
 use Rattle.smf.proofs.QuantitiesLaws.{from-last, from-more}
 use Rattle.smf.proofs.MeetingLaws.{meet-good}
 use Rattle.smf.proofs.HeadLaws.{track-found, track-turn, head-good}
@@ -613,11 +615,6 @@ running-reads-the-same one other s g short short2 k =
     ∙ sym (reads-all (fileBytes other s) k)
 
 -- ---- 6. Bytes
-
--- two lists of bytes
-all-append : (xs ys : List ℕ) → AllBytes xs → AllBytes ys → AllBytes (xs ++ ys)
-all-append [] ys p q = q
-all-append (x ∷ xs) ys p q = (p .0, all-append xs ys (p .1) q)
 
 -- by a test
 all-cond : (t : Bool) (xs ys : List ℕ) → (t ≡ true → AllBytes xs) → (t ≡ false → AllBytes ys) → AllBytes (cond t xs ys)

@@ -7,6 +7,7 @@ use mathlib.Core.Path.{_≡_}
 use Prim.Native.Nat.{ℕ, suc, _+_, _*_, _/_, _%_, _<_, _≤_}
 use lib.Dec.{ltb, eqb}
 use lib.ListN.{length}
+use Rattle.arith.specs.Bytes.{AllBytes}
 use Rattle.arith.specs.Holds.{between}
 use Rattle.smf.specs.declared.Event.{Event}
 use Rattle.smf.specs.Ticks.{isLate, frameOf}
@@ -28,11 +29,6 @@ pub record Score : Type 0 where
   pub division : ℕ
   pub marks : List Mark
   pub last : ℕ
-
--- each number of a list is a byte
-abbrev pub AllBytes : List ℕ → Type 0
-AllBytes [] = Unit {0}
-AllBytes (x ∷ xs) = (x < 256) × AllBytes xs
 
 -- a quantity has at most 28 bits
 abbrev pub IsQuantity : ℕ → Type 0

@@ -1,18 +1,22 @@
 -- Examples, computed: a file of one frame, k = -257 on the left and k = 8,388,608 on the right; and each refusal.
 use mathlib.Core.Bool.{true, false}
-use mathlib.Core.List.{List, [], _∷_, _++_}
+use mathlib.Core.List.{List, [], _∷_, _++_, map}
 use mathlib.Core.Path.{_≡_, refl}
 use Prim.Native.Nat.{ℕ, zero, suc, _*_, _<_}
 use native.Mathlib.Omega.{arith}
 use lib.Ieee.{Float, nan, inf, fin}
+use lib.Ieee as Ieee
+use lib.Count as Count
 use lib.IntN.{pos, negsuc}
 use lib.ListN.{take, drop, replicate, length-replicate}
 use Rattle.arith.specs.Floors.{modZ}
 use Rattle.arith.specs.Lists.{anyOf}
-use Rattle.wave.specs.Pcm.{isOutput, kOf, pcmOfK, pcmOf}
-use Rattle.wave.specs.Headings.{headingOf, mostFrames, headingNumber}
+use Rattle.wave.specs.Pcm.{isOutput, kOf, pcmOfK, pcmOf, numberOf}
+use Rattle.wave.specs.Headings.{headingOf, mostFrames, headingNumber, headed}
 use Rattle.wave.specs.Pours.{isOther, isBroken, pouredOf, pourNumber, pouredInto}
-use Rattle.wave.specs.Recording.{recordingOf, writeNumber}
+use Rattle.wave.specs.Recording.{recordingOf, writeNumber, recorded}
+use Rattle.wave.specs.Returned.{fileIn}
+use Rattle.wave.specs.Streams.{pouredBytes}
 use Rattle.wave.specs.Playback.{sameBytes, isRecording, pcmsIn, readNumber, heardOf, replayed}
 use Rattle.wave.proofs.RecordingLaws.{write-14}
 use Rattle.wave.proofs.StreamsLaws.{whole-of}
@@ -48,6 +52,18 @@ pour-of-a-frame = refl
 pub frame-of-a-file : replayed file (pos 9 ∷ pos 9 ∷ pos 9 ∷ []) ≡ negsuc 1 ∷ pos 32767 ∷ pos 9 ∷ []
 unfolding replayed readNumber isRecording sameBytes headingOf pcmsIn
 frame-of-a-file = refl
+
+-- its numbers as floats, written into 49 bytes: the same file, and one byte is left
+pub file-again : recorded (map numberOf (negsuc 1 ∷ pos 32767 ∷ [])) (replicate 49 9) ≡ file ++ (9 ∷ [])
+unfolding recorded writeNumber isBroken isOutput recordingOf headingOf pouredOf pcmOf pcmOfK kOf modZ numberOf Ieee.round Ieee.size Ieee.units Ieee.odd Ieee.span Ieee.climb Count.trailingZeros
+file-again = refl
+
+-- the frame twice: streamed into outputs of their own, and written at once
+pub streamed-twice :
+    take 44 (headed 2 (replicate 44 9)) ++ pouredBytes (record { numbers = frame; out = replicate 4 9 } ∷ record { numbers = frame; out = replicate 5 9 } ∷ [])
+    ≡ fileIn (frame ++ frame) (replicate 52 9)
+unfolding headed headingNumber pouredInto pourNumber recorded writeNumber recordingOf headingOf isBroken isOutput pouredOf pcmOf pcmOfK kOf modZ
+streamed-twice = refl
 
 -- its answer
 pub answer-of-a-file : heardOf file 3 ≡ record { number = 0; frames = 1 }

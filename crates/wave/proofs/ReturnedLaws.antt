@@ -14,7 +14,8 @@ use lib.IntN.{ℤ, pos, negsuc, natAbs}
 use lib.ListN.{length, take, drop, getD, length-append, length-map, List·getD-append, List·getD-map}
 use lib.Signed.{_≤ℤ_}
 use lib.Seq.{take-at, drop-at, getD-append-add}
-use Rattle.arith.specs.Bytes.{u8At, u16At, i16At}
+use Rattle.arith.proofs.BytesLaws.{all-append}
+use Rattle.arith.specs.Bytes.{AllBytes, i16At, u16At, u8At}
 use mir.Syntax.{w16}
 use mir.Val.{toZ}
 use Rattle.arith.specs.Floats.{isNeg}
@@ -28,7 +29,7 @@ use Rattle.wave.specs.Recording.{recordingOf, writeNumber, recorded}
 use Rattle.wave.specs.Playback.{pcmsIn, heardOf, replayed}
 use Rattle.wave.specs.Fractions.{OutputAt, FloorHeld}
 use Rattle.wave.specs.Refusals.{FileOf}
-use Rattle.wave.specs.Returned.{AreBytes, fileIn, numbersIn, FileIsBytes, FileHoldsFloors, ReadIsWritten, ReadsEach, WrittenIsRead, WrittenAgain}
+use Rattle.wave.specs.Returned.{fileIn, numbersIn, FileIsBytes, FileHoldsFloors, ReadIsWritten, ReadsEach, WrittenIsRead, WrittenAgain}
 use Rattle.wave.proofs.HeadingsLaws.{head-length}
 use Rattle.wave.proofs.PoursLaws.{even, poured-length, word-lt}
 use Rattle.wave.proofs.RecordingLaws.{recorded-0, recording-length, write-0}
@@ -38,18 +39,14 @@ use Rattle.wave.proofs.RefusalsLaws.{counted, frames-of, is-file, reade
 use Rattle.wave.proofs.StreamsLaws.{clean-of, file-written, whole-of}
 
 -- ---- bytes
-bytes-append : (xs ys : List ℕ) → AreBytes xs → AreBytes ys → AreBytes (xs ++ ys)
-bytes-append [] ys h k = k
-bytes-append (x ∷ xs) ys h k = (h .0, bytes-append xs ys (h .1) k)
-
-head-is-bytes : (frames : ℕ) → AreBytes (headingOf frames)
+head-is-bytes : (frames : ℕ) → AllBytes (headingOf frames)
 unfolding headingOf
 head-is-bytes frames =
     let front : List ℕ = (82 ∷ 73 ∷ 70 ∷ 70 ∷ []) ++ inFour (36 + 4 * frames) ++ (87 ∷ 65 ∷ 86 ∷ 69 ∷ []) ++ (102 ∷ 109 ∷ 116 ∷ 32 ∷ []) ++ inFour 16 in
     let tail : List ℕ = inTwo 1 ++ inTwo 2 ++ inFour 44100 ++ inFour 176400 ++ inTwo 4 ++ inTwo 16 ++ (100 ∷ 97 ∷ 116 ∷ 97 ∷ []) ++ inFour (4 * frames) in
-    bytes-append front tail (omega arith) (omega arith)
+    all-append front tail (omega arith) (omega arith)
 
-poured-is-bytes : (xs : List Float) → AreBytes (pouredOf xs)
+poured-is-bytes : (xs : List Float) → AllBytes (pouredOf xs)
 unfolding pouredOf
 poured-is-bytes [] = tt
 poured-is-bytes (x ∷ xs) =
@@ -59,12 +56,12 @@ poured-is-bytes (x ∷ xs) =
     let high : n / 256 % 256 < 256 = omega arith in
     (low, (high, rest))
 
-recording-is-bytes : (xs : List Float) → AreBytes (recordingOf xs)
+recording-is-bytes : (xs : List Float) → AllBytes (recordingOf xs)
 unfolding recordingOf
-recording-is-bytes xs = bytes-append (headingOf (length xs / 2)) (pouredOf xs) (head-is-bytes (length xs / 2)) (poured-is-bytes xs)
+recording-is-bytes xs = all-append (headingOf (length xs / 2)) (pouredOf xs) (head-is-bytes (length xs / 2)) (poured-is-bytes xs)
 
 pub file-is-bytes : FileIsBytes
-file-is-bytes xs out h = subst AreBytes (sym (file-written xs out h)) (recording-is-bytes xs)
+file-is-bytes xs out h = subst AllBytes (sym (file-written xs out h)) (recording-is-bytes xs)
 
 -- ---- 16 bits, and back
 
@@ -274,7 +271,7 @@ two-small : (low high : ℕ) → low < 256 → high < 256 → low + high * 256 <
 two-small low high h k = omega arith
 
 -- the numbers of bytes, as floats, are poured as those bytes
-poured-back : (n : ℕ) (bytes : List ℕ) → AreBytes bytes → length bytes ≡ 2 * n
+poured-back : (n : ℕ) (bytes : List ℕ) → AllBytes bytes → length bytes ≡ 2 * n
     → (anyOf isOther (map numberOf (pcmsIn bytes)) ≡ false) × (pouredOf (map numberOf (pcmsIn bytes)) ≡ bytes)
 unfolding pcmsIn pouredOf
 poured-back n [] b l = (refl, refl)
@@ -295,18 +292,18 @@ poured-back (suc n) (low ∷ high ∷ bytes) b l =
       ap₂ _∷_ (ap (λ (k : ℕ). k % 256) m ∙ e) (ap₂ _∷_ (ap (λ (k : ℕ). k / 256 % 256) m ∙ f) (rest .1)),
     )
 
-bytes-behind : (k : ℕ) (xs : List ℕ) → AreBytes xs → AreBytes (drop k xs)
+bytes-behind : (k : ℕ) (xs : List ℕ) → AllBytes xs → AllBytes (drop k xs)
 bytes-behind zero xs h = h
 bytes-behind (suc k) [] h = h
 bytes-behind (suc k) (x ∷ xs) h = bytes-behind k xs (h .1)
 
 -- a file of n frames, read and written
-module _ (file : List ℕ) (n : ℕ) (f : FileOf file n) (b : AreBytes file) where
+module _ (file : List ℕ) (n : ℕ) (f : FileOf file n) (b : AllBytes file) where
   body-is : drop 44 file ≡ f .body
   body-is = ap (drop 44) (f .whole) ∙ drop-at (headingOf n) (f .body) 44 (head-length n)
 
-  body-bytes : AreBytes (f .body)
-  body-bytes = subst AreBytes body-is (bytes-behind 44 file b)
+  body-bytes : AllBytes (f .body)
+  body-bytes = subst AllBytes body-is (bytes-behind 44 file b)
 
   -- its numbers as floats
   floats : List Float

@@ -1,20 +1,15 @@
 -- 02, M-107: reading what was written returns it, and writing what was read gives the same bytes.
-use mathlib.Core.List.{List, [], _∷_, _++_, map}
+use mathlib.Core.List.{List, _++_, map}
 use mathlib.Core.Path.{_≡_}
 use Prim.Native.Nat.{ℕ, _+_, _*_, _/_, _<_, _≤_}
 use lib.Ieee.{Float}
 use lib.IntN.{ℤ}
 use lib.ListN.{length, take, drop, getD}
-use Rattle.arith.specs.Bytes.{i16At}
+use Rattle.arith.specs.Bytes.{AllBytes, i16At}
 use Rattle.wave.specs.Fractions.{OutputAt, FloorHeld}
 use Rattle.wave.specs.Pcm.{pcmOf, numberOf}
 use Rattle.wave.specs.Playback.{readNumber, heardOf, replayed}
 use Rattle.wave.specs.Recording.{writeNumber, recorded}
-
--- each number of a list is a byte, as of every lent memory of bytes
-abbrev pub AreBytes : List ℕ → Type 0
-AreBytes [] = Unit {0}
-AreBytes (x ∷ xs) = (x < 256) × AreBytes xs
 
 -- the file that stands at the beginning of an output after the writer
 abbrev pub fileIn : List Float → List ℕ → List ℕ
@@ -26,7 +21,7 @@ numbersIn file out = take (2 * heardOf file (length out) .frames) (replayed file
 
 -- what the writer writes are bytes
 abbrev pub FileIsBytes : Type 0
-FileIsBytes = (xs : List Float) (out : List ℕ) → writeNumber xs (length out) ≡ 0 → AreBytes (fileIn xs out)
+FileIsBytes = (xs : List Float) (out : List ℕ) → writeNumber xs (length out) ≡ 0 → AllBytes (fileIn xs out)
 
 -- number i of the file, two bytes behind its 44, low byte first and in two's complement: floor(k/256), at most 32,767, for the output number k/2^23 at place i
 abbrev pub FileHoldsFloors : Type 0
@@ -51,7 +46,7 @@ ReadsEach =
 -- every file that the reader takes: its numbers as floats, written with room, give that very file
 abbrev pub WrittenIsRead : Type 0
 WrittenIsRead =
-    (file out : List ℕ) (room : List ℤ) → AreBytes file → readNumber file (length room) ≡ 0 → length file ≤ length out
+    (file out : List ℕ) (room : List ℤ) → AllBytes file → readNumber file (length room) ≡ 0 → length file ≤ length out
     → (writeNumber (map numberOf (numbersIn file room)) (length out) ≡ 0)
     × (recorded (map numberOf (numbersIn file room)) out ≡ file ++ drop (length file) out)
 
