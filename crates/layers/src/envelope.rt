@@ -1,7 +1,5 @@
 // The envelope of a voice (01, "From a key to layers" and "A voice, frame by frame").
-ghost use lib.IntN.{pos};
 ghost use mathlib.Core.Path.{_≡_};
-ghost use Prim.Native.Nat.{_<_};
 ghost use Rattle.curves.specs.Octave.{octaves};
 ghost use Rattle.totals.specs.Internal.Values.{totalIn};
 ghost use Rattle.layers.specs.Envelope.{envelopeOf};

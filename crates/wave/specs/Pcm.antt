@@ -1,7 +1,6 @@
 -- 02, M-107: an output number k/2^23 as the 16-bit number floor(k/256), at most 32,767; and the way back.
 use mathlib.Core.Bool.{Bool, false, _&&_, cond}
-use mathlib.Core.List.{List, [], _∷_}
-use Prim.Native.Nat.{ℕ, _*_, _/_, _%_}
+use Prim.Native.Nat.{_*_, _/_, _%_}
 use lib.Dec.{eqb, leb}
 use lib.Ieee.{Float, nan, inf, fin, up, down, binary32, round}
 use lib.IntN.{ℤ, pos, negℤ, natAbs}

@@ -2,10 +2,10 @@
 ghost use mathlib.Core.List.{_++_};
 ghost use mathlib.Core.Path.{_≡_};
 ghost use lib.ListN.{length, drop};
-ghost use Prim.Native.Nat.{_≤_, _<_, _/_, _%_};
+ghost use Prim.Native.Nat.{_≤_, _/_, _%_};
 ghost use Rattle.wave.specs.Headings.{headingOf, headingNumber, headed};
 
-// One of the four bytes of a number: that of the 256th power `worth`.
+// The byte of a number that counts in units of `worth`: 1, 256, 65,536 or 16,777,216.
 fn byte(n: u64, worth: u64) -> u8
     requires { ⌜ 1 ≤ worth ⌝ }
     ensures { λ r. ⌜ r ≡ n / worth % 256 ⌝ }

@@ -4,7 +4,7 @@ ghost use mathlib.Core.List.{_++_};
 ghost use mathlib.Core.Path.{_≡_};
 ghost use lib.Dec.{T};
 ghost use lib.ListN.{length, take, drop};
-ghost use Prim.Native.Nat.{_≤_, _<_, _*_, _+_};
+ghost use Prim.Native.Nat.{_≤_, _*_, _+_};
 ghost use Rattle.arith.specs.Lists.{anyOf};
 ghost use Rattle.wave.specs.Pours.{isBroken, isOther, pouredOf, pourNumber, pouredInto};
 use crate::pcm;
