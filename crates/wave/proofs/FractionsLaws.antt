@@ -16,23 +16,20 @@ use Rattle.arith.proofs.FloatsLaws.{round-down}
 use Rattle.arith.proofs.FloorsLaws.{floor-low, floor-high}
 use Rattle.wave.specs.Pcm.{isOutput, kOf, pcmOfK, numberOf}
 use Rattle.wave.specs.Fractions.{PassedIsOutput, OutputPasses, FloorHeld, PcmIsFloor, NumberIsExact}
-use Rattle.wave.proofs.PcmLaws.{both}
+use Rattle.wave.proofs.PcmLaws.{both, signedOf}
 
 -- ---- the k of a size and a sign
-abbrev signed : Bool → ℕ → ℤ
-signed s q = cond s (negℤ (pos q)) (pos q)
-
-signed-size : (s : Bool) (q : ℕ) → natAbs (signed s q) ≡ q
+signed-size : (s : Bool) (q : ℕ) → natAbs (signedOf s q) ≡ q
 signed-size true zero = refl
 signed-size true (suc q) = refl
 signed-size false q = refl
 
-signed-sign : (s : Bool) (q : ℕ) → (signed s q ≡ pos 0) ⊎ (s ≡ isNeg (signed s q))
+signed-sign : (s : Bool) (q : ℕ) → (signedOf s q ≡ pos 0) ⊎ (s ≡ isNeg (signedOf s q))
 signed-sign true zero = inl refl
 signed-sign true (suc q) = inr refl
 signed-sign false q = inr refl
 
-signed-of : (s : Bool) (k : ℤ) → (k ≡ pos 0) ⊎ (s ≡ isNeg k) → signed s (natAbs k) ≡ k
+signed-of : (s : Bool) (k : ℤ) → (k ≡ pos 0) ⊎ (s ≡ isNeg k) → signedOf s (natAbs k) ≡ k
 signed-of true k (inl e) = ap (λ (z : ℤ). negℤ (pos (natAbs z))) e ∙ sym e
 signed-of false k (inl e) = ap (λ (z : ℤ). pos (natAbs z)) e ∙ sym e
 signed-of true (pos n) (inr e) = absurd (subst T e tt)
@@ -78,7 +75,7 @@ output-passes (fin s m e) k h =
     let size : a * 8388608 / d ≡ natAbs k = ap (λ (n : ℕ). n / d) v ∙ mul-div-cancel (natAbs k) (down-pos e) in
     let low : a ≤ d = le-of-mul-le-mul-right {k = 8388608} (le-trans (le-of-eq v) (le-trans (mul-le-mul-right d (h .small .within)) (le-of-eq (mul-comm 8388608 d)))) (lit< tt) in (
       rw (eq-eqb (a * 8388608 % d) 0 rest) (le-leb a d low),
-      ap (signed s) size ∙ ap (λ (b : Bool). signed b (natAbs k)) (h .value .0) ∙ signed-of (h .sign) k (h .signed),
+      ap (signedOf s) size ∙ ap (λ (b : Bool). signedOf b (natAbs k)) (h .value .0) ∙ signed-of (h .sign) k (h .signed),
     )
 
 -- ---- its 16-bit number

@@ -5,6 +5,7 @@ use mathlib.Core.Logic.{_⊎_, inl, inr}
 use Prim.Native.Nat.{ℕ, zero, suc, _+_, _-_, _*_, _/_, _%_, _^_, _≤_, _<_}
 use native.Mathlib.Nat.{div-mul-le-self, lt-of-le-of-lt, eq-or-lt-of-le, eq-zero-or-pos, le-of-suc-le-suc, div-add-mod', eq-of-mul-eq-mul-right, le-of-eq, le-of-mul-le-mul-right, le-trans, lt-irrefl, lt-of-lt-of-le, mod-eq-of-lt, mul-assoc, mul-comm, mul-div-mul-right, mul-le-mul-left, mul-le-mul-right, mul-mod-left, mul-pos, mul-right-comm}
 use native.Mathlib.Omega.{arith}
+use borrow.Author.Tests.{eqb-true}
 use lib.Dec.{T, T-not, eqb, eqb→eq, leb, leb→le, le→leb, ltb, ltb→lt, nltb→le, not-T, lit<, lit≤}
 use lib.IntN.{ℤ, pos, negℤ}
 use lib.Pow.{pow-add, pow-mono, pow-pos, shl-lt, shl-shr, shr-mono}
@@ -56,7 +57,7 @@ same-below u d a c D C e =
     (λ t. le→leb u d (below-too a c u d C (sym e) (leb→le a c t)))
 
 -- k / 2^23 with a sign
-abbrev signedOf : Bool → ℕ → ℤ
+abbrev pub signedOf : Bool → ℕ → ℤ
 signedOf s k = cond s (negℤ (pos k)) (pos k)
 
 -- whether a finite number is an output number turns on its value alone
@@ -81,7 +82,7 @@ k-value (fin t m e) s a c C h =
 -- ---- by fields: the size's bits are a field f and 23 digits t
 
 -- the same number as another fraction
-rescaled : (x : Float) (s : Bool) (a c b d : ℕ) → 0 < c → a * d ≡ b * c → HasValue x s a c → HasValue x s b d
+pub rescaled : (x : Float) (s : Bool) (a c b d : ℕ) → 0 < c → a * d ≡ b * c → HasValue x s a c → HasValue x s b d
 rescaled nan s a c b d C e v = v
 rescaled (inf t) s a c b d C e v = v
 rescaled (fin t m x) s a c b d C e v = (
@@ -218,6 +219,19 @@ tail-bits s (suc x) t F L h =
       tail-k s x r t (omega (arith, whole)),
     )
 
+-- the field of an output number's bits, which are not 0
+output-field : (size : ℕ) → T (isOutputBits size) → eqb size 0 ≡ false → (104 ≤ size / 8388608) × (size ≤ 1065353216)
+unfolding isOutputBits
+output-field size h e =
+    past (ltb 1065353216 size) (ltb (size / 8388608) 104) _ (nltb→le 1065353216 size) (nltb→le (size / 8388608) 104)
+    (subst (λ (b : Bool). T (cond b true (cond (ltb 1065353216 size) false (cond (ltb (size / 8388608) 104) false (eqb (digitsOf size / 2 ^ tailOf size * 2 ^ tailOf size) (digitsOf size)))))) e h)
+  where
+    past : (a b d : Bool) → (T (not a) → size ≤ 1065353216) → (T (not b) → 104 ≤ size / 8388608)
+        → T (cond a false (cond b false d)) → (104 ≤ size / 8388608) × (size ≤ 1065353216)
+    past true b d p q t = absurd t
+    past false true d p q t = absurd t
+    past false false d p q t = (q tt, p tt)
+
 module _ (s : Bool) (size : ℕ) (S : size < 2147483648) where
   abbrev fieldOf : ℕ
   fieldOf = size / 8388608
@@ -225,8 +239,8 @@ module _ (s : Bool) (size : ℕ) (S : size < 2147483648) where
   abbrev restOf : ℕ
   restOf = size % 8388608
 
-  abbrev numberOf : Float
-  numberOf = ofFields binary32 s fieldOf restOf
+  abbrev madeOf : Float
+  madeOf = ofFields binary32 s fieldOf restOf
 
   rest-lt : restOf < 8388608
   rest-lt = omega arith
@@ -242,13 +256,13 @@ module _ (s : Bool) (size : ℕ) (S : size < 2147483648) where
   nothing z e = subst (λ (y : ℕ). isOutput (ofFields binary32 s (y / 8388608) (y % 8388608)) ≡ true) (sym e) refl
 
   -- whether it is an output number, by its bits
-  pub bits-output : isOutput numberOf ≡ isOutputBits size
+  pub bits-output : isOutput madeOf ≡ isOutputBits size
   unfolding isOutputBits
   bits-output =
-      by-test (eqb size 0) (isOutput numberOf) true _ (λ t. nothing size (eqb→eq size 0 t))
-      (λ n. by-test (ltb 1065353216 size) (isOutput numberOf) false _
+      by-test (eqb size 0) (isOutput madeOf) true _ (λ t. nothing size (eqb→eq size 0 t))
+      (λ n. by-test (ltb 1065353216 size) (isOutput madeOf) false _
       (λ t. loud-bits s fieldOf restOf field-lt rest-lt (subst (λ (z : ℕ). 1065353216 < z) (sym size-is) (ltb→lt 1065353216 size t)))
-      (λ m. by-test (ltb fieldOf 104) (isOutput numberOf) false _
+      (λ m. by-test (ltb fieldOf 104) (isOutput madeOf) false _
       (λ t. fine-bits s fieldOf restOf (ltb→lt fieldOf 104 t) rest-lt (subst (λ (z : ℕ). 0 < z) (sym size-is) (some n)))
       (λ l. tail-bits s fieldOf restOf (nltb→le fieldOf 104 l) rest-lt (subst (λ (z : ℕ). z ≤ 1065353216) (sym size-is) (nltb→le 1065353216 size m)) .0)))
     where
@@ -259,40 +273,18 @@ module _ (s : Bool) (size : ℕ) (S : size < 2147483648) where
       ]
 
   -- its k, by its bits
-  pub bits-k : T (isOutputBits size) → kOf numberOf ≡ signedOf s (kBits size)
-  unfolding isOutputBits kBits kOf ofFields odd
-  bits-k h = go (eqb size 0) (eqb→eq size 0) h
+  pub bits-k : T (isOutputBits size) → kOf madeOf ≡ signedOf s (kBits size)
+  unfolding kBits kOf ofFields odd
+  bits-k h = go (eqb size 0) refl
     where
       naught : (z : ℕ) → z ≡ 0 → kOf (ofFields binary32 s (z / 8388608) (z % 8388608)) ≡ signedOf s 0
       naught z e = subst (λ (y : ℕ). kOf (ofFields binary32 s (y / 8388608) (y % 8388608)) ≡ signedOf s 0) (sym e) refl
 
-      past : (b c d : Bool) → T (cond b false (cond c false d)) → T (not b) × T (not c)
-      past true c d t = absurd t
-      past false true d t = absurd t
-      past false false d t = (tt, tt)
-
-      go : (b : Bool) → (T b → size ≡ 0)
-          → T (cond b true (cond (ltb 1065353216 size) false (cond (ltb fieldOf 104) false (eqb (digitsOf size / 2 ^ tailOf size * 2 ^ tailOf size) (digitsOf size)))))
-          → kOf numberOf ≡ signedOf s (cond b 0 (digitsOf size / 2 ^ tailOf size))
-      go true e t = naught size (e tt)
-      go false e t =
-          let q = past (ltb 1065353216 size) (ltb fieldOf 104) (eqb (digitsOf size / 2 ^ tailOf size * 2 ^ tailOf size) (digitsOf size)) t in
-          tail-bits s fieldOf restOf (nltb→le fieldOf 104 (q .1)) rest-lt
-          (subst (λ (z : ℕ). z ≤ 1065353216) (sym size-is) (nltb→le 1065353216 size (q .0)))
-          .1
-
--- the field of an output number's bits, which are not 0
-output-field : (size : ℕ) → T (isOutputBits size) → eqb size 0 ≡ false → (104 ≤ size / 8388608) × (size ≤ 1065353216)
-unfolding isOutputBits
-output-field size h e =
-    past (ltb 1065353216 size) (ltb (size / 8388608) 104) _ (nltb→le 1065353216 size) (nltb→le (size / 8388608) 104)
-    (subst (λ (b : Bool). T (cond b true (cond (ltb 1065353216 size) false (cond (ltb (size / 8388608) 104) false (eqb (digitsOf size / 2 ^ tailOf size * 2 ^ tailOf size) (digitsOf size)))))) e h)
-  where
-    past : (a b d : Bool) → (T (not a) → size ≤ 1065353216) → (T (not b) → 104 ≤ size / 8388608)
-        → T (cond a false (cond b false d)) → (104 ≤ size / 8388608) × (size ≤ 1065353216)
-    past true b d p q t = absurd t
-    past false true d p q t = absurd t
-    past false false d p q t = (q tt, p tt)
+      go : (b : Bool) → eqb size 0 ≡ b → kOf madeOf ≡ signedOf s (cond b 0 (digitsOf size / 2 ^ tailOf size))
+      go true e = naught size (eqb-true size 0 e)
+      go false e =
+          let f = output-field size h e in
+          tail-bits s fieldOf restOf (f .0) rest-lt (subst (λ (z : ℕ). z ≤ 1065353216) (sym size-is) (f .1)) .1
 
 pub top-field : (size : ℕ) → T (isOutputBits size) → eqb size 0 ≡ false → size / 8388608 ≤ 127
 top-field size h e = let f = output-field size h e in omega (arith, f .1)
@@ -306,8 +298,8 @@ whole-digits size = mod-eq-of-lt (lt-of-le-of-lt (div-mul-le-self (digitsOf size
 
 -- k is at most 2^23
 pub k-bits-le : (size : ℕ) → T (isOutputBits size) → kBits size ≤ 8388608
-unfolding isOutputBits kBits
-k-bits-le size h = go (eqb size 0) h
+unfolding kBits
+k-bits-le size h = go (eqb size 0) refl
   where
     small : (r : ℕ) → size / 8388608 + r ≡ 127 → size ≤ 1065353216 → digitsOf size / 2 ^ r ≤ 8388608
     small r e l =
@@ -315,17 +307,9 @@ k-bits-le size h = go (eqb size 0) h
         (le-trans (in-range (size / 8388608) (size % 8388608) r e (omega arith) (le-trans (le-of-eq (div-add-mod' size 8388608)) l)) (le-of-eq (mul-comm (2 ^ r) 8388608))))
         (le-of-eq (shl-shr 8388608 r))
 
-    go : (b : Bool)
-        → T (cond b true (cond (ltb 1065353216 size) false (cond (ltb (size / 8388608) 104) false (eqb (digitsOf size / 2 ^ tailOf size * 2 ^ tailOf size) (digitsOf size)))))
-        → cond b 0 (digitsOf size / 2 ^ tailOf size) ≤ 8388608
-    go true t = lit≤ tt
-    go false t = upto (ltb 1065353216 size) (nltb→le 1065353216 size) t
-      where
-        upto : (c : Bool) → (T (not c) → size ≤ 1065353216)
-            → T (cond c false (cond (ltb (size / 8388608) 104) false (eqb (digitsOf size / 2 ^ tailOf size * 2 ^ tailOf size) (digitsOf size))))
-            → digitsOf size / 2 ^ tailOf size ≤ 8388608
-        upto true l q = absurd q
-        upto false l q = small (tailOf size) (omega (arith, l tt)) (l tt)
+    go : (b : Bool) → eqb size 0 ≡ b → cond b 0 (digitsOf size / 2 ^ tailOf size) ≤ 8388608
+    go true e = lit≤ tt
+    go false e = let f = output-field size h e in small (tailOf size) (omega (arith, f .1)) (f .1)
 
 -- ---- a binary32 is what its bits stand for
 

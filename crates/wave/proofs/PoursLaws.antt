@@ -1,13 +1,13 @@
 -- Loops that fill a list from the front, and the bytes of numbers, one number more.
 use mathlib.Core.Path.{_≡_, refl, sym, ap, ap₂, _∙_, subst}
-use mathlib.Core.Bool.{Bool, true, false, not, _||_, or-true, true≢false}
+use mathlib.Core.Bool.{Bool, true, false, not, _||_, or-true}
 use mathlib.Core.Logic.{inl, inr}
 use mathlib.Core.List.{List, [], _∷_, _++_, append-assoc, append-nil}
 use Prim.Native.Nat.{ℕ, zero, suc, _+_, _*_, _/_, _%_, _≤_, _<_}
 use native.Mathlib.Nat.{add-zero, eq-zero-or-pos, zero-add, not-suc-le-zero, le-of-suc-le-suc, mod-eq-of-lt}
 use native.Mathlib.Numerals.{add-one}
 use native.Mathlib.Omega.{arith}
-use borrow.Author.Tests.{eq-eqb, eqb-false, le-ltb, lt-ltb}
+use borrow.Author.Tests.{eq-eqb, eqb-false, le-ltb, lt-ltb, not-false}
 use lib.Dec.{T, eqb}
 use lib.Ieee.{Float, nan}
 use lib.IntN.{ℤ, pos, negsuc}
@@ -90,28 +90,21 @@ pour-turn xs from d i w h room e =
     ∙ sym (poured-more xs i h)))
     further
 
--- where none is another number, each is an output number
-pub output-at : (xs : List Float) (i : ℕ) → T (not (anyOf isOther xs)) → i < length xs → T (isOutput (getD xs i nan))
-output-at [] i n h = absurd (not-suc-le-zero h)
-output-at (x ∷ xs) zero n h = first (isOutput x) (anyOf isOther xs) n
-  where
-    first : (b c : Bool) → T (not (not b || c)) → T b
-    first true c n = tt
-    first false c n = absurd n
-output-at (x ∷ xs) (suc i) n h = output-at xs i (others (isOutput x) (anyOf isOther xs) n) (le-of-suc-le-suc h)
-  where
-    others : (b c : Bool) → T (not (not b || c)) → T (not c)
-    others true c n = n
-    others false c n = absurd n
+-- neither of two
+pub neither : (a b : Bool) → (a || b) ≡ false → (a ≡ false) × (b ≡ false)
+neither true b h = absurd (subst T h tt)
+neither false b h = (refl, h)
 
 -- numbers that are not broken are all output numbers
-pub unbroken : (xs : List Float) → T (not (isBroken xs)) → T (not (anyOf isOther xs))
+pub clean-of : (xs : List Float) → isBroken xs ≡ false → anyOf isOther xs ≡ false
 unfolding isBroken
-unbroken xs n = go (eqb (length xs % 2) 1) n
-  where
-    go : (b : Bool) → T (not (b || anyOf isOther xs)) → T (not (anyOf isOther xs))
-    go true n = absurd n
-    go false n = n
+clean-of xs h = neither (eqb (length xs % 2) 1) (anyOf isOther xs) h .1
+
+-- where none is another number, each is an output number
+pub output-at : (xs : List Float) (i : ℕ) → anyOf isOther xs ≡ false → i < length xs → isOutput (getD xs i nan) ≡ true
+output-at [] i n h = absurd (not-suc-le-zero h)
+output-at (x ∷ xs) zero n h = not-false (isOutput x) (neither (isOther x) (anyOf isOther xs) n .0)
+output-at (x ∷ xs) (suc i) n h = output-at xs i (neither (isOther x) (anyOf isOther xs) n .1) (le-of-suc-le-suc h)
 
 -- one that is another number
 pub other-at : (xs : List Float) (i : ℕ) → isOutput (getD xs i nan) ≡ false → i < length xs → anyOf isOther xs ≡ true
@@ -128,17 +121,10 @@ none-turn xs i e o h = any-turn isOther xs i nan h ∙ ap₂ _||_ e (ap not o)
 -- an even count, where nothing is broken
 pub even : (xs : List Float) → isBroken xs ≡ false → length xs % 2 ≡ 0
 unfolding isBroken
-even xs e = go (eqb (length xs % 2) 1) (eqb-false (length xs % 2) 1) e
-  where
-    go : (b : Bool) → (b ≡ false → length xs % 2 ≡ 1 → ⊥) → (b || anyOf isOther xs) ≡ false → length xs % 2 ≡ 0
-    go true n e = absurd (true≢false e)
-    go false n e = only (n refl)
-      where
-        only : (length xs % 2 ≡ 1 → ⊥) → length xs % 2 ≡ 0
-        only n = elim (eq-zero-or-pos (length xs % 2)) [
-          | inl z ↦ z
-          | inr p ↦ absurd (n (omega (arith, p)))
-        ]
+even xs e = elim (eq-zero-or-pos (length xs % 2)) [
+  | inl z ↦ z
+  | inr p ↦ absurd (eqb-false (length xs % 2) 1 (neither (eqb (length xs % 2) 1) (anyOf isOther xs) e .0) (omega (arith, p)))
+]
 
 pub pour-13 : (xs : List Float) (room : ℕ) → isBroken xs ≡ true → pourNumber xs room ≡ 13
 unfolding pourNumber

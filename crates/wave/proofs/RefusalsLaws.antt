@@ -1,5 +1,5 @@
 -- Each number of the four calls is given exactly in its case, and what a call leaves as it was.
-use mathlib.Core.Bool.{Bool, true, false, not, _&&_, _||_}
+use mathlib.Core.Bool.{Bool, true, false, not, _&&_, _||_, or-true}
 use mathlib.Core.List.{List, [], _∷_, _++_}
 use mathlib.Core.Logic.{inl, inr}
 use mathlib.Core.Path.{_≡_, refl, ap, sym, _∙_, subst}
@@ -53,11 +53,7 @@ other-has (x ∷ xs) (here f) = by (isOutput x) refl
     by : (b : Bool) → isOutput x ≡ b → (not b || anyOf isOther xs) ≡ true
     by true e = absurd (f (is-output x e))
     by false e = refl
-other-has (x ∷ xs) (later h) = rw (other-has xs h) (or-yes (not (isOutput x)))
-  where
-    or-yes : (b : Bool) → (b || true) ≡ true
-    or-yes true = refl
-    or-yes false = refl
+other-has (x ∷ xs) (later h) = rw (other-has xs h) (or-true (not (isOutput x)))
 
 pub broken-unfit : (xs : List Float) → isBroken xs ≡ true → Unfit xs
 unfolding isBroken
@@ -70,11 +66,7 @@ broken-unfit xs h = by (eqb (length xs % 2) 1) refl h
 pub unfit-broken : (xs : List Float) → Unfit xs → isBroken xs ≡ true
 unfolding isBroken
 unfit-broken xs (inl e) = rw (eq-eqb (length xs % 2) 1 e)
-unfit-broken xs (inr o) = rw (other-has xs o) (or-yes (eqb (length xs % 2) 1))
-  where
-    or-yes : (b : Bool) → (b || true) ≡ true
-    or-yes true = refl
-    or-yes false = refl
+unfit-broken xs (inr o) = rw (other-has xs o) (or-true (eqb (length xs % 2) 1))
 
 pub fit-of : (xs : List Float) → isBroken xs ≡ false → Unfit xs → ⊥
 fit-of xs h u = never (unfit-broken xs u) h

@@ -4,11 +4,11 @@ use mathlib.Core.List.{List, [], _∷_, _++_, map}
 use mathlib.Core.Logic.{inr}
 use mathlib.Core.Path.{_≡_, refl, ap, ap₂, sym, _∙_, subst}
 use Prim.Native.Nat.{ℕ, zero, suc, _+_, _-_, _*_, _/_, _%_, _<_, _≤_}
-use native.Mathlib.Nat.{mul-assoc, mul-right-comm, mod-eq-of-lt}
+use native.Mathlib.Nat.{mod-eq-of-lt}
 use native.Mathlib.Omega.{arith}
 use borrow.Author.Tests.{lt-ltb, le-ltb, ltb-true, ltb-false}
-use lib.Dec.{T, ltb, leb→le}
-use lib.Ieee.{Float, nan, inf, fin, up, down}
+use lib.Dec.{T, ltb, leb→le, lit<}
+use lib.Ieee.{Float}
 use lib.Ieee.Exact.{HasValue}
 use lib.IntN.{ℤ, pos, negsuc, natAbs}
 use lib.ListN.{length, take, drop, getD, length-append, length-map, List·getD-append, List·getD-map}
@@ -31,12 +31,13 @@ use Rattle.wave.specs.Fractions.{OutputAt, FloorHeld}
 use Rattle.wave.specs.Refusals.{FileOf}
 use Rattle.wave.specs.Returned.{fileIn, numbersIn, FileIsBytes, FileHoldsFloors, ReadIsWritten, ReadsEach, WrittenIsRead, WrittenAgain}
 use Rattle.wave.proofs.HeadingsLaws.{head-length}
-use Rattle.wave.proofs.PoursLaws.{even, poured-length, word-lt}
+use Rattle.wave.proofs.PcmLaws.{rescaled}
+use Rattle.wave.proofs.PoursLaws.{clean-of, even, poured-length, word-lt}
 use Rattle.wave.proofs.RecordingLaws.{recorded-0, recording-length, write-0}
 use Rattle.wave.proofs.PlaybackLaws.{pcms-get, pcms-length, read-0, replayed-0}
 use Rattle.wave.proofs.FractionsLaws.{number-is-exact, output-passes, passed-is-output, pcm-is-floor}
 use Rattle.wave.proofs.RefusalsLaws.{counted, frames-of, is-file, reader-numbers, write-room}
-use Rattle.wave.proofs.StreamsLaws.{clean-of, file-written, whole-of}
+use Rattle.wave.proofs.StreamsLaws.{file-written, whole-of}
 
 -- ---- bytes
 head-is-bytes : (frames : ℕ) → AllBytes (headingOf frames)
@@ -235,15 +236,6 @@ wide-floor (pos a) h =
     rw (e, le-ltb 32767 a (omega arith))
 wide-floor (negsuc a) h = let e : (a * 256 + 255) / 256 ≡ a = omega arith in ap negsuc e
 
--- v/2^15 is 256 v / 2^23
-in-256ths : (x : Float) (s : Bool) (n : ℕ) → HasValue x s n 32768 → HasValue x s (n * 256) 8388608
-in-256ths nan s n h = h
-in-256ths (inf t) s n h = h
-in-256ths (fin t m e) s n h = (
-  h .0,
-  sym (mul-assoc (m * up e) 32768 256) ∙ ap (λ (k : ℕ). k * 256) (h .1) ∙ mul-right-comm n (down e) 256,
-)
-
 sixteen-within : (v : ℤ) → Sixteen v → natAbs v ≤ 32768
 sixteen-within (pos a) h = omega arith
 sixteen-within (negsuc a) h = h
@@ -254,7 +246,7 @@ number-at v h =
     let size = wide-size v in
     record {
       sign = isNeg v;
-      value = subst (λ (n : ℕ). HasValue (numberOf v) (isNeg v) n 8388608) (sym size) (in-256ths (numberOf v) (isNeg v) (natAbs v) (number-is-exact v (record { within = w }) .value));
+      value = subst (λ (n : ℕ). HasValue (numberOf v) (isNeg v) n 8388608) (sym size) (rescaled (numberOf v) (isNeg v) (natAbs v) 32768 (natAbs v * 256) 8388608 (lit< tt) (omega arith) (number-is-exact v (record { within = w }) .value));
       small = record { within = omega arith };
       signed = inr (wide-sign v);
     }

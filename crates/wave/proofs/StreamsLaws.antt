@@ -1,11 +1,10 @@
 -- A heading and pours, one behind the other, are the writer's file.
-use mathlib.Core.Bool.{Bool, true, false, _||_, or-assoc}
+use mathlib.Core.Bool.{Bool, false, _||_, or-assoc}
 use mathlib.Core.List.{List, [], _∷_, _++_}
-use mathlib.Core.Path.{_≡_, refl, ap, ap₂, sym, _∙_, subst}
+use mathlib.Core.Path.{_≡_, refl, ap, ap₂, sym, _∙_}
 use Prim.Native.Nat.{ℕ, _+_, _*_, _/_, _%_}
 use native.Mathlib.Omega.{arith}
 use borrow.Author.Tests.{ne-eqb}
-use lib.Dec.{T, eqb}
 use lib.Ieee.{Float}
 use lib.ListN.{length, take, drop, length-append}
 use lib.Seq.{take-at}
@@ -16,7 +15,7 @@ use Rattle.wave.specs.Recording.{recordingOf, writeNumber}
 use Rattle.wave.specs.Returned.{fileIn}
 use Rattle.wave.specs.Streams.{Share, allNumbers, pouredBytes, AllPoured, AllRoomy, StreamIsFile, FileIsStream}
 use Rattle.wave.proofs.HeadingsLaws.{head-0, head-length, headed-0}
-use Rattle.wave.proofs.PoursLaws.{even, pour-0, poured-0, poured-append, poured-length}
+use Rattle.wave.proofs.PoursLaws.{clean-of, neither, even, pour-0, poured-0, poured-append, poured-length}
 use Rattle.wave.proofs.RecordingLaws.{recorded-0, recording-length, write-0}
 use Rattle.wave.proofs.RefusalsLaws.{heading-numbers, pour-room, write-room}
 
@@ -30,19 +29,10 @@ pub any-append : {A : Type 0} (p : A → Bool) (xs ys : List A) → anyOf p (xs 
 any-append p [] ys = refl
 any-append p (x ∷ xs) ys = ap (λ (b : Bool). p x || b) (any-append p xs ys) ∙ sym (or-assoc (p x) (anyOf p xs) (anyOf p ys))
 
--- neither of two
-neither : (a b : Bool) → (a || b) ≡ false → (a ≡ false) × (b ≡ false)
-neither true b h = absurd (subst T h tt)
-neither false b h = (refl, h)
-
 -- a run of numbers is whole where its count is even and none of it is another
 pub whole-of : (xs : List Float) → length xs % 2 ≡ 0 → anyOf isOther xs ≡ false → isBroken xs ≡ false
 unfolding isBroken
 whole-of xs e h = rw (ne-eqb (length xs % 2) 1 (λ (q : length xs % 2 ≡ 1). omega arith)) h
-
-pub clean-of : (xs : List Float) → isBroken xs ≡ false → anyOf isOther xs ≡ false
-unfolding isBroken
-clean-of xs h = neither (eqb (length xs % 2) 1) (anyOf isOther xs) h .1
 
 -- ---- from the pours to the file
 

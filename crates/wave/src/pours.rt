@@ -1,8 +1,7 @@
 // Output numbers poured as bytes, two for each.
-ghost use mathlib.Core.Bool.{not};
+ghost use mathlib.Core.Bool.{false};
 ghost use mathlib.Core.List.{_++_};
 ghost use mathlib.Core.Path.{_≡_};
-ghost use lib.Dec.{T};
 ghost use lib.ListN.{length, take, drop};
 ghost use Prim.Native.Nat.{_≤_, _*_, _+_};
 ghost use Rattle.arith.specs.Lists.{anyOf};
@@ -35,7 +34,7 @@ pub fn is_broken(numbers: &[f32]) -> bool
 
 // The bytes of numbers that were tested, from a place in the output on.
 pub fn fill(numbers: &[f32], out: &mut [u8], from: usize)
-    requires { ⌜ T (not (isBroken (now numbers))) ⌝ }
+    requires { ⌜ isBroken (now numbers) ≡ false ⌝ }
     requires room { ⌜ from + 2 * length (now numbers) ≤ length (now out) ⌝ }
     ensures { λ _. ⌜ now (out .exit) ≡ (take from (now (out .entry)) ++ pouredOf (now (numbers .entry))) ++ drop (from + 2 * length (now (numbers .entry))) (now (out .entry)) ⌝ }
 {

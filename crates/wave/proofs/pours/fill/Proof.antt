@@ -1,14 +1,15 @@
 -- The bytes of the first i numbers are poured, two for each.
 use borrow.Author.Needs.{needs}
-use mathlib.Core.Path.{_≡_, refl, ap, _∙_}
+use mathlib.Core.Path.{_≡_, refl, ap, subst, sym, _∙_}
 use mathlib.Core.List.{List, _++_}
 use Prim.Native.Nat.{ℕ, _≤_, _<_, _-_, _+_, _*_, _/_, _%_}
 use native.Mathlib.Omega.{arith}
+use lib.Dec.{T}
 use lib.Ieee.{Float}
 use lib.ListN.{length, set, take, drop, length-set}
 use lib.Seq.{lt-length-set, take-length}
 use Rattle.wave.specs.Pours.{pouredOf}
-use Rattle.wave.proofs.PoursLaws.{output-at, pour-turn, poured-none, pouredUpto, unbroken}
+use Rattle.wave.proofs.PoursLaws.{clean-of, output-at, pour-turn, poured-none, pouredUpto}
 use Rattle.wave.proofs.pours.fill.Statement.{statement}
 use Rattle.wave.proofs.pours.fill.Tie as tie
 
@@ -31,7 +32,7 @@ shared-slice-read-pcm c = search needs
 pcm-requires : tie.Need-pcm-requires Inv-loop μ-loop
 pcm-requires c κs = let l = c .before .before in let s = l .before .before .before in let xs = s .args .numbers .now in
     let inside : l .loop .i < length xs = omega arith in
-    output-at xs (l .loop .i) (unbroken xs (s .pre .0)) inside
+    subst T (sym (output-at xs (l .loop .i) (clean-of xs (s .pre .0)) inside)) tt
 
 cast-out : tie.Need-cast-out Inv-loop μ-loop
 cast-out c = search needs

@@ -1,8 +1,6 @@
 -- The tests are those of the definition, in its order; half the room is compared, so that no product can wrap.
-use mathlib.Core.Bool.{Bool, not}
-use mathlib.Core.Path.{subst, sym, _∙_}
+use mathlib.Core.Path.{sym, _∙_}
 use native.Mathlib.Omega.{arith}
-use lib.Dec.{T}
 use Rattle.wave.proofs.PoursLaws.{pour-broken, pour-done, pour-short}
 use borrow.Author.Needs.{needs}
 use Rattle.wave.proofs.pours.pour.Statement.{statement}
@@ -20,7 +18,7 @@ returns-2 c = let s = c .before .before .before .before .before in let few = c .
 
 fill-requires : tie.Need-fill-requires
 fill-requires c κs = let s = c .before .before .before .before .before .before in let enough = c .before .if2 .left in
-    (subst (λ (b : Bool). T (not b)) (sym (c .before .before .if1 .left) ∙ c .before .before .before .is-broken .ensures) tt, omega (arith, enough))
+    (sym (c .before .before .before .is-broken .ensures) ∙ c .before .before .if1 .left, omega (arith, enough))
 
 same-length : tie.Need-same-length
 same-length c = search needs

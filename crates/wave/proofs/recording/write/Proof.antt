@@ -1,9 +1,7 @@
 -- The tests are those of the definition, in its order; then the heading, and the numbers behind it.
-use mathlib.Core.Bool.{Bool, not}
 use mathlib.Core.List.{List, _++_}
-use mathlib.Core.Path.{ap, subst, sym, _∙_}
+use mathlib.Core.Path.{ap, sym, _∙_}
 use Prim.Native.Nat.{ℕ}
-use lib.Dec.{T}
 use lib.ListN.{drop}
 use Rattle.wave.proofs.RecordingLaws.{write-broken, write-done, write-long, room-left, write-short}
 use borrow.Author.Needs.{needs}
@@ -40,7 +38,7 @@ put-requires c κs = search needs
 fill-requires : tie.Need-fill-requires
 fill-requires c κs = let s = c .before .before .before .before .before .before .before .before .before .before .before .before .before in let xs = s .args .numbers .now in let out = s .args .out .now in
     let whole = sym (c .before .before .before .before .before .before .before .before .before .before .is-broken .ensures) ∙ c .before .before .before .before .before .before .before .before .before .if1 .left in (
-      subst (λ (b : Bool). T (not b)) (sym whole) tt,
+      whole,
       room-left xs out (c .before .before .before .put .last .1 .0) whole (c .before .before .before .before .before .before .before .if3 .left)
           (c .before .before .before .put .ensures ∙ ap (λ (h : List ℕ). h ++ drop 44 out) (c .before .before .before .before .before .before .bytes .ensures)),
     )
