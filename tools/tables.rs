@@ -77,7 +77,7 @@ fn octaves() -> Vec<u64> {
     (0..1_200).map(entry).collect()
 }
 
-/// Entry a: the largest G with G^200 * 10^a <= 2^4,800.
+/// Entry a, of those that are kept: the largest G with G^200 * 10^a <= 2^4,800. (Each further 200 cB divide by ten.)
 fn gains() -> Vec<u64> {
     let limit = Whole::power(2, 4_800);
     let entry = |a: u32| {
@@ -85,7 +85,7 @@ fn gains() -> Vec<u64> {
         let guess = 2f64.powi(24) / 10f64.powf(f64::from(a) / 200.0);
         largest(guess as u64, |g| Whole::power(g, 200).times(&by).at_most(&limit))
     };
-    (0..=1_440).map(entry).collect()
+    (0..200).map(entry).collect()
 }
 
 /// The entry of v, from 1: the largest a with 10^a * v^400 <= 127^400.
@@ -101,13 +101,17 @@ fn velocities() -> Vec<u64> {
 const COMMAND: &str = "rustc -O -o target/tables tools/tables.rs && target/tables .";
 
 /// A constant of the source, an entry to a line.
-fn source(rule: &str, name: &str, width: &str, entries: &[u64]) -> String {
-    let mut text = format!("// {rule}\n// Made by: {COMMAND}\n");
-    writeln!(text, "pub const {name}: [{width}; {}] = [", entries.len()).unwrap();
+fn constant(name: &str, width: &str, entries: &[u64]) -> String {
+    let mut text = format!("pub const {name}: [{width}; {}] = [\n", entries.len());
     for n in entries {
         writeln!(text, "    {n},").unwrap();
     }
     text + "];\n"
+}
+
+/// A file of the source: its head, and its constants.
+fn source(rule: &str, constants: &[String]) -> String {
+    format!("// {rule}\n// Made by: {COMMAND}\n{}", constants.join("\n"))
 }
 
 /// The lists of the definitions, in parts small enough to be tested by one computation each.
@@ -137,17 +141,25 @@ fn main() {
     let with_control = [vec![960], velocities.clone()].concat();
 
     let rule = "The octave table: entry i is the largest T with T^1200 <= 2^(i + 36,000).";
-    write("src/octave_table.rt", source(rule, "OCTAVES", "u32", &octaves));
+    write("src/octave_table.rt", source(rule, &[constant("OCTAVES", "u32", &octaves)]));
     write("specs/OctaveTable.antt", lists(rule, "octaves", 150, &octaves));
 
-    let rule = "The gain table: entry a is the largest G with G^200 * 10^a <= 2^4,800.";
-    write("src/gain_table.rt", source(rule, "GAINS", "u32", &gains));
-    write("specs/GainTable.antt", lists(rule, "gains", 400, &gains));
+    let rule = "The gains that are kept: entry a is the largest G with G^200 * 10^a <= 2^4,800.";
+    let highs: Vec<u64> = gains.iter().map(|g| (g - 1) / 256).collect();
+    let lows: Vec<u64> = gains.iter().map(|g| (g - 1) % 256).collect();
+    write(
+        "src/gain_table.rt",
+        source(
+            &format!("{rule} It has three bytes here: G - 1 is 256 times the high part, and the low part."),
+            &[constant("HIGHS", "u16", &highs), constant("LOWS", "u8", &lows)],
+        ),
+    );
+    write("specs/GainTable.antt", lists(rule, "gains", 200, &gains));
 
     let rule = "The velocity table: the largest a with 10^a * v^400 <= 127^400, for v from 1";
     write(
         "src/velocity_table.rt",
-        source(&format!("{rule}; entry 0 is a control's 0."), "VELOCITIES", "u16", &with_control),
+        source(&format!("{rule}; entry 0 is a control's 0."), &[constant("VELOCITIES", "u16", &with_control)]),
     );
     write(
         "specs/VelocityTable.antt",

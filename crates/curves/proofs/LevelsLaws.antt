@@ -1,101 +1,154 @@
--- The least attenuation: what a turn of the search says, and that it is the least.
-use Prim.Native.Nat.{ℕ, _≤_, suc, _<_, zero, _+_}
-use mathlib.Core.Path.{_≡_, refl, ap, _∙_}
-use mathlib.Core.List.{List, _∷_, []}
-use borrow.Author.Tests.{le-leb, lt-leb, ltb-true, ltb-false, lt-ltb, le-ltb}
-use mathlib.Core.Bool.{Bool, true, false, cond}
+-- Tenths, and the least attenuation: what the search among the kept gains says of it, and that it is the least.
+use Prim.Native.Nat.{ℕ, zero, suc, _+_, _-_, _*_, _^_, _/_, _%_, _≤_, _<_}
+use mathlib.Core.Path.{_≡_, refl, ap, sym, _∙_}
+use borrow.Author.Tests.{le-leb, lt-leb, ltb-true, ltb-false, le-ltb}
+use mathlib.Core.Bool.{Bool, true, false}
 use native.Mathlib.Omega.{arith}
-use lib.Dec.{ltb}
-use native.Mathlib.Nat.{not-suc-le-zero, le-of-suc-le-suc}
-use lib.ListN.{length, getD}
-use Rattle.curves.specs.Levels.{above, gains, leastCb, gainOf}
+use lib.Dec.{ltb, lit<}
+use native.Mathlib.Nat.{not-suc-le-zero, le-of-suc-le-suc, zero-add, add-zero, add-suc, suc-add, pow-suc, lt-of-lt-of-le, mul-le-mul-left, pow-le-pow-right}
+use Rattle.curves.specs.Levels.{tenths, gainOf, above, leastCb}
+use Rattle.curves.specs.Internal.Levels.{kept, louder}
 
-cons-low : (l g : ℕ) (gs : List ℕ) → g ≤ l → above l (g ∷ gs) ≡ 0
-unfolding above
-cons-low l g gs h = simp (le-leb g l h)
+-- a turn of the division
+pub tenths-turn : (n g : ℕ) → 0 < n → tenths (n - 1) (g / 10) ≡ tenths n g
+tenths-turn zero g h = absurd (not-suc-le-zero h)
+tenths-turn (suc n) g h = let e : suc n - 1 ≡ n = omega arith in rw e refl
 
-cons-high : (l g : ℕ) (gs : List ℕ) → l < g → above l (g ∷ gs) ≡ suc (above l gs)
-unfolding above
-cons-high l g gs h = simp (lt-leb g l h)
+-- the largest number that comes to m in n tenths
+unfoldable pub reach : ℕ → ℕ → ℕ
+reach zero m = m
+reach (suc n) m = reach n m * 10 + 9
 
--- some of them are above: so is the first
-first-above : (l g : ℕ) (gs : List ℕ) (i : ℕ) → suc i ≤ above l (g ∷ gs) → (l < g) × (i ≤ above l gs)
-first-above l g gs i h = by (ltb l g) refl
+reach-tenths : (n g m : ℕ) → g ≤ reach n m → tenths n g ≤ m
+unfolding reach
+reach-tenths zero g m h = h
+reach-tenths (suc n) g m h = reach-tenths n (g / 10) m (omega arith)
+
+past-reach : (n g m : ℕ) → reach n m < g → m < tenths n g
+unfolding reach
+past-reach zero g m h = h
+past-reach (suc n) g m h = past-reach n (g / 10) m (omega arith)
+
+-- 200 cB more are one tenth more
+pub reach-turn : (l a : ℕ) → reach (a / 200) l * 10 + 9 ≡ reach ((a + 200) / 200) l
+unfolding reach
+reach-turn l a = let e : (a + 200) / 200 ≡ suc (a / 200) = omega arith in rw e refl
+
+reach-lt : (n l : ℕ) → l < 4294967296 → reach n l < 4294967296 * 10 ^ n
+unfolding reach
+reach-lt zero l h = h
+reach-lt (suc n) l h = omega (arith, reach-lt n l h, pow-suc 10 n)
+
+-- below 1,000 cB ten times that has room in 64 bits
+pub reach-small : (l a m : ℕ) → l < 4294967296 → a < 1000 → m ≡ reach (a / 200) l → m < 42949672960000
+reach-small l a m h k e =
+    let four : a / 200 ≤ 4 = omega arith in
+    rw e (lt-of-lt-of-le (reach-lt (a / 200) l h) (mul-le-mul-left 4294967296 (pow-le-pow-right {n = 10} (lit< tt) four)))
+
+-- one more of them is above the level
+pub one-more : (f : ℕ → ℕ) (l i : ℕ) → ((b : ℕ) → b < i → l < f b) → l < f i → (b : ℕ) → b < i + 1 → l < f b
+one-more f l i p q b h = by (ltb b i) refl
   where
-    by : (t : Bool) → ltb l g ≡ t → (l < g) × (i ≤ above l gs)
-    by true e = let k = ltb-true l g e in (k, omega (arith, cons-high l g gs k))
-    by false e = let z = cons-low l g gs (ltb-false l g e) in absurd (no (above l (g ∷ gs)) z h)
+    by : (t : Bool) → ltb b i ≡ t → l < f b
+    by true e = p b (ltb-true b i e)
+    by false e = let s : b ≡ i = omega (arith, ltb-false b i e) in rw s q
+
+above-low : (f : ℕ → ℕ) (l a n : ℕ) → f a ≤ l → above f l a (suc n) ≡ 0
+unfolding above
+above-low f l a n h = simp (le-leb (f a) l h)
+
+above-high : (f : ℕ → ℕ) (l a n : ℕ) → l < f a → above f l a (suc n) ≡ suc (above f l (suc a) n)
+unfolding above
+above-high f l a n h = simp (lt-leb (f a) l h)
+
+none-above : (f : ℕ → ℕ) (l a : ℕ) → above f l a 0 ≡ 0
+unfolding above
+none-above f l a = refl
+
+-- the first r from a on are above the level, and the next, if it counts, is not
+counted :
+    (f : ℕ → ℕ) (l a n r : ℕ) → r ≤ n → ((b : ℕ) → b < r → l < f (a + b)) → (r < n → f (a + r) ≤ l) → above f l a n ≡ r
+counted f l a zero r h p q = omega (arith, none-above f l a)
+counted f l a (suc n) zero h p q = above-low f l a n (rw add-zero at (q (omega arith)))
+counted f l a (suc n) (suc r) h p q =
+    above-high f l a n (rw add-zero at (p 0 (omega arith)))
+    ∙ ap suc (counted f l (suc a) n r (le-of-suc-le-suc h) (λ b k. rw (suc-add, ← add-suc) (p (suc b) (omega arith))) (λ k. rw (suc-add, ← add-suc) (q (omega arith))))
+
+pub count-is : (f : ℕ → ℕ) (l n r : ℕ) → r ≤ n → ((b : ℕ) → b < r → l < f b) → (r < n → f r ≤ l) → r ≡ above f l 0 n
+count-is f l n r h p q = sym (counted f l 0 n r h (λ b k. rw zero-add (p b k)) (λ k. rw zero-add (q k)))
+
+-- all that are counted are above the level, and the next is not
+record Counts (f : ℕ → ℕ) (l a n c : ℕ) : Type 0 where
+  few : c ≤ n
+  before : (b : ℕ) → b < c → l < f (a + b)
+  next : c < n → f (a + c) ≤ l
+
+counts : (f : ℕ → ℕ) (l a n : ℕ) → Counts f l a n (above f l a n)
+counts f l a zero = record { few = omega (arith, none-above f l a); before = λ b h. omega (arith, none-above f l a); next = λ h. omega arith }
+counts f l a (suc n) = by (ltb l (f a)) refl (counts f l (suc a) n)
+  where
+    by : (t : Bool) → ltb l (f a) ≡ t → Counts f l (suc a) n (above f l (suc a) n) → Counts f l a (suc n) (above f l a (suc n))
+    by true e ih = rw (above-high f l a n (ltb-true l (f a) e)) (record { few = omega (arith, ih .few); before = first; next = λ h. rw (add-suc, ← suc-add) (ih .next (omega arith)) })
       where
-        no : (n : ℕ) → n ≡ 0 → suc i ≤ n → ⊥
-        no n e h = omega arith
-
-pub here : (l : ℕ) (gs : List ℕ) (i : ℕ) → i ≤ above l gs → i < length gs → getD gs i 0 ≤ l → above l gs ≡ i
-here l [] i h k e = absurd (not-suc-le-zero k)
-here l (g ∷ gs) zero h k e = cons-low l g gs e
-here l (g ∷ gs) (suc i) h k e =
-    let f = first-above l g gs i h in
-    cons-high l g gs (f .0) ∙ ap suc (here l gs i (f .1) (le-of-suc-le-suc k) e)
-
-pub more : (l : ℕ) (gs : List ℕ) (i : ℕ) → i ≤ above l gs → i < length gs → l < getD gs i 0 → i + 1 ≤ above l gs
-more l [] i h k e = absurd (not-suc-le-zero k)
-more l (g ∷ gs) zero h k e = omega (arith, cons-high l g gs e)
-more l (g ∷ gs) (suc i) h k e =
-    let f = first-above l g gs i h in
-    omega (arith, cons-high l g gs (f .0), more l gs i (f .1) (le-of-suc-le-suc k) e)
-
-pub least-found : (l i : ℕ) → above l gains ≡ i → i < 1000 → i ≡ leastCb l
-unfolding leastCb
-least-found l i e h = rw e (simp (lt-ltb i 1000 h))
-
-pub least-none : (l : ℕ) → 1000 ≤ above l gains → 1000 ≡ leastCb l
-unfolding leastCb
-least-none l h = simp (le-ltb (above l gains) 1000 h)
-
-none-above : (l : ℕ) → above l [] ≡ 0
-unfolding above
-none-above l = refl
-
--- all that are counted are above the level
-above-before : (l : ℕ) (gs : List ℕ) (b : ℕ) → b < above l gs → l < getD gs b 0
-above-before l [] b h = absurd (no b (above l []) (none-above l) h)
-  where
-    no : (b n : ℕ) → n ≡ 0 → b < n → ⊥
-    no b n e h = omega arith
-above-before l (g ∷ gs) zero h = first-above l g gs 0 h .0
-above-before l (g ∷ gs) (suc b) h = above-before l gs b (first-above l g gs (suc b) h .1)
-
--- the next one is not
-above-at : (l : ℕ) (gs : List ℕ) → above l gs < length gs → getD gs (above l gs) 0 ≤ l
-above-at l [] h = absurd (not-suc-le-zero h)
-above-at l (g ∷ gs) h = by (ltb l g) refl (above-at l gs)
-  where
-    by : (t : Bool) → ltb l g ≡ t → (above l gs < length gs → getD gs (above l gs) 0 ≤ l) → getD (g ∷ gs) (above l (g ∷ gs)) 0 ≤ l
-    by true e ih =
-        let s = cons-high l g gs (ltb-true l g e) in
-        rw s (ih (le-of-suc-le-suc (rw s at h)))
-    by false e ih = let k = ltb-false l g e in rw (cons-low l g gs k) k
+        first : (b : ℕ) → b < suc (above f l (suc a) n) → l < f (a + b)
+        first zero h = rw add-zero (ltb-true l (f a) e)
+        first (suc b) h = rw (add-suc, ← suc-add) (ih .before b (omega arith))
+    by false e ih =
+        let k = ltb-false l (f a) e in
+        rw (above-low f l a n k) (record { few = omega arith; before = λ b h. omega arith; next = λ h. rw add-zero k })
 
 -- leastCb is the least: every gain before it is above the level, and below 1,000 its own is not
 pub least-before : (l b : ℕ) → b < leastCb l → l < gainOf b
-unfolding leastCb gainOf
-least-before l b h = above-before l gains b (by (ltb (above l gains) 1000) refl h)
-  where
-    by : (t : Bool) → ltb (above l gains) 1000 ≡ t → b < cond t (above l gains) 1000 → b < above l gains
-    by true e h = h
-    by false e h = omega (arith, ltb-false (above l gains) 1000 e)
+unfolding leastCb
+least-before l b h = rw zero-add at (counts gainOf l 0 1000 .before b h)
 
 pub least-reached : (l : ℕ) → leastCb l < 1000 → gainOf (leastCb l) ≤ l
-unfolding leastCb gainOf
-least-reached l h = by (ltb (above l gains) 1000) refl h
-  where
-    by : (t : Bool) → ltb (above l gains) 1000 ≡ t → cond t (above l gains) 1000 < 1000 → getD gains (cond t (above l gains) 1000) 0 ≤ l
-    by true e h = let n : length gains ≡ 1441 = refl in above-at l gains (omega arith)
-    by false e h = absurd (no 1000 h)
-      where
-        no : (n : ℕ) → n < n → ⊥
-        no n h = omega arith
+unfolding leastCb
+least-reached l h = rw zero-add at (counts gainOf l 0 1000 .next h)
 
--- a level of 0 is reached by no gain of the table
+-- a level of 0 is reached by no gain below 1,000 cB
 pub least-silent : leastCb 0 ≡ 1000
-unfolding leastCb above
+unfolding leastCb above gainOf
 least-silent = refl
+
+-- 1,000 gains are above the level
+pub least-none : (l : ℕ) → ((b : ℕ) → b < 1000 → l < gainOf b) → 1000 ≡ leastCb l
+unfolding leastCb
+least-none l p = count-is gainOf l 1000 1000 (omega arith) p (λ h. omega arith)
+
+-- the gains from a on, where a is a multiple of 200
+module _ (l a i : ℕ) (whole : a % 200 ≡ 0) (low : a < 1000) (few : i < 200) where
+  is-divided : gainOf (a + i) ≡ tenths (a / 200) (kept i)
+  unfolding gainOf
+  is-divided =
+      let q : (a + i) / 200 ≡ a / 200 = omega arith in
+      let r : (a + i) % 200 ≡ i = omega arith in
+      let h : a + i ≤ 1440 = omega arith in
+      rw (le-ltb 1440 (a + i) h, q, r)
+
+  gain-within : kept i ≤ reach (a / 200) l → gainOf (a + i) ≤ l
+  gain-within h = rw is-divided (reach-tenths (a / 200) (kept i) l h)
+
+  gain-past : reach (a / 200) l < kept i → l < gainOf (a + i)
+  gain-past h = rw is-divided (past-reach (a / 200) (kept i) l h)
+
+-- a turn of the search: i of the kept gains are above m, which comes to the level in as many tenths as a has
+module _ (l a m i : ℕ) (whole : a % 200 ≡ 0) (low : a < 1000) (far : m ≡ reach (a / 200) l) (count : i ≡ louder m) (before : (b : ℕ) → b < a → l < gainOf b) where
+  known : Counts kept m 0 200 i
+  unfolding louder
+  known = rw count (counts kept m 0 200)
+
+  pub passed : (b : ℕ) → b < a + i → l < gainOf b
+  passed b h = by (ltb b a) refl
+    where
+      by : (t : Bool) → ltb b a ≡ t → l < gainOf b
+      by true e = before b (ltb-true b a e)
+      by false e =
+          let k = ltb-false b a e in
+          let back : a + (b - a) ≡ b = omega arith in
+          let past = gain-past l a (b - a) whole low (omega (arith, known .few)) (rw (zero-add, far) at (known .before (b - a) (omega arith))) in
+          rw back at past
+
+  pub found : i < 200 → a + i ≡ leastCb l
+  unfolding leastCb
+  found h = count-is gainOf l 1000 (a + i) (omega arith) passed (λ k. gain-within l a i whole low h (rw (zero-add, far) at (known .next h)))

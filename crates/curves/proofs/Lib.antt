@@ -1,6 +1,7 @@
 pub mod Examples
 pub mod GainTableLaws
 pub mod LevelsLaws
+pub mod LoudnessLaws
 pub mod OctaveLaws
 pub mod OctaveTableLaws
 pub mod PitchLaws

@@ -7,9 +7,10 @@ use lib.ListN.{getD}
 use native.Mathlib.Nat.{pow-le-pow-left, le-trans}
 use native.Mathlib.Omega.{arith}
 use lib.Pow.{pow-mono}
-use Rattle.curves.proofs.Tables.{fits, every, join, at, fits-low, fits-high, Largest, largest}
+use Rattle.curves.proofs.Tables.{fits, every, join, at, fits-low, fits-high, largest}
 use Rattle.curves.specs.OctaveTable.{octaves0, octaves1, octaves2, octaves3, octaves4, octaves5, octaves6, octaves7}
 use Rattle.curves.specs.Octave.{octaves}
+use Rattle.curves.specs.Loudness.{Largest}
 
 power : ℕ → ℕ
 power t = t ^ 1200

@@ -9,7 +9,8 @@ use lib.Pow.{pow-pos, pow-mono}
 use lib.IntN.{ℤ}
 use Rattle.curves.specs.Octave.{octaves}
 use Rattle.curves.proofs.Tables.{allLe, each-le}
-use Rattle.curves.specs.Levels.{gains, gainOf, velocities, cbOf}
+use Rattle.curves.proofs.LoudnessLaws.{gain-falls}
+use Rattle.curves.specs.Levels.{gainOf, velocities, cbOf}
 use Rattle.curves.proofs.OctaveTableLaws.{octave-low, octave-high}
 use Rattle.curves.proofs.Powers.{low, high, cancel-le, cancel-lt, mul-pow}
 use Rattle.curves.specs.Pitch.{stepOf, lifted, pitchHeld}
@@ -23,13 +24,9 @@ octaves-tested = tt
 pub octave-le : (i : ℕ) → getD octaves i 0 ≤ 2147483647
 octave-le i = each-le 2147483647 octaves octaves-tested i
 
-gains-tested : T (allLe 16777216 gains)
-unfolding allLe
-gains-tested = tt
-
 pub gain-le : (a : ℕ) → gainOf a ≤ 16777216
 unfolding gainOf
-gain-le a = each-le 16777216 gains gains-tested a
+gain-le a = gain-falls 0 a (omega arith)
 
 velocities-tested : T (allLe 960 velocities)
 unfolding allLe

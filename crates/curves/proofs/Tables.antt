@@ -1,4 +1,4 @@
--- A table's rule, proved over all of its entries by one computed test; what it is to be the largest number with a property.
+-- A table's rule, proved over all of its entries by one computed test.
 use Prim.Native.Nat.{ℕ, _≤_, _+_, _<_, suc, zero}
 use mathlib.Core.Bool.{Bool, true, false}
 use lib.Dec.{leb, ltb, T, leb→le, ltb→lt}
@@ -8,11 +8,7 @@ use borrow.Author.Tests.{ltb-true, ltb-false}
 use mathlib.Core.List.{List, [], _∷_, _++_}
 use native.Mathlib.Nat.{add-zero, add-suc, suc-add, le-of-suc-le-suc, not-suc-le-zero, zero-add}
 use lib.ListN.{length, getD}
-
--- n has the property, and whatever has it is at most n
-pub record Largest (P : ℕ → Type 0) (n : ℕ) : Type 0 where
-  pub holds : P n
-  pub most : (m : ℕ) → P m → m ≤ n
+use Rattle.curves.specs.Loudness.{Largest}
 
 -- both tests, of which the second is not computed where the first fails
 abbrev pub both : Bool → Bool → Bool

@@ -3,9 +3,10 @@ use Prim.Native.Nat.{ℕ, _*_, _^_, suc, zero, _≤_}
 use mathlib.Core.Bool.{Bool}
 use lib.Dec.{T, lit<}
 use native.Mathlib.Nat.{not-suc-le-zero, mul-le-mul-right, pow-le-pow-right}
-use Rattle.curves.proofs.Tables.{fits, every, Largest, largest, at}
+use Rattle.curves.proofs.Tables.{fits, every, largest, at}
 use Rattle.curves.specs.VelocityTable.{velocities0}
 use Rattle.curves.specs.Levels.{cbOf}
+use Rattle.curves.specs.Loudness.{Largest}
 
 raised : ℕ → ℕ → ℕ
 raised v a = 10 ^ a * v ^ 400

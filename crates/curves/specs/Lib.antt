@@ -5,4 +5,5 @@ pub mod Times
 pub mod GainTable
 pub mod VelocityTable
 pub mod Levels
+pub mod Loudness
 pub mod Internal

@@ -1,16 +1,33 @@
-// Levels: the gain table, the gain of an attenuation, the least attenuation for a level, and the attenuation of a velocity or a control.
-ghost use Prim.Native.Nat.{_≤_};
+// Levels: the kept gains, the gain of an attenuation, the least attenuation for a level, and the attenuation of a velocity or a control.
+ghost use Prim.Native.Nat.{_+_, _*_, _≤_};
 ghost use mathlib.Core.Path.{_≡_};
-ghost use Rattle.curves.specs.Levels.{gainOf, cbOf, leastCb, gains};
+ghost use Rattle.curves.specs.Levels.{gainOf, cbOf, leastCb, gains, tenths};
+ghost use Rattle.curves.specs.Internal.Levels.{louder};
 use crate::GainTable;
-use crate::gain_table::GAINS;
+use crate::gain_table::HIGHS;
+use crate::gain_table::LOWS;
 use crate::velocity_table::VELOCITIES;
 
-// The gain table, made once by whoever reads it often.
+// The gains that are kept, put together once by whoever reads them often.
 pub fn gains() -> GainTable
     ensures { λ r. ⌜ r ≡ gains ⌝ }
 {
-    GAINS
+    let highs = HIGHS;
+    let lows = LOWS;
+    let mut t = [0u32; 200];
+    let mut a: usize = 0;
+    while a < 200 {
+        t[a] = joined(highs[a], lows[a]);
+        a = a + 1;
+    }
+    t
+}
+
+// A gain of its two parts.
+fn joined(high: u16, low: u8) -> u32
+    ensures { λ r. ⌜ r ≡ high * 256 + low + 1 ⌝ }
+{
+    high as u32 * 256 + low as u32 + 1
 }
 
 // The gain of an attenuation in cB, in 2^-24.
@@ -21,23 +38,61 @@ pub fn gain(t: &GainTable, a: u64) -> u32
     if 1440 < a {
         return 0;
     }
-    let i = a as usize;
-    t[i]
+    let i = (a % 200) as usize;
+    tenths(t[i], a / 200)
 }
 
-// The least attenuation whose gain is at most the level, and 1,000 above that.
+// A number divided by ten n times, each time rounding down.
+fn tenths(g: u32, n: u64) -> u32
+    ensures { λ r. ⌜ r ≡ tenths n g ⌝ }
+{
+    let mut x = g;
+    let mut left = n;
+    while 0 < left {
+        x = x / 10;
+        left = left - 1;
+    }
+    x
+}
+
+// The least attenuation whose gain is at most the level, and 1,000 above that. `most` is the largest number that comes to the level in as many tenths as `a` has.
 pub fn least_cb(g: &GainTable, l: u32) -> u16
     requires { ⌜ now g ≡ gains ⌝ }
     ensures { λ r. ⌜ r ≡ leastCb l ⌝ }
 {
+    let mut most = l as u64;
+    let mut a: u16 = 0;
+    while a < 1000 {
+        let i = louder(g, most);
+        if i < 200 {
+            return a + i;
+        }
+        most = most * 10 + 9;
+        a = a + 200;
+    }
+    1000
+}
+
+// How many of the kept gains are above m: they fall.
+fn louder(g: &GainTable, m: u64) -> u16
+    requires { ⌜ now g ≡ gains ⌝ }
+    ensures { λ r. ⌜ r ≡ louder m ⌝ }
+{
     let mut i: usize = 0;
-    while i < 1000 {
-        if g[i] <= l {
+    while i < 200 {
+        if wide(g[i]) <= m {
             return i as u16;
         }
         i = i + 1;
     }
-    1000
+    200
+}
+
+// A gain as a wider number.
+fn wide(g: u32) -> u64
+    ensures { λ r. ⌜ r ≡ g ⌝ }
+{
+    g as u64
 }
 
 // The attenuation of a velocity, or of control 7 or 11, in cB.

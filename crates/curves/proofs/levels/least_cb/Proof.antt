@@ -1,61 +1,57 @@
--- The search along the table finds the least attenuation.
-use lib.ListN.{length, getD}
-use borrow.Author.Needs.{needs}
-use mathlib.Core.List.{List}
-use Prim.Native.Nat.{ℕ, _-_, _≤_, _<_}
+-- The search among the kept gains, 200 cB after 200 cB, finds the least attenuation.
+use Prim.Native.Nat.{ℕ, _-_, _/_, _%_, _≤_, _<_}
 use native.Mathlib.Omega.{arith}
-use mathlib.Core.Path.{_≡_, refl, ap, subst}
-use Rattle.curves.proofs.LevelsLaws.{here, more, least-found, least-none}
-use Rattle.curves.specs.Levels.{above, gains}
+use mathlib.Core.Path.{_≡_, refl}
+use borrow.Author.Needs.{needs}
+use Rattle.curves.proofs.LevelsLaws.{reach, reach-turn, reach-small, passed, found, least-none}
+use Rattle.curves.specs.Levels.{gains, gainOf}
 use Rattle.curves.proofs.levels.least_cb.Statement.{statement}
 use Rattle.curves.proofs.levels.least_cb.Tie as tie
 
 abbrev Inv-loop : tie.InvT-loop
-Inv-loop g l i₀ i = (g ≡ gains) × (i ≤ above l gains) × (i ≤ 1000)
+Inv-loop g l most₀ a₀ most a =
+    (g ≡ gains) × (a % 200 ≡ 0) × (a ≤ 1000) × (most ≡ reach (a / 200) l) × ((b : ℕ) → b < a → l < gainOf b)
 
 abbrev μ-loop : tie.MeasureT-loop
-μ-loop g l i₀ i = 1000 - i
-
-gains-length : length gains ≡ 1441
-gains-length = refl
-
-at : (g : List ℕ) (i : ℕ) → g ≡ gains → getD g i 0 ≡ getD gains i 0
-at g i e = ap (λ (x : List ℕ). getD x i 0) e
+μ-loop g l most₀ a₀ most a = 1000 - a
 
 loop-holds : tie.Need-loop-holds Inv-loop μ-loop
-loop-holds c = (c .pre, omega arith, omega arith)
+unfolding reach
+loop-holds c = (c .pre, refl, omega arith, refl, λ b h. omega arith)
 
-mul-if1 : tie.Need-mul-if1 Inv-loop μ-loop
-mul-if1 c = search needs
+louder-requires : tie.Need-louder-requires Inv-loop μ-loop
+louder-requires c κs = search needs
 
-element-copy-out-if1 : tie.Need-element-copy-out-if1 Inv-loop μ-loop
-element-copy-out-if1 c = search needs
-
-cast-result : tie.Need-cast-result Inv-loop μ-loop
-cast-result c = search needs
+add-result : tie.Need-add-result Inv-loop μ-loop
+add-result c = search needs
 
 returns : tie.Need-returns Inv-loop μ-loop
-returns c = let l = c .before .before .before in
-    let a = l .before .args in
-    let e = at (a .g .now) (l .loop .i) (l .loop .inv .0) in
-    let low : getD gains (l .loop .i) 0 ≤ a .l = subst (λ (x : ℕ). x ≤ a .l) e (c .if1 .taken) in
-    least-found (a .l) (l .loop .i) (here (a .l) gains (l .loop .i) (l .loop .inv .1) (omega (arith, gains-length)) low) (omega arith)
+returns c = let k = c .before .before .before in
+    found (k .before .args .l) (k .loop .a) (k .loop .most) (c .before .louder .result) (k .loop .inv .1) (omega arith) (k .loop .inv .3) (c .before .louder .ensures) (k .loop .inv .4) (c .if1 .taken)
 
-add-i : tie.Need-add-i Inv-loop μ-loop
-add-i c = search needs
+mul-most : tie.Need-mul-most Inv-loop μ-loop
+mul-most c = let k = c .before .before .before in
+    record { fits = omega (arith, reach-small (k .before .args .l) (k .loop .a) (k .loop .most) (k .before .fits .l .fits) (omega arith) (k .loop .inv .3)) }
+
+add-most : tie.Need-add-most Inv-loop μ-loop
+add-most c = let k = c .before .before .before in
+    record { fits = omega (arith, reach-small (k .before .args .l) (k .loop .a) (k .loop .most) (k .before .fits .l .fits) (omega arith) (k .loop .inv .3)) }
+
+add-a : tie.Need-add-a Inv-loop μ-loop
+add-a c = search needs
 
 loop-less : tie.Need-loop-less Inv-loop μ-loop
 loop-less c = search needs
 
 loop-again : tie.Need-loop-again Inv-loop μ-loop
-loop-again c = let l = c .before .before .before in
-    let a = l .before .args in
-    let e = at (a .g .now) (l .loop .i) (l .loop .inv .0) in
-    let high : a .l < getD gains (l .loop .i) 0 = subst (λ (x : ℕ). a .l < x) e (c .if1 .left) in
-    (l .loop .inv .0, more (a .l) gains (l .loop .i) (l .loop .inv .1) (omega (arith, gains-length)) high, omega arith)
+loop-again c = let k = c .before .before .before in
+    let a = k .loop .a in
+    let l = k .before .args .l in
+    let on = passed l a (k .loop .most) (c .before .louder .result) (k .loop .inv .1) (omega arith) (k .loop .inv .3) (c .before .louder .ensures) (k .loop .inv .4) in
+    (k .loop .inv .0, omega (arith, k .loop .inv .1), omega (arith, k .loop .inv .1), rw (k .loop .inv .3) (reach-turn l a), λ b h. on b (omega arith))
 
 returns-2 : tie.Need-returns-2 Inv-loop μ-loop
-returns-2 c = let l = c .before in least-none (l .before .args .l) (omega (arith, l .loop .inv .1))
+returns-2 c = let k = c .before in least-none (k .before .args .l) (λ b h. k .loop .inv .4 b (omega arith))
 
 pub least-cb-spec : {M : Type 1} → statement M
 least-cb-spec =
@@ -64,11 +60,12 @@ least-cb-spec =
     Inv-loop
     μ-loop
     loop-holds
-    mul-if1
-    element-copy-out-if1
-    cast-result
+    louder-requires
+    add-result
     returns
-    add-i
+    mul-most
+    add-most
+    add-a
     loop-less
     loop-again
     returns-2)
