@@ -3,10 +3,11 @@
 use crate::big::Natural;
 use std::sync::OnceLock;
 
-/// The tables of 01, each entry found by its rule with exact whole numbers.
+/// The tables of 01, each entry found by its rule with exact whole numbers. Of the gains the first 200 are kept (02,
+/// M-105).
 pub struct Tables {
     octave: Vec<u64>,
-    gain: Vec<i64>,
+    kept_gain: Vec<i64>,
     velocity: Vec<i64>,
 }
 
@@ -36,8 +37,8 @@ fn octave_entry(i: u64) -> u64 {
     largest(guess, |t| Natural::new(t).power(1200) <= bound)
 }
 
-/// Gain: the largest G with G^200 · 10^a <= 2^4,800.
-fn gain_entry(a: u32) -> i64 {
+/// Gain by 01's rule, for a in 0..1,440: the largest G with G^200 · 10^a <= 2^4,800.
+pub fn gain_by_rule(a: u32) -> i64 {
     let bound = Natural::two_to(4_800);
     let tens = Natural::new(10).power(a);
     let guess = 2f64.powf(24.0) * 10f64.powf(-(a as f64) / 200.0);
@@ -62,7 +63,7 @@ impl Tables {
     fn new() -> Tables {
         Tables {
             octave: (0..1200).map(octave_entry).collect(),
-            gain: (0..=1440).map(gain_entry).collect(),
+            kept_gain: (0..200).map(gain_by_rule).collect(),
             velocity: (1..=127).map(velocity_entry).collect(),
         }
     }
@@ -90,12 +91,14 @@ impl Tables {
         self.octave(i) * 44_100 / (1 << (30 - o))
     }
 
-    /// Gain of an attenuation of 0 or more; 0 above 1,440.
+    /// Gain of an attenuation of 0 or more: a kept one, divided by ten, rounding down, once for each further 200 cB; 0
+    /// above 1,440.
     pub fn gain(&self, attenuation: i64) -> i64 {
-        if attenuation > 1440 {
+        if attenuation > 1_440 {
             return 0;
         }
-        self.gain[attenuation as usize]
+        let kept = self.kept_gain[(attenuation % 200) as usize];
+        (0..attenuation / 200).fold(kept, |gain, _| gain / 10)
     }
 
     /// Attenuation of a velocity, 1..127.

@@ -5,7 +5,7 @@ mod common;
 use common::Rig;
 use second::make::bank_builder::{one_zone, quick, sample, zone_to, BankPlan};
 use second::slots_keys_clock::{TOO_FAR, TOO_LONG, TOO_MANY_LAYERS};
-use second::tables_and_steps::{bend_cents, tables};
+use second::tables_and_steps::{bend_cents, gain_by_rule, tables};
 
 #[test]
 fn p_steps() {
@@ -32,6 +32,19 @@ fn p_gains() {
     assert_eq!(t.gain(0), 16_777_216);
     assert_eq!(t.gain(200), 1_677_721);
     assert_eq!(t.gain(1_000), 167);
+}
+
+/// Every gain is the number of 01's rule, though only 200 are kept (02, M-105); dividing alone would give 1 at 1,441.
+#[test]
+fn every_gain_by_its_rule() {
+    for a in 0..=1_440 {
+        assert_eq!(tables().gain(a), gain_by_rule(a as u32), "gain {a}");
+    }
+    assert_eq!([tables().gain(1_440), tables().gain(1_441)], [1, 0]);
+    assert_eq!(tables().gain(1_441 - 7 * 200) / 10_i64.pow(7), 1);
+    for a in [1_442, 1_599, 1_600, 1_641, 10_000, i64::MAX] {
+        assert_eq!(tables().gain(a), 0, "gain {a}");
+    }
 }
 
 #[test]

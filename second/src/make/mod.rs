@@ -31,6 +31,7 @@
 //! - the reader's opening and its rows (i, j), and each fault's kind and place (d), over every bank that a case examines:
 //!   listing_cases; faults of two kinds, and several of one kind: fault_cases
 //! - how many voices sound (u): count_cases
+//! - gains, the panel's levels and least attenuations at both sides of each 200 cB, and of 1,440 (M-105): gain_cases
 //! - the numbers of each layer's voice (h): strike_cases; values of the tables: number_lines
 //! - what the prover computes by the definitions: proof_examples, over the voices and runs of drawn
 //!
@@ -88,6 +89,7 @@ pub mod chance_cases;
 mod count_cases;
 mod drawn;
 mod fault_cases;
+mod gain_cases;
 mod key_cases;
 mod layer_cases;
 mod listing_cases;
@@ -194,5 +196,6 @@ pub fn all_cases() -> Script {
     strike_cases::write(&mut script);
     fault_cases::write(&mut script);
     count_cases::write(&mut script);
+    gain_cases::write(&mut script);
     script
 }
