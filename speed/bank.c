@@ -1,6 +1,6 @@
 /* Makes one bank twice: as the engine is lent it, and as a SoundFont file for FluidSynth.
    bank KIND IN SF2: IN gets u32 length and the pdta body, u32 count and the samples (16 bits); SF2 the RIFF file.
-   KIND: bell (one looped sample of 20,000), middle and full (the same, filled to some 8,000 and 65,536 bytes with zones that no preset reaches),
+   KIND: bell (one looped sample of 20,000), swell (the same in an attack of 100 seconds and 1,200 cB down: each frame finds its gain), middle and full (the same, filled to some 8,000 and 65,536 bytes with zones that no preset reaches),
    short (a loop of one sample at the highest pitch, every generator repeated 200 times), deep (4,000 preset zones that all match, of an instrument
    with 2,600 zones of which none does), wide (32 preset zones that all match, of an instrument with 15,900 zones of which the last does). */
 #include <math.h>
@@ -79,7 +79,7 @@ static void wide(void) {
     u16(&ibag, 1), u16(&ibag, 0), gen(&igen, 53, 0), gen(&igen, 0, 0);
 }
 
-static void lists(int hostile, size_t bytes) {
+static void lists(int hostile, int swell, size_t bytes) {
     unsigned n = 0;
     head("Bell", 0), head("EOP", 1);
     u16(&pbag, 0), u16(&pbag, 0), u16(&pbag, 1), u16(&pbag, 0);
@@ -92,6 +92,7 @@ static void lists(int hostile, size_t bytes) {
         gen(&igen, 37, 600), n++;
         if (hostile) gen(&igen, 51, 120), n++, gen(&igen, 58, 0), n++;
     }
+    if (swell) gen(&igen, 34, 8000), n++, gen(&igen, 48, 1200), n++;
     gen(&igen, 53, 0), n++;
     u16(&ibag, 0), u16(&ibag, 0), u16(&ibag, n), u16(&ibag, 0);
     if (bytes) filled(bytes, n);
@@ -107,13 +108,13 @@ static void put(const char *path, const Bytes *b) {
 }
 
 int main(int argc, char **argv) {
-    const char *kinds[] = {"bell", "middle", "full", "short", "deep", "wide"};
+    const char *kinds[] = {"bell", "middle", "full", "short", "deep", "wide", "swell"};
     int kind = 0;
-    while (argc == 4 && kind < 6 && strcmp(argv[1], kinds[kind])) kind++;
-    if (argc != 4 || kind == 6) return fprintf(stderr, "bank bell|middle|full|short|deep|wide IN SF2\n"), 2;
+    while (argc == 4 && kind < 7 && strcmp(argv[1], kinds[kind])) kind++;
+    if (argc != 4 || kind == 7) return fprintf(stderr, "bank bell|middle|full|short|deep|wide|swell IN SF2\n"), 2;
     if (kind == 4) deep();
     else if (kind == 5) wide();
-    else lists(kind == 3, kind == 1 ? 8000 : kind == 2 ? 65536 : 0);
+    else lists(kind == 3, kind == 6, kind == 1 ? 8000 : kind == 2 ? 65536 : 0);
     chunk(&pdta, "phdr", &phdr), chunk(&pdta, "pbag", &pbag), chunk(&pdta, "pmod", &pmod), chunk(&pdta, "pgen", &pgen), chunk(&pdta, "inst", &inst);
     chunk(&pdta, "ibag", &ibag), chunk(&pdta, "imod", &imod), chunk(&pdta, "igen", &igen), chunk(&pdta, "shdr", &shdr);
     for (int i = 0; i < 20046; i++) u16(&smpl, (unsigned)(int)lrint(20000 * sin(i * 0.0372) + 5000 * sin(i * 0.1937)) & 65535);

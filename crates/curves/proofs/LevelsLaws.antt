@@ -1,18 +1,20 @@
 -- Tenths, and the least attenuation: what the search among the kept gains says of it, and that it is the least.
 use Prim.Native.Nat.{ℕ, zero, suc, _+_, _-_, _*_, _^_, _/_, _%_, _≤_, _<_}
 use mathlib.Core.Path.{_≡_, refl, ap, sym, _∙_}
+use mathlib.Core.List.{List}
+use lib.ListN.{getD}
 use borrow.Author.Tests.{le-leb, lt-leb, ltb-true, ltb-false, le-ltb}
 use mathlib.Core.Bool.{Bool, true, false}
 use native.Mathlib.Omega.{arith}
 use lib.Dec.{ltb, lit<}
-use native.Mathlib.Nat.{not-suc-le-zero, le-of-suc-le-suc, zero-add, add-zero, add-suc, suc-add, pow-suc, lt-of-lt-of-le, mul-le-mul-left, pow-le-pow-right}
-use Rattle.curves.specs.Levels.{tenths, gainOf, above, leastCb}
+use native.Mathlib.Nat.{not-suc-le-zero, le-of-suc-le-suc, zero-add, add-zero, add-suc, suc-add, pow-suc, pow-succ', div-one, div-div-eq-div-mul, lt-of-lt-of-le, mul-le-mul-left, pow-le-pow-right}
+use Rattle.curves.specs.Levels.{gains, tenths, gainOf, above, leastCb}
 use Rattle.curves.specs.Internal.Levels.{kept, louder}
 
--- a turn of the division
-pub tenths-turn : (n g : ℕ) → 0 < n → tenths (n - 1) (g / 10) ≡ tenths n g
-tenths-turn zero g h = absurd (not-suc-le-zero h)
-tenths-turn (suc n) g h = let e : suc n - 1 ≡ n = omega arith in rw e refl
+-- n tenths are one division
+tenths-div : (n g : ℕ) → tenths n g ≡ g / 10 ^ n
+tenths-div zero g = sym (div-one g)
+tenths-div (suc n) g = tenths-div n (g / 10) ∙ div-div-eq-div-mul g 10 (10 ^ n) ∙ ap (λ (d : ℕ). g / d) (sym (pow-succ' 10 n))
 
 -- the largest number that comes to m in n tenths
 unfoldable pub reach : ℕ → ℕ → ℕ
@@ -116,15 +118,22 @@ pub least-none : (l : ℕ) → ((b : ℕ) → b < 1000 → l < gainOf b) → 100
 unfolding leastCb
 least-none l p = count-is gainOf l 1000 1000 (omega arith) p (λ h. omega arith)
 
+-- the gain i cB behind n times 200
+pub gain-behind : (n i a : ℕ) → a ≡ n * 200 + i → i < 200 → a ≤ 1440 → gainOf a ≡ tenths n (kept i)
+unfolding gainOf
+gain-behind n i a e few h =
+    let q : a / 200 ≡ n = omega arith in
+    let r : a % 200 ≡ i = omega arith in
+    rw (le-ltb 1440 a h, q, r)
+
+-- as the code reads it: one division
+pub gain-read : (t : List ℕ) (n i a : ℕ) → t ≡ gains → a ≡ n * 200 + i → i < 200 → a ≤ 1440 → getD t i 0 / 10 ^ n ≡ gainOf a
+gain-read t n i a e s few h = rw e (sym (gain-behind n i a s few h ∙ tenths-div n (kept i)))
+
 -- the gains from a on, where a is a multiple of 200
 module _ (l a i : ℕ) (whole : a % 200 ≡ 0) (low : a < 1000) (few : i < 200) where
   is-divided : gainOf (a + i) ≡ tenths (a / 200) (kept i)
-  unfolding gainOf
-  is-divided =
-      let q : (a + i) / 200 ≡ a / 200 = omega arith in
-      let r : (a + i) % 200 ≡ i = omega arith in
-      let h : a + i ≤ 1440 = omega arith in
-      rw (le-ltb 1440 (a + i) h, q, r)
+  is-divided = gain-behind (a / 200) i (a + i) (omega arith) few (omega arith)
 
   gain-within : kept i ≤ reach (a / 200) l → gainOf (a + i) ≤ l
   gain-within h = rw is-divided (reach-tenths (a / 200) (kept i) l h)

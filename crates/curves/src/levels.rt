@@ -1,7 +1,7 @@
 // Levels: the kept gains, the gain of an attenuation, the least attenuation for a level, and the attenuation of a velocity or a control.
 ghost use Prim.Native.Nat.{_+_, _*_, _≤_};
 ghost use mathlib.Core.Path.{_≡_};
-ghost use Rattle.curves.specs.Levels.{gainOf, cbOf, leastCb, gains, tenths};
+ghost use Rattle.curves.specs.Levels.{gainOf, cbOf, leastCb, gains};
 ghost use Rattle.curves.specs.Internal.Levels.{louder};
 use crate::GainTable;
 use crate::gain_table::HIGHS;
@@ -30,29 +30,37 @@ fn joined(high: u16, low: u8) -> u32
     high as u32 * 256 + low as u32 + 1
 }
 
-// The gain of an attenuation in cB, in 2^-24.
+// The gain of an attenuation in cB, in 2^-24: one division by a constant, since a voice in its attack asks for its gain in each frame.
 pub fn gain(t: &GainTable, a: u64) -> u32
     requires { ⌜ now t ≡ gains ⌝ }
     ensures { λ r. ⌜ (r ≡ gainOf a) × (r ≤ 16777216) ⌝ }
 {
-    if 1440 < a {
-        return 0;
+    let i = a as usize;
+    if i < 200 {
+        return t[i];
     }
-    let i = (a % 200) as usize;
-    tenths(t[i], a / 200)
-}
-
-// A number divided by ten n times, each time rounding down.
-fn tenths(g: u32, n: u64) -> u32
-    ensures { λ r. ⌜ r ≡ tenths n g ⌝ }
-{
-    let mut x = g;
-    let mut left = n;
-    while 0 < left {
-        x = x / 10;
-        left = left - 1;
+    if i < 400 {
+        return t[i - 200] / 10;
     }
-    x
+    if i < 600 {
+        return t[i - 400] / 100;
+    }
+    if i < 800 {
+        return t[i - 600] / 1000;
+    }
+    if i < 1000 {
+        return t[i - 800] / 10000;
+    }
+    if i < 1200 {
+        return t[i - 1000] / 100000;
+    }
+    if i < 1400 {
+        return t[i - 1200] / 1000000;
+    }
+    if i < 1441 {
+        return t[i - 1400] / 10000000;
+    }
+    0
 }
 
 // The least attenuation whose gain is at most the level, and 1,000 above that. `most` is the largest number that comes to the level in as many tenths as `a` has.

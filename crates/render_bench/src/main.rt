@@ -63,6 +63,8 @@ fn main() {
         lent,
         strikes.value,
     );
-    let sounding = play(e, lent, lent, &mut out, renders.value);
+    // a second place that calls render, as a host has: so the compiler leaves it a function of its own
+    let ready = engine::render(e, lent, lent, &mut out, e.clock);
+    let sounding = play(ready.engine, lent, lent, &mut out, renders.value);
     report(sounding, cases::fnv(&out));
 }
