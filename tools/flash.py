@@ -1,6 +1,7 @@
 """flash.py OBJECT TABLE.rt..: how many bytes of an object's read-only data are entries of the tables, and how many are others.
 
-Tables become constants of 16 bytes in the sections .rodata*, one for each few entries; each is looked for in the tables' own bytes.
+Tables become constants of 16 bytes in the sections .rodata*, one for each few entries; each is looked for in the tables' own bytes. The last entries of a
+table, where they fill no 16 bytes, stand in the code.
 """
 import re
 import struct

@@ -1,6 +1,5 @@
-// For tools/stack, which says what it is about. Three ways to look at the calls of the compiled engine:
+// For tools/stack, which says what it is about. Two ways to look at the calls of the compiled engine while they run:
 //
-//     chains ASSEMBLY SIZES    for each call the frames along the longest chain of calls, and the chain
 //     painted CASE TRACE       plays the case and prints for each call how far down it has written, at most
 //     plain CASE TRACE         plays the case
 use std::collections::HashMap;
@@ -39,7 +38,6 @@ fn main() -> ExitCode {
     let arguments: Vec<String> = std::env::args().skip(1).collect();
     let read = |at: usize| fs::read(&arguments[at]).unwrap_or_else(|error| panic!("{}: {error}", arguments[at]));
     match arguments.first().map(String::as_str) {
-        Some("chains") => chains(&read(1), &read(2)),
         Some("plain") => {
             Player::new(false).play(&read(1), &read(2));
         }
@@ -48,6 +46,7 @@ fn main() -> ExitCode {
             let (case, trace) = (read(1), read(2));
             let painter = std::thread::Builder::new().stack_size(4 * PAINTED);
             let deepest = painter.spawn(move || Player::new(true).play(&case, &trace)).unwrap().join().unwrap();
+            println!("the state has {ENGINE_BYTES} bytes, and an answer {ANSWER_BYTES}, both the caller's");
             println!("how far down the calls of all stored cases have written:");
             for (letter, name) in CALLS {
                 println!("{:8} bytes  {name}", deepest.get(&letter).copied().unwrap_or(0));
@@ -56,57 +55,6 @@ fn main() -> ExitCode {
         _ => return ExitCode::from(2),
     }
     ExitCode::SUCCESS
-}
-
-// ---- Frames along the longest chain
-
-/// A function's frame with the address that its caller pushes, and what it calls.
-#[derive(Default)]
-struct Compiled {
-    frame: usize,
-    calls: Vec<String>,
-}
-
-fn chains(assembly: &[u8], sizes: &[u8]) {
-    let (assembly, sizes) = (str::from_utf8(assembly).unwrap(), str::from_utf8(sizes).unwrap());
-    let mut functions: HashMap<String, Compiled> = HashMap::new();
-    for line in sizes.lines() {
-        // module.ll:NAME, a tab, the bytes, a tab, `static`
-        let parts: Vec<&str> = line.split('\t').collect();
-        let name = parts[0].split_once(':').unwrap().1;
-        assert_eq!(parts[2], "static", "{name} has a frame of no fixed size");
-        functions.entry(name.to_string()).or_default().frame = parts[1].parse::<usize>().unwrap() + 8;
-    }
-    let mut inside = String::new();
-    for line in assembly.lines() {
-        let words: Vec<&str> = line.split_whitespace().collect();
-        let named = |word: &str| word.trim_end_matches("@PLT").trim_matches('"').to_string();
-        match words[..] {
-            [label, ..] if !line.starts_with('\t') && label.ends_with(':') => {
-                let name = label.trim_end_matches(':').trim_matches('"');
-                if functions.contains_key(name) {
-                    inside = name.to_string();
-                }
-            }
-            ["callq" | "jmp", to, ..] if !to.starts_with(".L") => {
-                assert!(!to.starts_with('*') || words[0] == "jmp", "{inside} calls what it finds in a register");
-                functions.get_mut(&inside).unwrap().calls.push(named(to));
-            }
-            _ => {}
-        }
-    }
-    println!("the state has {ENGINE_BYTES} bytes, and an answer {ANSWER_BYTES}, both the caller's");
-    println!("frames along the longest chain of calls, without memcpy, memset and memmove of the C library:");
-    for (_, name) in CALLS {
-        let (bytes, chain) = longest(&functions, name);
-        println!("{bytes:8} bytes  {}", chain.join(" > "));
-    }
-}
-
-fn longest(functions: &HashMap<String, Compiled>, name: &str) -> (usize, Vec<String>) {
-    let Some(function) = functions.get(name) else { return (0, Vec::new()) };
-    let below = function.calls.iter().map(|called| longest(functions, called)).max().unwrap_or_default();
-    (function.frame + below.0, [vec![name.to_string()], below.1].concat())
 }
 
 // ---- Painting
