@@ -150,7 +150,7 @@ fn main() {
     write(
         "src/gain_table.rt",
         source(
-            &format!("{rule} It has three bytes here: G - 1 is 256 times the high part, and the low part."),
+            &format!("{rule} Each has three bytes here: G - 1 is 256 times its high part and its low part added."),
             &[constant("HIGHS", "u16", &highs), constant("LOWS", "u8", &lows)],
         ),
     );

@@ -1,4 +1,4 @@
--- Tenths, and the least attenuation: what the search among the kept gains says of it, and that it is the least.
+-- Tenths, a gain as the code reads it, and the least attenuation: what the search among the kept gains says of it, and that it is the least.
 use Prim.Native.Nat.{ℕ, zero, suc, _+_, _-_, _*_, _^_, _/_, _%_, _≤_, _<_}
 use mathlib.Core.Path.{_≡_, refl, ap, sym, _∙_}
 use mathlib.Core.List.{List}
@@ -119,7 +119,7 @@ unfolding leastCb
 least-none l p = count-is gainOf l 1000 1000 (omega arith) p (λ h. omega arith)
 
 -- the gain i cB behind n times 200
-pub gain-behind : (n i a : ℕ) → a ≡ n * 200 + i → i < 200 → a ≤ 1440 → gainOf a ≡ tenths n (kept i)
+gain-behind : (n i a : ℕ) → a ≡ n * 200 + i → i < 200 → a ≤ 1440 → gainOf a ≡ tenths n (kept i)
 unfolding gainOf
 gain-behind n i a e few h =
     let q : a / 200 ≡ n = omega arith in

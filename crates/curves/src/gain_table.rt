@@ -1,4 +1,4 @@
-// The gains that are kept: entry a is the largest G with G^200 * 10^a <= 2^4,800. It has three bytes here: G - 1 is 256 times the high part, and the low part.
+// The gains that are kept: entry a is the largest G with G^200 * 10^a <= 2^4,800. Each has three bytes here: G - 1 is 256 times its high part and its low part added.
 // Made by: rustc -O -o target/tables tools/tables.rs && target/tables .
 pub const HIGHS: [u16; 200] = [
     65535,
