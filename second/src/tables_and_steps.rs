@@ -6,12 +6,28 @@ use std::sync::OnceLock;
 /// The tables of 01, each entry found by its rule with exact whole numbers. Of the gains the first 200 are kept (02,
 /// M-105).
 pub struct Tables {
-    octave: Vec<u64>,
-    kept_gain: Vec<i64>,
-    velocity: Vec<i64>,
+    octave: Table<u64>,
+    kept_gain: Table<i64>,
+    velocity: Table<i64>,
 }
 
-/// The tables, worked out at the first use and then kept.
+/// Entries that are found by a rule, each at its first use, and then kept.
+struct Table<T> {
+    rule: fn(u64) -> T,
+    entries: Vec<OnceLock<T>>,
+}
+
+impl<T: Copy> Table<T> {
+    fn new(length: usize, rule: fn(u64) -> T) -> Table<T> {
+        Table { rule, entries: (0..length).map(|_| OnceLock::new()).collect() }
+    }
+
+    fn at(&self, i: u64) -> T {
+        *self.entries[i as usize].get_or_init(|| (self.rule)(i))
+    }
+}
+
+/// The tables, made at the first use.
 pub fn tables() -> &'static Tables {
     static TABLES: OnceLock<Tables> = OnceLock::new();
     TABLES.get_or_init(Tables::new)
@@ -38,9 +54,9 @@ fn octave_entry(i: u64) -> u64 {
 }
 
 /// Gain by 01's rule, for a in 0..1,440: the largest G with G^200 · 10^a <= 2^4,800.
-pub fn gain_by_rule(a: u32) -> i64 {
+pub fn gain_by_rule(a: u64) -> i64 {
     let bound = Natural::two_to(4_800);
-    let tens = Natural::new(10).power(a);
+    let tens = Natural::new(10).power(a as u32);
     let guess = 2f64.powf(24.0) * 10f64.powf(-(a as f64) / 200.0);
     let holds = |g: u64| Natural::new(g).power(200).times(&tens) <= bound;
     largest(guess as u64, holds) as i64
@@ -62,15 +78,15 @@ fn velocity_entry(v: u64) -> i64 {
 impl Tables {
     fn new() -> Tables {
         Tables {
-            octave: (0..1200).map(octave_entry).collect(),
-            kept_gain: (0..200).map(gain_by_rule).collect(),
-            velocity: (1..=127).map(velocity_entry).collect(),
+            octave: Table::new(1_200, octave_entry),
+            kept_gain: Table::new(200, gain_by_rule),
+            velocity: Table::new(127, |i| velocity_entry(i + 1)),
         }
     }
 
     /// T of the octave table, for i in 0..1,199.
     pub fn octave(&self, i: i64) -> u64 {
-        self.octave[i as usize]
+        self.octave.at(i as u64)
     }
 
     /// Step for c cents and a sample rate, in 2^-24 samples, with c = 1,200·o + i:
@@ -97,13 +113,13 @@ impl Tables {
         if attenuation > 1_440 {
             return 0;
         }
-        let kept = self.kept_gain[(attenuation % 200) as usize];
+        let kept = self.kept_gain.at(attenuation as u64 % 200);
         (0..attenuation / 200).fold(kept, |gain, _| gain / 10)
     }
 
     /// Attenuation of a velocity, 1..127.
     pub fn velocity(&self, velocity: u8) -> i64 {
-        self.velocity[velocity as usize - 1]
+        self.velocity.at(velocity as u64 - 1)
     }
 
     /// Attenuation of control 7 or 11: as of a velocity, and 960 for their 0.

@@ -38,7 +38,7 @@ fn p_gains() {
 #[test]
 fn every_gain_by_its_rule() {
     for a in 0..=1_440 {
-        assert_eq!(tables().gain(a), gain_by_rule(a as u32), "gain {a}");
+        assert_eq!(tables().gain(a), gain_by_rule(a as u64), "gain {a}");
     }
     assert_eq!([tables().gain(1_440), tables().gain(1_441)], [1, 0]);
     assert_eq!(tables().gain(1_441 - 7 * 200) / 10_i64.pow(7), 1);
