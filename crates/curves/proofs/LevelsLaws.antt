@@ -7,7 +7,7 @@ use borrow.Author.Tests.{le-leb, lt-leb, ltb-true, ltb-false, le-ltb}
 use mathlib.Core.Bool.{Bool, true, false}
 use native.Mathlib.Omega.{arith}
 use lib.Dec.{ltb, lit<}
-use native.Mathlib.Nat.{not-suc-le-zero, le-of-suc-le-suc, zero-add, add-zero, add-suc, suc-add, pow-suc, pow-succ', div-one, div-div-eq-div-mul, lt-of-lt-of-le, mul-le-mul-left, pow-le-pow-right}
+use native.Mathlib.Nat.{le-of-suc-le-suc, zero-add, add-zero, add-suc, suc-add, pow-suc, pow-succ', div-one, div-div-eq-div-mul, lt-of-lt-of-le, mul-le-mul-left, pow-le-pow-right}
 use Rattle.curves.specs.Levels.{gains, tenths, gainOf, above, leastCb}
 use Rattle.curves.specs.Internal.Levels.{kept, louder}
 

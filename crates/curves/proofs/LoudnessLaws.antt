@@ -1,7 +1,7 @@
 -- Every gain follows 01's rule, from the rule of those that are kept: the rule for 200 cB more is that of the number times ten.
-use Prim.Native.Nat.{ℕ, zero, suc, _+_, _*_, _^_, _/_, _%_, _≤_, _<_}
+use Prim.Native.Nat.{ℕ, zero, suc, _+_, _*_, _^_, _/_, _%_, _≤_}
 use mathlib.Core.Bool.{Bool, true, false}
-use mathlib.Core.Path.{_≡_, refl, ap, ap₂, sym, _∙_, subst}
+use mathlib.Core.Path.{_≡_, refl, ap, sym, _∙_, subst}
 use lib.Dec.{ltb, lit<}
 use lib.ListN.{getD}
 use lib.Pow.{pow-add}
