@@ -13,7 +13,7 @@ const MADE_BY: &str =
     "-- Made by: (cd second && cargo build --release --offline) && second/target/release/second make crates\n";
 
 /// The definitions that the prover looks into where it computes what a voice gives, and where it does so for a run.
-const OF_FRAMES: &str = "unfolding heardAt afterAt after frame frameAt living readAndMoved goOn loud reading behind gained leftOf rightOf gainOf cbOf loss step pitchTotal bendCents stepOf folds fold settled ended levelAt decayAt releaseAt fromDelay fromAttack fromHold fromDecay release leastCb above";
+const OF_FRAMES: &str = "unfolding heardAt afterAt after frame frameAt living readAndMoved goOn loud reading behind before interpolated gained leftOf rightOf gainOf cbOf loss step pitchTotal bendCents stepOf folds fold settled ended levelAt decayAt releaseAt fromDelay fromAttack fromHold fromDecay release leastCb above";
 const OF_RUNS: &str = "unfolding run fresh paired wordOf ofChannel held heldKey letOff off offKey EventsKeys.noteOff pedalHeld cut pedal silence controlled controlChange lowestFree claim leastBy taken seat without renewed startIn EventsStriking.noteOn channelBank anyPast classIn rival start startAll cleared struck noteOnNumber release leastCb above levelAt decayAt releaseAt keysOf marksOf";
 
 // Numbers and lists in the prover's writing
