@@ -21,10 +21,10 @@ pub fn write(s: &mut Script) {
     all_at_once(s);
 }
 
-/// Where a window begins behind its wall.
+/// Where the windows begin.
 const START: u32 = 3;
 
-/// A memory whose samples in front of the window and behind it are as loud as can be: one that is read shows.
+/// A window's memory. Around the window the samples are as loud as can be, so that it shows where one of them is read.
 fn walled(window: &[i16]) -> Vec<i16> {
     [&[-32_768, -32_768, 32_767], window, &[-32_768, 32_767, 32_767]].concat()
 }
@@ -35,14 +35,20 @@ fn looped(front: u32, length: u32, tail: u32) -> SamplePlan {
     SamplePlan { loop_start, loop_end, ..sample(START, loop_end + tail) }
 }
 
-/// A preset for each sample, with generators behind QUICK's.
-fn presets(list: &[(SamplePlan, &[Gen])]) -> BankPlan {
+/// A preset for each window, with generators behind QUICK's.
+fn presets(list: impl IntoIterator<Item = (SamplePlan, Vec<Gen>)>) -> BankPlan {
     let mut plan = BankPlan::default();
-    for (program, (sample, gens)) in list.iter().enumerate() {
-        plan.samples.push(*sample);
-        plan.strike_plan(program as u16, &[], vec![zone_to(&quick(gens), 53, program as i32)]);
+    for (program, (window, gens)) in list.into_iter().enumerate() {
+        plan.samples.push(window);
+        plan.strike_plan(program as u16, &[], vec![zone_to(&quick(&gens), 53, program as i32)]);
     }
     plan
+}
+
+/// Samples by chance, of which the first twelve are not so loud that a reading between them would be held.
+fn sounds(n: u32, seed: u64) -> Vec<i16> {
+    let mut chance = Chance::new(seed);
+    (0..n).map(|i| if i < 12 { chance.from(-25_000, 25_000) } else { chance.from(-32_768, 32_767) } as i16).collect()
 }
 
 /// The beginning of a case in which controls take nothing away, so that every bit of a reading shows.
@@ -70,7 +76,7 @@ fn cut_up(s: &mut Script, frames: u32, chance: &mut Chance) {
 /// one sample, up to their ends.
 fn edges_of_windows(s: &mut Script) {
     let windows = [(3, 4), (3, 5), (3, 6), (3, 7), (3, 8), (4, 6), (4, 8), (5, 6)];
-    let plan = presets(&windows.map(|(start, end)| (sample(start, end), &[][..])));
+    let plan = presets(windows.map(|(start, end)| (sample(start, end), vec![])));
     begin(s, "edges of windows", &plan, &walled(&[-9_000, 20_000, -30_000, 11_111, 7_000]));
     let chance = &mut Chance::new(1_000);
     for program in 0..windows.len() {
@@ -83,10 +89,9 @@ fn edges_of_windows(s: &mut Script) {
 
 /// Windows that are the whole memory, or the whole of what is lent, with no sample in front of them and none behind.
 fn whole_memories(s: &mut Script) {
-    const MODES: [&[Gen]; 3] = [&[], &[(54, 1)], &[(54, 3)]];
-    let list: Vec<_> = (1..=5).flat_map(|end| MODES.map(|mode| (sample(0, end), mode))).collect();
-    begin(s, "whole memories", &presets(&list), &[32_767, -20_000, 9_000, 30_000, -32_768]);
-    for (program, (window, _)) in list.iter().enumerate() {
+    let plan = presets((0..15).map(|i| (sample(0, 1 + i / 3), vec![(54, [0, 1, 3][i as usize % 3])])));
+    begin(s, "whole memories", &plan, &[32_767, -20_000, 9_000, 30_000, -32_768]);
+    for (program, window) in plan.samples.iter().enumerate() {
         s.cut_ram(window.end);
         for key in [48, 61, 67] {
             strike(s, program, key);
@@ -102,11 +107,11 @@ fn whole_memories(s: &mut Script) {
 /// Steps of nearly one sample: q is 0 with lower bits set, 1, 2 and so on, or 4,095, 4,094 and so on. And the slowest
 /// step of all, 594 units: q is 0, 1, 2 for seven frames each.
 fn top_twelve_bits(s: &mut Script) {
-    let rated = |rate| SamplePlan { rate, ..looped(0, 24, 0) };
-    let list = [(rated(44_099), &[(54, 1)][..]), (rated(44_101), &[(54, 1)]), (rated(400), &[(51, -96), (54, 1)])];
-    begin(s, "the top twelve bits", &presets(&list), &walled(&noise(24, 1_001)));
+    let rated = |rate, coarse| (SamplePlan { rate, ..looped(0, 24, 0) }, vec![(51, coarse), (54, 1)]);
+    let plan = presets([rated(44_099, 0), rated(44_101, 0), rated(400, -96)]);
+    begin(s, "the top twelve bits", &plan, &walled(&noise(24, 1_001)));
     let chance = &mut Chance::new(1_002);
-    for program in 0..list.len() {
+    for program in 0..3 {
         for key in [48, 60, 72] {
             strike(s, program, key);
             cut_up(s, 80, chance);
@@ -117,8 +122,7 @@ fn top_twelve_bits(s: &mut Script) {
 
 /// A step of 4,095 units: every q stands between two samples, from 0 up to 4,095, in loud and in small numbers.
 fn every_q(s: &mut Script) {
-    let slow: [Gen; 2] = [(51, -96), (54, 1)];
-    let plan = presets(&[(SamplePlan { rate: 2_756, ..looped(1, 5, 0) }, &slow)]);
+    let plan = presets([(SamplePlan { rate: 2_756, ..looped(1, 5, 0) }, vec![(51, -96), (54, 1)])]);
     let loud = [-32_768, 32_767, 32_767, -32_768, -32_768, 32_767];
     let memories = [("loud", loud), ("small", [0, -1, 1, -2, 3, -3]), ("others", [7, -9_999, 31_000, 5, -2, 12_345])];
     for (name, window) in memories {
@@ -130,7 +134,7 @@ fn every_q(s: &mut Script) {
 
 /// All sixteen fours of least and highest samples, and fours that come just up to an end halfway, or just past it.
 fn held_to_both_ends(s: &mut Script) {
-    let ends = [0, 0, 0, 0, 1, 0, 0, 1, 1, 0, 1, 0, 1, 1, 1, 1].map(|high| [i16::MIN, i16::MAX][high]);
+    let ends = [1, 0, 0, 0, 0, 1, 0, 0, 1, 1, 0, 1, 0, 1, 1, 1, 1].map(|high| [i16::MIN, i16::MAX][high]);
     let mut fours = Vec::new();
     for (outer, inner) in [
         (32_758, 32_767),
@@ -145,17 +149,17 @@ fn held_to_both_ends(s: &mut Script) {
     ] {
         fours.extend([outer, inner, inner, outer]);
     }
-    let list = [(looped(0, 16, 0), &[(54, 1)][..]), (SamplePlan { rate: 44_099, ..looped(0, 16, 0) }, &[(54, 1)])];
-    begin(s, "held, least and highest samples", &presets(&list), &walled(&ends));
+    let plan = presets([44_100, 44_099].map(|rate| (SamplePlan { rate, ..looped(1, 16, 0) }, vec![(54, 1)])));
+    begin(s, "held, least and highest samples", &plan, &walled(&ends));
     let chance = &mut Chance::new(1_003);
-    for program in 0..list.len() {
+    for program in 0..2 {
         for key in [36, 48, 53, 60, 65] {
             strike(s, program, key);
             cut_up(s, 70, chance);
             s.silence(0);
         }
     }
-    begin(s, "held, at the very ends", &presets(&[(looped(0, 36, 0), &[])]), &walled(&fours));
+    begin(s, "held, at the very ends", &presets([(looped(0, 36, 0), vec![])]), &walled(&fours));
     for key in [36, 48] {
         strike(s, 0, key);
         for _ in 0..12 {
@@ -168,7 +172,7 @@ fn held_to_both_ends(s: &mut Script) {
 fn small_numbers(s: &mut Script) {
     let chance = &mut Chance::new(1_004);
     let window: Vec<i16> = (0..40).map(|_| chance.from(-2, 2) as i16).collect();
-    begin(s, "small numbers", &presets(&[(looped(3, 37, 0), &[(54, 1)])]), &walled(&window));
+    begin(s, "small numbers", &presets([(looped(3, 37, 0), vec![(54, 1)])]), &walled(&window));
     for key in [24, 36, 47, 48, 55, 60, 67] {
         strike(s, 0, key);
         cut_up(s, 120, chance);
@@ -179,17 +183,17 @@ fn small_numbers(s: &mut Script) {
 /// Loops of one to four samples, at the window's start and behind other samples, with a tail and without, at low pitch
 /// and up to the highest.
 fn loops(s: &mut Script) {
-    let mut list: Vec<(SamplePlan, &[Gen])> = Vec::new();
+    let mut list = Vec::new();
     for length in 1..=4 {
         for (i, (front, tail)) in [(0, 0), (0, 3), (4, 0), (4, 3)].into_iter().enumerate() {
-            let rate = [44_100, 44_099, 50_000, 31_337][(list.len() + i) % 4];
-            let mode: &[Gen] = if (length + i as u32) % 2 == 0 { &[(54, 1)] } else { &[(54, 3)] };
-            list.push((SamplePlan { rate, ..looped(front, length, tail) }, mode));
+            let rate = [44_100, 44_099, 50_000, 31_337][(length + i) % 4];
+            let mode = [1, 3][(length + i) % 2];
+            list.push((SamplePlan { rate, ..looped(front, length as u32, tail) }, vec![(54, mode)]));
         }
     }
-    begin(s, "short loops", &presets(&list), &walled(&noise(11, 1_005)));
+    begin(s, "short loops", &presets(list), &walled(&sounds(11, 1_005)));
     let chance = &mut Chance::new(1_006);
-    for program in 0..list.len() {
+    for program in 0..16 {
         for key in [36, 47, 60, 66, 84, 108, 127] {
             strike(s, program, key);
             cut_up(s, 50, chance);
@@ -200,11 +204,10 @@ fn loops(s: &mut Script) {
 
 /// Mode 3 folds until it is released and then reads on behind its loop, up to the window's end; mode 1 folds on.
 fn releases(s: &mut Script) {
-    let slow: [[Gen; 2]; 2] = [1, 3].map(|mode| [(54, mode), (38, -9_000)]);
-    let list: Vec<_> = (1..=4).flat_map(|n| [0, 1].map(|i| (looped(2, n, 4), &slow[i][..]))).collect();
-    begin(s, "released in short loops", &presets(&list), &walled(&noise(10, 1_007)));
+    let plan = presets((0..8).map(|i| (looped(2, 1 + i / 2, 4), vec![(38, -9_000), (54, [1, 3][i as usize % 2])])));
+    begin(s, "released in short loops", &plan, &walled(&sounds(10, 1_007)));
     let chance = &mut Chance::new(1_008);
-    for program in 0..list.len() {
+    for program in 0..8 {
         for (key, frames) in [(48, [3, 4, 5, 7, 9, 16]), (69, [0, 1, 2, 3, 6, 11])] {
             for n in frames {
                 strike(s, program, key);
@@ -218,34 +221,42 @@ fn releases(s: &mut Script) {
     }
 }
 
-/// Loops of one to four samples and a long one, each at a low pitch and at the highest, behind some samples: the shape's
-/// window, and how its key is struck.
-fn short_and_long() -> Vec<(SamplePlan, u8)> {
-    let mut shapes = Vec::new();
+/// A window, its mode, and the key that it is struck with.
+type Shape = (SamplePlan, i32, u8);
+
+/// Loops of one to four samples and a long one, at a low pitch and at the highest, the long one at a middle pitch too; a
+/// long way in front of a loop; windows without a loop.
+fn shapes(mode: i32) -> Vec<Shape> {
+    let mut shapes = vec![(looped(2, 170, 2), mode, 61)];
     for length in [1, 2, 3, 4, 170] {
-        shapes.push((looped(2, length, 2), 37));
-        shapes.push((SamplePlan { rate: 50_000, ..looped(1, length, 1) }, 127));
+        shapes.push((looped(2, length, 2), mode, 37));
+        shapes.push((SamplePlan { rate: 50_000, ..looped(1, length, 1) }, mode, 127));
     }
+    shapes.extend([53, 60].map(|key| (looped(390, 7, 3), mode, key)));
+    shapes.extend([(61, 47), (150, 62)].map(|(length, key)| (sample(START, START + length), 0, key)));
     shapes
 }
 
-/// Pans at which the two sides are rounded by themselves, and others.
+/// With each of these both sides are rounded by themselves.
 const PANS: [i32; 7] = [-500, -499, -1, 0, 1, 499, 500];
 
-/// An attack of 434 frames in front of a loop, in a long loop, in short ones, and up to the end of a window that has none.
+/// The generators of the shape of that number: its mode, one of the pans, and others.
+fn gens_of(number: usize, mode: i32, others: &[Gen]) -> Vec<Gen> {
+    [&[(54, mode), (17, PANS[number % 7])], others].concat()
+}
+
+/// A preset for each shape, and the memory of all of them.
+fn begin_shapes(s: &mut Script, name: &str, shapes: &[Shape], others: &[Gen]) {
+    let list = shapes.iter().enumerate();
+    let plan = presets(list.map(|(i, (window, mode, _))| (*window, gens_of(i, *mode, others))));
+    begin(s, name, &plan, &walled(&sounds(400, 1_009)));
+}
+
+/// An attack of 434 frames in every shape, in renders of one length.
 fn attacks(s: &mut Script) {
-    let mut shapes = short_and_long();
-    shapes.push((looped(390, 7, 3), 53));
-    shapes.push((looped(390, 7, 3), 60));
-    let unlooped = shapes.len();
-    shapes.push((sample(START, START + 61), 47));
-    shapes.push((sample(START, START + 150), 62));
-    let gens: Vec<[Gen; 3]> = (0..shapes.len())
-        .map(|i| [(34, -8_000), (17, PANS[i % 7]), (54, if i < unlooped { 1 + 2 * (i as i32 / 2 % 2) } else { 0 })])
-        .collect();
-    let list: Vec<_> = shapes.iter().zip(&gens).map(|((window, _), gens)| (*window, &gens[..])).collect();
-    begin(s, "attacks", &presets(&list), &walled(&noise(400, 1_009)));
-    for (program, (_, key)) in shapes.iter().enumerate() {
+    let shapes = shapes(3);
+    begin_shapes(s, "attacks", &shapes, &[(34, -8_000)]);
+    for (program, (_, _, key)) in shapes.iter().enumerate() {
         for (piece, times) in [(1, 18), (2, 13), (3, 12), (7, 11), (64, 7)] {
             strike(s, program, *key);
             (0..times).for_each(|_| s.go(piece));
@@ -254,15 +265,12 @@ fn attacks(s: &mut Script) {
     }
 }
 
-/// A decay and a release of 243 frames: some 4 cB more with each frame.
+/// A decay and a release of 243 frames in every shape: some 4 cB more with each frame.
 fn fades(s: &mut Script) {
-    let shapes = short_and_long();
-    let gens: Vec<[Gen; 5]> =
-        (0..shapes.len()).map(|i| [(36, -9_000), (37, 500), (38, -9_000), (17, PANS[i % 7]), (54, 1)]).collect();
-    let list: Vec<_> = shapes.iter().zip(&gens).map(|((window, _), gens)| (*window, &gens[..])).collect();
-    begin(s, "decays and releases", &presets(&list), &walled(&noise(174, 1_010)));
-    let chance = &mut Chance::new(1_011);
-    for (program, (_, key)) in shapes.iter().enumerate() {
+    let shapes = shapes(1);
+    begin_shapes(s, "decays and releases", &shapes, &[(36, -9_000), (37, 500), (38, -9_000)]);
+    let chance = &mut Chance::new(1_010);
+    for (program, (_, _, key)) in shapes.iter().enumerate() {
         for frames in [60, 150] {
             strike(s, program, *key);
             cut_up(s, frames, chance);
@@ -273,15 +281,14 @@ fn fades(s: &mut Script) {
     }
 }
 
-/// Every pan in loops of one to four samples and in a window that has none, with bends and controls in an attack and in
-/// the decay behind it.
+/// Every pan in short loops and in a long one, with bends and a control in an attack and in the decay behind it.
 fn bends_and_pans(s: &mut Script) {
     for (name, length) in [("one", 1), ("two", 2), ("three", 3), ("four", 4), ("ninety", 90)] {
-        let gens = PANS.map(|pan| [(34, -10_500), (36, -9_500), (37, 300), (17, pan), (54, 1)]);
-        let list = gens.each_ref().map(|gens| (looped(2, length, 2), &gens[..]));
-        begin(s, &format!("bends and pans in a loop of {name}"), &presets(&list), &walled(&noise(94, 1_012)));
-        let chance = &mut Chance::new(1_013 + length as u64);
-        for program in 0..list.len() {
+        let others = [(34, -10_500), (36, -9_500), (37, 300)];
+        let plan = presets((0..PANS.len()).map(|i| (looped(2, length, 2), gens_of(i, 1, &others))));
+        begin(s, &format!("bends and pans in a loop of {name}"), &plan, &walled(&sounds(94, 1_011)));
+        let chance = &mut Chance::new(1_012 + length as u64);
+        for program in 0..PANS.len() {
             strike(s, program, chance.pick(&[31, 44, 52, 59, 70]));
             cut_up(s, 30, chance);
             for bend in [0, 16_383, 8_191, 12_345, 8_192] {
@@ -296,41 +303,48 @@ fn bends_and_pans(s: &mut Script) {
     }
 }
 
-/// Loops that take 62 to 66 steps at several steps, or about 128, in an attack of 136 frames and in a decay behind it.
+/// Loops that take 62 to 66 steps or about 128, at several steps: in an attack of 136 frames, a decay of 109, at the
+/// sustain value, and released.
 fn loops_of_about_64_steps(s: &mut Script) {
-    const PLAIN: &[Gen] = &[(34, -10_000), (36, -8_500), (37, 600), (54, 1)];
-    let tuned = |coarse, fine| [PLAIN, &[(51, coarse), (52, fine)]].concat();
-    let slow = [tuned(-72, 0), tuned(-60, 0), tuned(-53, 2), tuned(-48, 0)];
-    let mut list: Vec<(SamplePlan, &[Gen], u8)> = Vec::new();
-    for rate in [44_099, 44_100, 44_101] {
-        list.extend([62, 63, 64, 65, 66, 127, 128, 129].map(|n| (SamplePlan { rate, ..looped(5, n, 3) }, PLAIN, 60)));
-        list.extend([31, 32, 33].map(|n| (SamplePlan { rate, ..looped(0, n, 3) }, PLAIN, 48)));
-        list.extend([1_008, 1_024, 1_040].map(|n| (SamplePlan { rate, ..looped(2, n, 0) }, PLAIN, 108)));
-        list.extend((1..=4).map(|n| (SamplePlan { rate, ..looped(3, n, 1) }, &slow[n as usize - 1][..], 60)));
+    let stages: [Gen; 4] = [(34, -10_000), (36, -9_500), (37, 600), (38, -10_000)];
+    let mut list = Vec::new();
+    let mut keys = Vec::new();
+    for (rate, mode) in [(44_099, 1), (44_100, 3), (44_101, 1)] {
+        let mut windows: Vec<_> = [62, 63, 64, 65, 66, 127, 128, 129].map(|n| (looped(5, n, 3), 60, 0, 0)).into();
+        windows.extend([31, 32, 33].map(|n| (looped(0, n, 3), 48, 0, 0)));
+        windows.extend([1_008, 1_024, 1_040].map(|n| (looped(2, n, 0), 108, 0, 0)));
+        let slow = [(1, -72, 0), (2, -60, 0), (3, -53, 2), (4, -48, 0)];
+        windows.extend(slow.map(|(n, coarse, fine)| (looped(3, n, 1), 60, coarse, fine)));
+        for (window, key, coarse, fine) in windows {
+            let gens = [&stages[..], &[(51, coarse), (52, fine), (54, mode)]].concat();
+            list.push((SamplePlan { rate, ..window }, gens));
+            keys.push(key);
+        }
     }
-    let plan = presets(&list.iter().map(|(window, gens, _)| (*window, *gens)).collect::<Vec<_>>());
-    begin(s, "loops of about 64 steps", &plan, &walled(&noise(1_042, 1_020)));
-    let chance = &mut Chance::new(1_021);
-    for (program, (_, _, key)) in list.iter().enumerate() {
+    begin(s, "loops of about 64 steps", &presets(list), &walled(&sounds(1_042, 1_018)));
+    let chance = &mut Chance::new(1_019);
+    for (program, key) in keys.into_iter().enumerate() {
         s.bend(0, chance.pick(&[8_150, 8_192, 8_192, 8_240]));
-        strike(s, program, *key);
-        cut_up(s, 330, chance);
+        strike(s, program, key);
+        cut_up(s, 320, chance);
+        s.off(0, key);
+        cut_up(s, 80, chance);
         s.silence(0);
     }
 }
 
-/// Voices of all shapes and stages in one mix, and some of them let go.
+/// Voices of all shapes in one mix, in attack, decay and release.
 fn all_at_once(s: &mut Script) {
-    let chance = &mut Chance::new(1_022);
     let mut plan = BankPlan::default();
     let mut zones = Vec::new();
-    for (number, (window, _)) in short_and_long().into_iter().enumerate() {
+    for (number, (window, mode, _)) in shapes(3).into_iter().enumerate() {
+        let others = [(34, -9_000), (36, -9_500), (37, 250), (38, -10_000), (48, 130)];
         plan.samples.push(window);
-        let gens = [(34, -9_000), (36, -9_500), (37, 250), (38, -10_000), (17, PANS[number % 7]), (48, 130), (54, 3)];
-        zones.push(zone_to(&quick(&gens), 53, number as i32));
+        zones.push(zone_to(&quick(&gens_of(number, mode, &others)), 53, number as i32));
     }
     plan.strike_plan(0, &[], zones);
-    begin(s, "all at once", &plan, &walled(&noise(174, 1_023)));
+    begin(s, "all at once", &plan, &walled(&sounds(400, 1_020)));
+    let chance = &mut Chance::new(1_021);
     for key in [36, 90, 55] {
         strike(s, 0, key);
         cut_up(s, 90, chance);

@@ -210,6 +210,12 @@ pub fn examples() -> String {
             Bell(1, 4, [1, 3, 1, 4, 2], 700),
         ),
         &from_start("ending", "no loop: freed at its end, and silent from there", 6, Bell(0, 4, [0, 0, 0, 0, 2], 700)),
+        &from_start(
+            "slow",
+            "no loop, less than a sample a frame: zeros about the window, and held at the lowest number",
+            7,
+            Bell(0, 4, [0, 0, 0, 0, 2], -481),
+        ),
         &place_example("folding", "a loop of two samples and a step of sixteen", 3, Bell(1, 3, [0, 0, 0, 0, 2], 4_800)),
         &from_release(
             "mode3",
