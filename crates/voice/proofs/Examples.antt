@@ -81,6 +81,13 @@ ending :
 unfolding heardAt afterAt after frame frameAt living readAndMoved goOn loud reading behind before interpolated gained leftOf rightOf gainOf cbOf loss step pitchTotal bendCents stepOf folds fold settled ended levelAt decayAt releaseAt fromDelay fromAttack fromHold fromDecay release leastCb above
 ending = refl
 
+-- no loop, less than a sample a frame: zeros about the window, and held at the lowest number
+slow :
+    heard 7 (sounds (bell 0 4 0 0 0 0 2 (negℤ (pos 481))))
+    ≡ pos 4844 ∷ pos 7267 ∷ negℤ (pos 17535) ∷ negℤ (pos 26302) ∷ pos 89333 ∷ pos 133999 ∷ pos 81571 ∷ pos 122356 ∷ negℤ (pos 158764) ∷ negℤ (pos 238145) ∷ pos 22248 ∷ pos 33372 ∷ pos 38934 ∷ pos 58402 ∷ []
+unfolding heardAt afterAt after frame frameAt living readAndMoved goOn loud reading behind before interpolated gained leftOf rightOf gainOf cbOf loss step pitchTotal bendCents stepOf folds fold settled ended levelAt decayAt releaseAt fromDelay fromAttack fromHold fromDecay release leastCb above
+slow = refl
+
 -- a loop of two samples and a step of sixteen
 folding : after channel window 3 (sounds (bell 1 3 0 0 0 0 2 (pos 4800))) .voice .place ≡ 33554432
 unfolding heardAt afterAt after frame frameAt living readAndMoved goOn loud reading behind before interpolated gained leftOf rightOf gainOf cbOf loss step pitchTotal bendCents stepOf folds fold settled ended levelAt decayAt releaseAt fromDelay fromAttack fromHold fromDecay release leastCb above
