@@ -3,7 +3,7 @@ use Prim.Native.Nat.{ℕ, zero, suc, _+_, _*_, _-_, _/_, _%_, _<_, _≤_, min}
 use mathlib.Core.Path.{_≡_, refl, ap, sym, _∙_, subst}
 use mathlib.Core.Bool.{Bool, true, false, cond}
 use native.Mathlib.Omega.{arith}
-use native.Mathlib.Nat.{add-zero, div-add-mod', mod-lt, mul-suc, mul-zero, add-mul, suc-mul, add-mul-div-right, div-eq-of-lt, div-lt-iff-lt-mul, lt-of-mul-lt-mul-left, le-of-lt, not-suc-le-zero}
+use native.Mathlib.Nat.{add-zero, div-add-mod', mod-lt, mul-suc, mul-zero, add-mul, suc-mul, add-mul-div-right, div-eq-of-lt, div-lt-iff-lt-mul, lt-of-mul-lt-mul-left, mul-le-mul-left, le-of-lt, not-suc-le-zero}
 use borrow.Author.Tests.{lt-leb, eqb-true, eqb-false}
 use lib.Dec.{eqb, leb, lit<, lit≤}
 use lib.IntN.{ℤ, pos, _*ℤ_, +ℤ-idr}
@@ -236,3 +236,16 @@ paced-value whole frames sum c p =
 
     zero-plus : (q : ℕ) → 0 + q ≡ q
     zero-plus q = omega arith
+
+-- what a frame adds to the value is at most the whole
+pub by-le : (whole n sum : ℕ) (c : Pace) → Paced whole n sum c → c .by ≤ whole
+by-le whole n sum c p = let h = mul-le-mul-left (c .by) (p .size .0) in omega (arith, h, p .by)
+
+-- which is at most 2^24
+pub whole-le : (s : Stage) → wholeIn s ≤ 16777216
+whole-le (Delay left) = lit≤ tt
+whole-le (Attack t) = lit≤ tt
+whole-le (Hold t) = lit≤ tt
+whole-le (Decay t) = lit≤ tt
+whole-le Sustain = lit≤ tt
+whole-le (Release a t) = lit≤ tt

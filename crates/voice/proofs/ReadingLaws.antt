@@ -4,7 +4,7 @@ use mathlib.Core.Path.{_≡_, refl, ap, ap₂, sym, _∙_, subst}
 use mathlib.Core.Bool.{Bool, true, false, cond}
 use mathlib.Core.List.{List, [], _∷_}
 use native.Mathlib.Omega.{arith}
-use lib.Dec.{lit<, lit≤}
+use lib.Dec.{eqb, lit<, lit≤}
 use lib.IntN.{ℤ, pos, negsuc, _+ℤ_, _-ℤ_, _*ℤ_, +ℤ-assoc, +ℤ-comm, *ℤ-comm}
 use borrow.Author.Tests.{ne-eqb}
 use Rattle.arith.specs.Floors.{floorZ}
@@ -134,3 +134,13 @@ before-is w (suc i) h = ap (sample w) (less i)
   where
     less : (i : ℕ) → suc i - 1 ≡ i
     less i = omega arith
+
+-- the sample behind one before n, with a loop that begins before n, is not past n
+pub behind-lt : (f : Bool) (from to i n : ℕ) → i < n → from < n → behind f from to i < n + 1
+unfolding behind
+behind-lt true from to i n h k = by (eqb (i + 1) to)
+  where
+    by : (b : Bool) → cond b from (i + 1) < n + 1
+    by true = omega arith
+    by false = omega arith
+behind-lt false from to i n h k = omega arith

@@ -91,21 +91,22 @@ part-is (negsuc n) (suc j) h =
 upward : (z : ℤ) → T (nonNeg z) → pos (natAbs z) ≡ z
 upward (pos n) t = refl
 
+-- 500 thousandths and a pan are not below 0
+pub left-up : (q : ℤ) → Within q 500 → T (nonNeg (pos 500 -ℤ q))
+left-up (pos zero) w = tt
+left-up (pos (suc n)) w = rw (sub-pos 500 (suc n) (w .within)) tt
+left-up (negsuc n) w = tt
+
+pub right-up : (q : ℤ) → Within q 500 → T (nonNeg (pos 500 +ℤ q))
+right-up (pos n) w = tt
+right-up (negsuc n) w = rw (sub-pos 500 (suc n) (w .within)) tt
+
 -- the left share
 pub part-left : (u p : ℤ) → Within u 16777216 → part u (share (leftOut p)) ≡ leftOf u p
 unfolding leftOf
 part-left u p h = part-is u (leftOut p) h ∙ ap (λ (z : ℤ). floorZ (u *ℤ z) 1000) (upward (pos 500 -ℤ panOf p) (left-up (panOf p) (held-within p 499)))
-  where
-    left-up : (q : ℤ) → Within q 500 → T (nonNeg (pos 500 -ℤ q))
-    left-up (pos zero) w = tt
-    left-up (pos (suc n)) w = rw (sub-pos 500 (suc n) (w .within)) tt
-    left-up (negsuc n) w = tt
 
 -- the right share
 pub part-right : (u p : ℤ) → Within u 16777216 → part u (share (rightOut p)) ≡ rightOf u p
 unfolding rightOf
 part-right u p h = part-is u (rightOut p) h ∙ ap (λ (z : ℤ). floorZ (u *ℤ z) 1000) (upward (pos 500 +ℤ panOf p) (right-up (panOf p) (held-within p 499)))
-  where
-    right-up : (q : ℤ) → Within q 500 → T (nonNeg (pos 500 +ℤ q))
-    right-up (pos n) w = tt
-    right-up (negsuc n) w = rw (sub-pos 500 (suc n) (w .within)) tt

@@ -99,7 +99,7 @@ pub struct Went {
 
 // How many frames may go in a stretch: none where the next one is not calm or not clear.
 fn ahead(v: Voice, s: Stage, limit: u64, most: usize) -> usize
-    ensures count { λ r. ⌜ (r ≤ most) × (r < 4294967296) ⌝ }
+    ensures count { λ r. ⌜ (r ≤ most) × (r ≤ 65536) ⌝ }
     ensures calm { λ r. ⌜ Calms v s r ⌝ }
     ensures alive { λ r. ⌜ (0 < r → (dead v s ≡ false) × (v .place < limit) × RoomBy r s) ⌝ }
 {
@@ -109,7 +109,8 @@ fn ahead(v: Voice, s: Stage, limit: u64, most: usize) -> usize
     if limit <= v.place {
         return 0;
     }
-    least(calm(v, s) as u64, most as u64) as usize
+    let n = least(calm(v, s) as u64, 65536);
+    least(n, most as u64) as usize
 }
 
 // One frame of a slot, into frame k of the sums.
@@ -135,7 +136,7 @@ fn few(v: Voice, s: Stage, st: u32, most: usize) -> usize
     if is_uneven(v, s, st) {
         return most;
     }
-    least(most as u64, 16) as usize
+    least(most as u64, 8) as usize
 }
 
 // The next frames of a voice in stage s: a stretch if one may begin, else rounds; none where neither may.
@@ -193,6 +194,9 @@ fn go(
     let v = s.voice;
     let old = v.stage;
     let e = enter(v, old);
+    if is_waiting(e) {
+        return one(st, l, g, w, s, acc, k);
+    }
     let r = onward(v, e, st, l, g, w, acc, k, most);
     if r.frames == 0 {
         return one(st, l, g, w, s, acc, k);

@@ -81,7 +81,7 @@ pub fn next_pace(c: Pace) -> Pace
 
 // A stage of no frames is over at once.
 fn stop_if(n: u32, stop: u64) -> u64
-    ensures { λ r. ⌜ r ≡ stopIf n stop ⌝ }
+    ensures { λ r. ⌜ (r ≡ stopIf n stop) × (r ≤ stop) ⌝ }
 {
     if n == 0 { 0 } else { stop }
 }
@@ -121,9 +121,17 @@ pub fn level_in(s: Stage, value: u64) -> u64
     }
 }
 
+// A release's cB: what it began with, and the value.
+fn fallen(from: u16, value: u64) -> u64
+    requires { ⌜ value < 8796092956672 ⌝ }
+    ensures { λ r. ⌜ (r ≡ from + value) × (r < 8796093022208) ⌝ }
+{
+    from as u64 + value
+}
+
 // The envelope's cB at a value.
 pub fn cb_in(v: Voice, s: Stage, value: u64) -> u64
-    requires { ⌜ value < 8796093000000 ⌝ }
+    requires { ⌜ value < 8796092956672 ⌝ }
     ensures { λ r. ⌜ (r ≡ cbIn v s value) × (r < 8796093022208) ⌝ }
 {
     match s {
@@ -132,6 +140,6 @@ pub fn cb_in(v: Voice, s: Stage, value: u64) -> u64
         Stage::Hold { t: _ } => 0,
         Stage::Decay { t: _ } => value,
         Stage::Sustain => wide(v.sustain),
-        Stage::Release { from, t: _ } => wide(from) + value,
+        Stage::Release { from, t: _ } => fallen(from, value),
     }
 }

@@ -17,7 +17,7 @@ fn sample_at(w: &[i16], i: usize) -> i16
 
 // The sample behind sample i.
 fn behind_at(folding: bool, from: u32, to: u32, i: usize) -> usize
-    requires { ⌜ i < 1099511627776 ⌝ }
+    requires { ⌜ i < 2199023255552 ⌝ }
     ensures { λ r. ⌜ r ≡ behind folding from to i ⌝ }
 {
     if !folding {

@@ -50,12 +50,12 @@ fn end_of(v: Voice, s: Stage) -> u64
     span_of(v)
 }
 
-// A loop of less than 64 steps.
+// A loop of less than 32 steps.
 fn is_short(v: Voice, s: Stage, st: u32) -> bool {
     if !is_folding(v, s) {
         return false;
     }
-    (less(v.loopto, v.loopfrom) as u64) * 16777216 < 64 * (st as u64)
+    (less(v.loopto, v.loopfrom) as u64) * 16777216 < 32 * (st as u64)
 }
 
 // A stage in which the level rises, or the gain is another one after less than 16 frames.
@@ -137,7 +137,7 @@ pub fn glide(
 ) -> Reached
     requires level { ⌜ (gain ≤ 16777216) × (sides .left ≤ 274877906944) × (sides .right ≤ 274877906944) ⌝ }
     requires window { ⌜ (limit ≤ 72057594037927936) × ((p : ℕ) → p < limit → p / 16777216 + 2 < length (now w)) ⌝ }
-    requires begins { ⌜ (0 < st) × (16777216 ≤ from) × (from < limit) × (most < 4294967296) ⌝ }
+    requires begins { ⌜ (0 < st) × (16777216 ≤ from) × (from < limit) × (most ≤ 65536) ⌝ }
     requires sums { ⌜ (2 * (k + most) ≤ length (now acc)) × From (2 * k) (now acc) ⌝ }
     ensures count { λ r. ⌜ r .frames ≤ most ⌝ }
     ensures place { λ r. ⌜ (r .place ≡ from + r .frames * st) × ((j : ℕ) → j < r .frames → from + j * st < limit) ⌝ }

@@ -2,14 +2,17 @@
 use borrow.Author.Needs.{sfits-of, needs}
 use mir.Facts.{toZ-ofZ}
 use mir.Syntax.{w64, w32, w16}
-use Prim.Native.Nat.{_+_}
+use Prim.Native.Nat.{ℕ, _+_}
 use lib.Dec.{lit<, lit≤}
 use borrow.Author.Tests.{not-true, not-false}
 use lib.IntN.{ℤ}
-use mathlib.Core.Path.{_≡_, sym, ap, _∙_}
+use mathlib.Core.Path.{_≡_, sym, ap, ap₂, _∙_, subst}
 use Rattle.voice.specs.declared.Framed.{Framed}
 use Rattle.voice.specs.declared.Slot.{Slot}
 use Rattle.voice.specs.Sound.{leftOf, rightOf}
+use Rattle.voice.specs.Internal.Sides.{share, part, leftOut, rightOut}
+use Rattle.voice.specs.Internal.Sums.{loudest}
+use Rattle.voice.proofs.SidesLaws.{part-left, part-right}
 use Rattle.voice.specs.Internal.Stages.{RoomBy}
 use Rattle.voice.specs.Frames.{silent, loud, goOn, readAndMoved}
 use Rattle.voice.specs.Changes.{withMoved, sounds}
@@ -17,13 +20,13 @@ use Rattle.voice.specs.Stages.{entered, dead, waiting, spentBy}
 use Rattle.voice.specs.declared.Voice.{Voice}
 use Rattle.voice.specs.declared.Stage.{Stage}
 use Rattle.arith.specs.Within.{Within}
-use Rattle.arith.proofs.WithinLaws.{w-nat, w-back}
+use Rattle.arith.proofs.WithinLaws.{w-nat, w-le, w-back}
 use Rattle.voice.proofs.FramesLaws.{frame-free, frame-on, living-dead, living-waits, living-plays}
 use Rattle.voice.proofs.frames.frame_at.Statement.{statement}
 use Rattle.voice.proofs.frames.frame_at.Tie as tie
 
 -- a frame that adds nothing is the one that is asked for, and within the bound
-quiet : {f g : Framed} {s : Slot} → f ≡ silent s → silent s ≡ g → (f ≡ g) × Within (f .left) 25600003 × Within (f .right) 25600003
+quiet : {f g : Framed} {s : Slot} → f ≡ silent s → silent s ≡ g → (f ≡ g) × Within (f .left) loudest × Within (f .right) loudest
 quiet e h = (e ∙ h, rw e (w-nat (lit≤ tt)), rw e (w-nat (lit≤ tt)))
 
 -- the stage that is entered alive has room
@@ -94,41 +97,48 @@ returns-3 c = let d = c .before .before .before .before .before .before in
 loud-of-requires : tie.Need-loud-of-requires
 loud-of-requires c κs = search needs
 
-to-left-requires : tie.Need-to-left-requires
-to-left-requires c κs = search needs
+sides-of-requires : tie.Need-sides-of-requires
+sides-of-requires c κs = search needs
 
-to-right-requires : tie.Need-to-right-requires
-to-right-requires c κs = search needs
+part-of-requires : tie.Need-part-of-requires
+part-of-requires c κs = search needs
+
+part-of-requires-2 : tie.Need-part-of-requires-2
+part-of-requires-2 c κs = search needs
 
 go-on-requires : tie.Need-go-on-requires
 go-on-requires c κs = room (c .before .before .before .before .before .before .before)
 
 returns-4 : tie.Need-returns-4
 unfolding readAndMoved
-returns-4 c = let d = c .before .before .before .before .before .before .before .before .before in
-    let k = d .before .before .before .before .before in
+returns-4 c =
+    let y = c .before in
+    let x = y .before in
+    let z = x .before in
+    let g = z .before .before in
+    let n = g .before in
+    let m = n .before in
+    let d = m .before in
+    let k = d .before .before .before .before .before .before in
     let w = k .args .w .now in
     let st = k .args .st in
     let l = k .args .l in
     let s = k .args .s in
     let v = s .voice in
-    let on = frame-on st l w s (not-false (s .sounding) (d .before .before .before .if1 .left)) in
-    let e = d .before .enter .ensures .0 in
-    let x = c .before .before .before .before .before .before .before .before in
-    let t = sym (ap (dead v) e) ∙ sym (d .is-dead .ensures) ∙ x .if2 .left in
-    let n = c .before .before .before .before .before .before in
-    let u = sym (ap waiting e) ∙ sym (n .before .is-waiting .ensures) ∙ n .if3 .left in
-    let g = c .before .before .before .before .before .loud-of in
-    let a = c .before .before .before .to-left in
-    let b = c .before .to-right in
-    let loudness = rw (w-back w64 (k .pre .1) (lit< tt)) at (g .ensures .0) ∙ ap (loud l w v) e in
-    let back = w-back w64 (g .ensures .1) (lit< tt) in
+    let on = frame-on st l w s (not-false (s .sounding) (d .before .before .before .before .if1 .left)) in
+    let e = d .before .before .enter .ensures .0 in
+    let t = sym (ap (dead v) e) ∙ sym (d .before .is-dead .ensures) ∙ d .if2 .left in
+    let u = sym (ap waiting e) ∙ sym (m .is-waiting .ensures) ∙ n .if3 .left in
+    let loudness = rw (w-back w64 (k .pre .1) (lit< tt)) at (g .loud-of .ensures .0) ∙ ap (loud l w v) e in
+    let back = w-back w64 (g .loud-of .ensures .1) (lit< tt) in
+    let inside = subst (λ (q : ℤ). Within q 16777216) loudness (w-le (g .loud-of .ensures .1) (lit≤ tt)) in
     let pan = toZ-ofZ {w = w16} {z = v .pan} (sfits-of (k .good .1 .1 .1 .1 .0 .1 .1 .1 .0 .1 .1 .1 .1 .1 .1 .1 .1 .1 .1 .1 .1 .1 .1 .1 .1 .1 .0 .1)) in
-    let left = rw (back, pan) at (a .ensures .0) ∙ ap (λ (z : ℤ). leftOf z (v .pan)) loudness in
-    let right = rw (back, pan) at (b .ensures .0) ∙ ap (λ (z : ℤ). rightOf z (v .pan)) loudness in
-    let slot = c .go-on .ensures ∙ ap (λ (y : Stage). goOn v y (v .place + st)) e in
-    rw (w-back w32 (a .ensures .1) (lit< tt), w-back w32 (b .ensures .1) (lit< tt))
-    (framed slot left right ∙ sym (on ∙ living-plays st l w v (entered v (v .stage)) t u), a .ensures .1, b .ensures .1)
+    let shares = rw pan at (z .sides-of .ensures) in
+    let left = rw back at (x .part-of .ensures .0) ∙ ap₂ (λ (q : ℤ) (i : ℕ). part q i) loudness (shares .0) ∙ part-left (loud l w v (entered v (v .stage))) (v .pan) inside in
+    let right = rw back at (y .part-of2 .ensures .0) ∙ ap₂ (λ (q : ℤ) (i : ℕ). part q i) loudness (shares .2) ∙ part-right (loud l w v (entered v (v .stage))) (v .pan) inside in
+    let slot = c .go-on .ensures ∙ ap (λ (q : Stage). goOn v q (v .place + st)) e in
+    rw (w-back w32 (x .part-of .ensures .1) (lit< tt), w-back w32 (y .part-of2 .ensures .1) (lit< tt))
+    (framed slot left right ∙ sym (on ∙ living-plays st l w v (entered v (v .stage)) t u), x .part-of .ensures .1, y .part-of2 .ensures .1)
 
 pub frame-at-spec : {M : Type 1} → statement M
 frame-at-spec =
@@ -146,7 +156,8 @@ frame-at-spec =
     silent-at-requires-3
     returns-3
     loud-of-requires
-    to-left-requires
-    to-right-requires
+    sides-of-requires
+    part-of-requires
+    part-of-requires-2
     go-on-requires
     returns-4)

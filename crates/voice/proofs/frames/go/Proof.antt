@@ -8,14 +8,15 @@ use Rattle.voice.proofs.frames.one.Reads as one-reads
 use Rattle.voice.proofs.frames.onward.Reads as onward-reads
 use Rattle.voice.proofs.stages.age_by.Reads as age-by-reads
 use Rattle.voice.proofs.stages.enter.Reads as enter-reads
+use Rattle.voice.proofs.stages.is_waiting.Reads as is-waiting-reads
 
--- src/frames.rt:195:9
+-- src/frames.rt:196:9
 enter-requires : tie.Need-enter-requires
 enter-requires c κs = search needs
 
--- src/frames.rt:196:9
-onward-requires : tie.Need-onward-requires
-onward-requires c κs = ?
+-- src/frames.rt:197:8
+is-waiting-requires : tie.Need-is-waiting-requires
+is-waiting-requires c κs = search needs
 
 -- src/frames.rt:198:9
 one-requires : tie.Need-one-requires
@@ -29,37 +30,57 @@ same-length c = search needs
 returns : tie.Need-returns
 returns c = ?
 
--- src/frames.rt:200:23
-cast-age-by : tie.Need-cast-age-by
-cast-age-by c = ?
-
 -- src/frames.rt:200:9
-age-by-requires : tie.Need-age-by-requires
-age-by-requires c κs = ?
+onward-requires : tie.Need-onward-requires
+onward-requires c κs = ?
 
--- src/frames.rt:204:20
-with-moved-requires : tie.Need-with-moved-requires
-with-moved-requires c κs = search needs
+-- src/frames.rt:202:9
+one-requires-2 : tie.Need-one-requires-2
+one-requires-2 c κs = ?
 
--- src/frames.rt:174:1
+-- src/frames.rt:202:9
 same-length-2 : tie.Need-same-length-2
 same-length-2 c = search needs
 
--- src/frames.rt:174:1
+-- src/frames.rt:202:9
 returns-2 : tie.Need-returns-2
 returns-2 c = ?
+
+-- src/frames.rt:204:23
+cast-age-by : tie.Need-cast-age-by
+cast-age-by c = ?
+
+-- src/frames.rt:204:9
+age-by-requires : tie.Need-age-by-requires
+age-by-requires c κs = ?
+
+-- src/frames.rt:208:20
+with-moved-requires : tie.Need-with-moved-requires
+with-moved-requires c κs = search needs
+
+-- src/frames.rt:175:1
+same-length-3 : tie.Need-same-length-3
+same-length-3 c = search needs
+
+-- src/frames.rt:175:1
+returns-3 : tie.Need-returns-3
+returns-3 c = ?
 
 pub go-spec : {M : Type 1} → statement M
 go-spec =
     tie.close
     (tie.spec
     enter-requires
-    onward-requires
+    is-waiting-requires
     one-requires
     same-length
     returns
+    onward-requires
+    one-requires-2
+    same-length-2
+    returns-2
     cast-age-by
     age-by-requires
     with-moved-requires
-    same-length-2
-    returns-2)
+    same-length-3
+    returns-3)

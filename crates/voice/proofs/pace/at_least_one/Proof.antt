@@ -1,15 +1,22 @@
+-- Both sides of the test.
+use mathlib.Core.Path.{_≡_, ap, sym}
+use mathlib.Core.Bool.{Bool, cond}
+use native.Mathlib.Omega.{arith}
+use borrow.Author.Tests.{eq-eqb, ne-eqb}
+use lib.Dec.{lit<}
+use Rattle.voice.specs.Internal.Pace.{some}
 use Rattle.voice.proofs.pace.at_least_one.Statement.{statement}
 use Rattle.voice.proofs.pace.at_least_one.Tie as tie
-use Rattle.voice.proofs.pace.at_least_one.Reads as reads
-use Rattle.voice.proofs.pace.at_least_one.Lts as lts
 
--- src/pace.rt:21:1
 returns : tie.Need-returns
-returns c = ?
+unfolding some
+returns c = let n = c .before .args .n in (sym (ap (λ (b : Bool). cond b 1 n) (eq-eqb n 0 (c .if1 .taken))), lit< tt, lit< tt)
 
--- src/pace.rt:21:1
 returns-2 : tie.Need-returns-2
-returns-2 c = ?
+unfolding some
+returns-2 c = 
+    let n = c .before .args .n in
+    (sym (ap (λ (b : Bool). cond b 1 n) (ne-eqb n 0 (c .if1 .left))), omega (arith, c .if1 .left), omega arith)
 
 pub at-least-one-spec : {M : Type 1} → statement M
 at-least-one-spec = tie.close (tie.spec returns returns-2)

@@ -1,81 +1,73 @@
+-- The pace, by the stage.
+use mathlib.Core.Path.{_≡_, sym, subst}
+use Rattle.voice.specs.declared.Stage.{Stage}
+use Rattle.voice.specs.declared.Voice.{Voice}
+use Rattle.voice.specs.declared.pace.Pace.{Pace}
+use Rattle.voice.specs.Internal.Pace.{some, PaceAt}
 use borrow.Author.Needs.{needs}
 use Rattle.voice.proofs.pace.pace_of.Statement.{statement}
 use Rattle.voice.proofs.pace.pace_of.Tie as tie
-use Rattle.voice.proofs.pace.pace_of.Reads as reads
-use Rattle.voice.proofs.pace.pace_of.Lts as lts
-use Rattle.voice.proofs.pace.paced.Reads as paced-reads
 
--- src/pace.rt:48:37
+-- what is shown of the stage that the match found is shown of s
+seen : (v : Voice) (c : Pace) (s g : Stage) → s ≡ g → PaceAt v g c → PaceAt v s c
+seen v c s g e h = subst (λ (x : Stage). PaceAt v x c) (sym e) h
+
 enum-told : tie.Need-enum-told
 enum-told c = search needs
 
--- src/pace.rt:48:37
 paced-requires : tie.Need-paced-requires
 paced-requires c κs = search needs
 
--- src/pace.rt:49:25
 enum-known-s : tie.Need-enum-known-s
 enum-known-s c = search needs
 
--- src/pace.rt:49:32
 paced-requires-2 : tie.Need-paced-requires-2
 paced-requires-2 c κs = search needs
 
--- src/pace.rt:50:23
 enum-known-s-2 : tie.Need-enum-known-s-2
 enum-known-s-2 c = search needs
 
--- src/pace.rt:50:30
 paced-requires-3 : tie.Need-paced-requires-3
 paced-requires-3 c κs = search needs
 
--- src/pace.rt:51:24
 enum-known-s-3 : tie.Need-enum-known-s-3
 enum-known-s-3 c = search needs
 
--- src/pace.rt:51:31
 paced-requires-4 : tie.Need-paced-requires-4
 paced-requires-4 c κs = search needs
 
--- src/pace.rt:52:27
 enum-told-2 : tie.Need-enum-told-2
 enum-told-2 c = search needs
 
--- src/pace.rt:52:27
 paced-requires-5 : tie.Need-paced-requires-5
 paced-requires-5 c κs = search needs
 
--- src/pace.rt:53:35
 enum-known-s-4 : tie.Need-enum-known-s-4
 enum-known-s-4 c = search needs
 
--- src/pace.rt:53:42
 paced-requires-6 : tie.Need-paced-requires-6
 paced-requires-6 c κs = search needs
 
--- src/pace.rt:44:1
 returns : tie.Need-returns
-returns c = ?
+unfolding some
+returns c = seen _ _ _ _ (c .before .enum-told .given .1) (c .paced .ensures)
 
--- src/pace.rt:44:1
 returns-2 : tie.Need-returns-2
-returns-2 c = ?
+returns-2 c = seen _ _ _ _ (c .before .before .s .given .1) (c .paced2 .ensures)
 
--- src/pace.rt:44:1
 returns-3 : tie.Need-returns-3
-returns-3 c = ?
+unfolding some
+returns-3 c = seen _ _ _ _ (c .before .before .s2 .given .1) (c .paced3 .ensures)
 
--- src/pace.rt:44:1
 returns-4 : tie.Need-returns-4
-returns-4 c = ?
+returns-4 c = seen _ _ _ _ (c .before .before .s3 .given .1) (c .paced4 .ensures)
 
--- src/pace.rt:44:1
 returns-5 : tie.Need-returns-5
-returns-5 c = ?
+unfolding some
+returns-5 c = seen _ _ _ _ (c .before .enum-told2 .given .1) (c .paced5 .ensures)
 
--- src/pace.rt:44:1
 returns-6 : tie.Need-returns-6
-returns-6 c = ?
+returns-6 c = seen _ _ _ _ (c .before .before .s4 .given .1) (c .paced6 .ensures)
 
 pub pace-of-spec : {M : Type 1} → statement M
 pace-of-spec =

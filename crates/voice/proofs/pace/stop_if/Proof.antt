@@ -1,15 +1,19 @@
+-- Both sides of the test.
+use mathlib.Core.Path.{_≡_, ap, sym}
+use mathlib.Core.Bool.{Bool, cond}
+use native.Mathlib.Omega.{arith}
+use borrow.Author.Tests.{eq-eqb, ne-eqb}
+use Rattle.voice.specs.Internal.Pace.{stopIf}
 use Rattle.voice.proofs.pace.stop_if.Statement.{statement}
 use Rattle.voice.proofs.pace.stop_if.Tie as tie
-use Rattle.voice.proofs.pace.stop_if.Reads as reads
-use Rattle.voice.proofs.pace.stop_if.Lts as lts
 
--- src/pace.rt:83:1
 returns : tie.Need-returns
-returns c = ?
+unfolding stopIf
+returns c = let a = c .before .args in (sym (ap (λ (b : Bool). cond b 0 (a .stop)) (eq-eqb (a .n) 0 (c .if1 .taken))), omega arith)
 
--- src/pace.rt:83:1
 returns-2 : tie.Need-returns-2
-returns-2 c = ?
+unfolding stopIf
+returns-2 c = let a = c .before .args in (sym (ap (λ (b : Bool). cond b 0 (a .stop)) (ne-eqb (a .n) 0 (c .if1 .left))), omega arith)
 
 pub stop-if-spec : {M : Type 1} → statement M
 stop-if-spec = tie.close (tie.spec returns returns-2)

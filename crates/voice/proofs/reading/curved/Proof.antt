@@ -1,79 +1,93 @@
+-- The sum of four points, by the signed expression.
+use mathlib.Core.List.{List, [], _∷_}
+use lib.Dec.{lit≤}
+use lib.IntN.{pos}
+use mir.Syntax.{w64}
+use Rattle.arith.proofs.Expressions.{E, var, lit, add, sub, mul, shr, Var, given, fits, back, within}
+use Rattle.arith.proofs.WithinLaws.{w-le}
 use Rattle.voice.proofs.reading.curved.Statement.{statement}
 use Rattle.voice.proofs.reading.curved.Tie as tie
-use Rattle.voice.proofs.reading.curved.Reads as reads
-use Rattle.voice.proofs.reading.curved.Lts as lts
 
--- src/reading.rt:45:13
+abbrev env : tie.Start → List Var
+env c = given (c .pre .0 .0) ∷ given (c .pre .0 .1) ∷ given (c .pre .0 .2) ∷ given (c .pre .0 .3) ∷ given (c .pre .1) ∷ []
+
+abbrev a : E
+a = sub (var 1) (var 0)
+
+abbrev b : E
+b = sub (var 2) (var 1)
+
+abbrev c3 : E
+c3 = sub (var 3) (var 2)
+
+abbrev three : E
+three = sub (sub c3 b) (sub b a)
+
+abbrev two : E
+two = sub (sub b a) three
+
+abbrev upper : E
+upper = add (mul three (var 4)) (mul two (lit (pos 4096)))
+
+abbrev lower : E
+lower = add (mul upper (var 4)) (mul (add a b) (lit (pos 16777216)))
+
+abbrev whole : E
+whole = add (var 1) (shr (mul lower (var 4)) 37)
+
 sub-a : tie.Need-sub-a
-sub-a c = ?
+sub-a c = fits w64 (env c) a tt
 
--- src/reading.rt:46:13
 sub-b : tie.Need-sub-b
-sub-b c = ?
+sub-b c = fits w64 (env c) b tt
 
--- src/reading.rt:47:13
 sub-c : tie.Need-sub-c
-sub-c c = ?
+sub-c c = fits w64 (env c) c3 tt
 
--- src/reading.rt:48:17
 sub-three : tie.Need-sub-three
-sub-three c = ?
+sub-three c = fits w64 (env c) (sub c3 b) tt
 
--- src/reading.rt:48:26
 sub-three-2 : tie.Need-sub-three-2
-sub-three-2 c = ?
+sub-three-2 c = fits w64 (env c) (sub b a) tt
 
--- src/reading.rt:48:17
 sub-three-3 : tie.Need-sub-three-3
-sub-three-3 c = ?
+sub-three-3 c = fits w64 (env c) three tt
 
--- src/reading.rt:49:15
 sub-two : tie.Need-sub-two
-sub-two c = ?
+sub-two c = fits w64 (env c) (sub b a) tt
 
--- src/reading.rt:49:15
 sub-two-2 : tie.Need-sub-two-2
-sub-two-2 c = ?
+sub-two-2 c = fits w64 (env c) two tt
 
--- src/reading.rt:50:14
 mul-result : tie.Need-mul-result
-mul-result c = ?
+mul-result c = fits w64 (env c) (mul three (var 4)) tt
 
--- src/reading.rt:50:26
 mul-result-2 : tie.Need-mul-result-2
-mul-result-2 c = ?
+mul-result-2 c = fits w64 (env c) (mul two (lit (pos 4096))) tt
 
--- src/reading.rt:50:14
 add-result : tie.Need-add-result
-add-result c = ?
+add-result c = fits w64 (env c) upper tt
 
--- src/reading.rt:50:13
 mul-result-3 : tie.Need-mul-result-3
-mul-result-3 c = ?
+mul-result-3 c = fits w64 (env c) (mul upper (var 4)) tt
 
--- src/reading.rt:50:45
 add-result-2 : tie.Need-add-result-2
-add-result-2 c = ?
+add-result-2 c = fits w64 (env c) (add a b) tt
 
--- src/reading.rt:50:44
 mul-result-4 : tie.Need-mul-result-4
-mul-result-4 c = ?
+mul-result-4 c = fits w64 (env c) (mul (add a b) (lit (pos 16777216))) tt
 
--- src/reading.rt:50:13
 add-result-3 : tie.Need-add-result-3
-add-result-3 c = ?
+add-result-3 c = fits w64 (env c) lower tt
 
--- src/reading.rt:50:12
 mul-result-5 : tie.Need-mul-result-5
-mul-result-5 c = ?
+mul-result-5 c = fits w64 (env c) (mul lower (var 4)) tt
 
--- src/reading.rt:50:5
 add-result-4 : tie.Need-add-result-4
-add-result-4 c = ?
+add-result-4 c = fits w64 (env c) whole tt
 
--- src/reading.rt:40:1
 returns : tie.Need-returns
-returns c = ?
+returns c = let e = back w64 (env c) whole tt in (e, rw e (w-le (within whole (env c)) (lit≤ tt)))
 
 pub curved-spec : {M : Type 1} → statement M
 curved-spec =

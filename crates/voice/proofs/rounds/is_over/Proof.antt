@@ -1,15 +1,14 @@
+-- Both sides of the test.
+use mathlib.Core.Path.{sym}
+use borrow.Author.Tests.{le-leb, lt-leb}
 use Rattle.voice.proofs.rounds.is_over.Statement.{statement}
 use Rattle.voice.proofs.rounds.is_over.Tie as tie
-use Rattle.voice.proofs.rounds.is_over.Reads as reads
-use Rattle.voice.proofs.rounds.is_over.Lts as lts
 
--- src/rounds.rt:67:9
 returns : tie.Need-returns
-returns c = ?
+returns c = let a = c .before .args in simp (le-leb (a .limit) (a .p) (c .if1 .taken))
 
--- src/rounds.rt:63:1
 returns-2 : tie.Need-returns-2
-returns-2 c = ?
+returns-2 c = let a = c .before .args in simp (lt-leb (a .limit) (a .p) (c .if1 .left))
 
 pub is-over-spec : {M : Type 1} → statement M
 is-over-spec = tie.close (tie.spec returns returns-2)

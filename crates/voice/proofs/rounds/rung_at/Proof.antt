@@ -1,37 +1,48 @@
+-- The reading at its gain and level, by the contracts of its parts.
+use mathlib.Core.Path.{_≡_, ap, ap₂, _∙_}
+use mathlib.Core.Bool.{Bool}
+use Prim.Native.Nat.{ℕ}
+use lib.Dec.{lit<}
+use lib.IntN.{ℤ, pos, _*ℤ_}
+use mir.Syntax.{w64}
+use Rattle.arith.specs.Floors.{floorZ}
+use Rattle.arith.proofs.WithinLaws.{w-back}
+use Rattle.voice.specs.Reading.{reading}
+use Rattle.voice.specs.Internal.Rounds.{rung}
 use borrow.Author.Needs.{needs}
 use Rattle.voice.proofs.rounds.rung_at.Statement.{statement}
 use Rattle.voice.proofs.rounds.rung_at.Tie as tie
-use Rattle.voice.proofs.rounds.rung_at.Reads as reads
-use Rattle.voice.proofs.rounds.rung_at.Lts as lts
-use Rattle.voice.proofs.motion.is_folding.Reads as is-folding-reads
-use Rattle.voice.proofs.pace.level_in.Reads as level-in-reads
-use Rattle.voice.proofs.reading.read.Reads as read-reads
-use Rattle.voice.proofs.sound.at_level.Reads as at-level-reads
-use Rattle.voice.proofs.sound.scaled_by.Reads as scaled-by-reads
 
--- src/rounds.rt:55:9
 is-folding-requires : tie.Need-is-folding-requires
 is-folding-requires c κs = search needs
 
--- src/rounds.rt:56:9
 read-requires : tie.Need-read-requires
 read-requires c κs = search needs
 
--- src/rounds.rt:57:9
 scaled-by-requires : tie.Need-scaled-by-requires
 scaled-by-requires c κs = search needs
 
--- src/rounds.rt:58:9
 level-in-requires : tie.Need-level-in-requires
 level-in-requires c κs = search needs
 
--- src/rounds.rt:59:5
 at-level-requires : tie.Need-at-level-requires
 at-level-requires c κs = search needs
 
--- src/rounds.rt:51:1
 returns : tie.Need-returns
-returns c = ?
+unfolding rung
+returns c = 
+    let n = c .before in
+    let u = n .before in
+    let r = u .before in
+    let f = r .before in
+    let a = f .before .args in
+    let w = a .w .now in
+    let e = r .read .ensures .0 ∙ ap (λ (b : Bool). reading b (a .v .loopfrom) (a .v .loopto) w (a .p)) (f .is-folding .ensures) in
+    let z = rw (w-back w64 (r .read .ensures .1) (lit< tt)) at (u .scaled-by .ensures .0) ∙ ap (λ (x : ℤ). floorZ (x *ℤ pos (a .gain)) 65536) e in
+    let y =
+    rw (w-back w64 (u .scaled-by .ensures .1) (lit< tt)) at (c .at-level .ensures .0)
+    ∙ ap₂ (λ (x : ℤ) (l : ℕ). floorZ (x *ℤ pos l) 16777216) z (n .level-in .ensures) in
+    rw (w-back w64 (c .at-level .ensures .1) (lit< tt)) (y, c .at-level .ensures .1)
 
 pub rung-at-spec : {M : Type 1} → statement M
 rung-at-spec =

@@ -1,31 +1,39 @@
+-- The shares of both sides' thousandths.
+use mathlib.Core.Path.{_≡_, ap, _∙_}
+use Prim.Native.Nat.{ℕ}
+use lib.Dec.{lit<}
+use lib.IntN.{ℤ, pos, natAbs, _+ℤ_, _-ℤ_}
+use mir.Facts.{toZ-ofZ}
+use mir.Syntax.{w16, w64}
+use Rattle.arith.proofs.WithinLaws.{w-back}
+use Rattle.voice.specs.Internal.Sides.{share}
 use borrow.Author.Needs.{needs}
 use Rattle.voice.proofs.sides.sides_of.Statement.{statement}
 use Rattle.voice.proofs.sides.sides_of.Tie as tie
-use Rattle.voice.proofs.sides.sides_of.Reads as reads
-use Rattle.voice.proofs.sides.sides_of.Lts as lts
-use Rattle.voice.proofs.sides.outs.Reads as outs-reads
-use Rattle.voice.proofs.sides.pan_of.Reads as pan-of-reads
-use Rattle.voice.proofs.sides.share_of.Reads as share-of-reads
 
--- src/sides.rt:47:18
 pan-of-requires : tie.Need-pan-of-requires
 pan-of-requires c κs = search needs
 
--- src/sides.rt:47:9
 outs-requires : tie.Need-outs-requires
 outs-requires c κs = search needs
 
--- src/sides.rt:48:9
 share-of-requires : tie.Need-share-of-requires
 share-of-requires c κs = search needs
 
--- src/sides.rt:49:9
 share-of-requires-2 : tie.Need-share-of-requires-2
 share-of-requires-2 c κs = search needs
 
--- src/sides.rt:44:1
 returns : tie.Need-returns
-returns c = ?
+returns c = 
+    let b = c .before in
+    let o = b .before in
+    let p = o .before in
+    let f = p .before .fits .p in
+    let z = w-back w64 (p .pan-of .ensures .1) (lit< tt) in
+    let e = rw (toZ-ofZ f) at (p .pan-of .ensures .0) in
+    let l = rw z at (o .outs .ensures .0) ∙ ap (λ (q : ℤ). natAbs (pos 500 -ℤ q)) e in
+    let r = rw z at (o .outs .ensures .2) ∙ ap (λ (q : ℤ). natAbs (pos 500 +ℤ q)) e in
+    (b .share-of .ensures .0 ∙ ap share l, b .share-of .ensures .1, c .share-of2 .ensures .0 ∙ ap share r, c .share-of2 .ensures .1)
 
 pub sides-of-spec : {M : Type 1} → statement M
 sides-of-spec =

@@ -22,6 +22,9 @@ enum-known-s c = search needs
 level-at-requires : tie.Need-level-at-requires
 level-at-requires c κs = search needs
 
+cast-at-level : tie.Need-cast-at-level
+cast-at-level c = search needs
+
 at-level-requires : tie.Need-at-level-requires
 at-level-requires c κs = search needs
 
@@ -78,6 +81,7 @@ shape-spec =
     enum-told
     enum-known-s
     level-at-requires
+    cast-at-level
     at-level-requires
     enum-told-2
     enum-told-3
