@@ -129,12 +129,12 @@ fn one(st: u32, l: i64, g: &GainTable, w: &[i16], s: Slot, acc: &mut [i32], k: u
     Went { slot: t, frames: 1 }
 }
 
-// How many frames go in rounds: a few where a stretch may follow, else all.
+// How many frames go in rounds: a few where a stretch may follow.
 fn few(v: Voice, s: Stage, st: u32, most: usize) -> usize
-    ensures { λ r. ⌜ r ≤ most ⌝ }
+    ensures { λ r. ⌜ (r ≤ most) × (r ≤ 65536) ⌝ }
 {
     if is_uneven(v, s, st) {
-        return most;
+        return least(most as u64, 65536) as usize;
     }
     least(most as u64, 8) as usize
 }
@@ -155,7 +155,7 @@ fn onward(
     requires loss { ⌜ Within l 1099511627776 ⌝ }
     requires enters { ⌜ entered v (v .stage) ≡ s ⌝ }
     requires sums { ⌜ (2 * (k + most) ≤ length (now acc)) × From (2 * k) (now acc) ⌝ }
-    ensures count { λ r. ⌜ (r .frames ≤ most) × (0 < r .frames → RoomBy (r .frames) s) ⌝ }
+    ensures count { λ r. ⌜ (r .frames ≤ most) × (r .frames ≤ 65536) × (0 < r .frames → RoomBy (r .frames) s) ⌝ }
     ensures slot { λ r. ⌜ (0 < r .frames → afterAt st l (now (w .entry)) (r .frames) (sounds v) ≡ sounds (withMoved v (spentBy (r .frames) s) (r .place) (v .marked))) ⌝ }
     ensures sums { λ r. ⌜ now (acc .exit) ≡ addAt (2 * k) (heardAt st l (now (w .entry)) (r .frames) (sounds v)) (now (acc .entry)) ⌝ }
     ensures small { λ r. ⌜ Small 1 (heardAt st l (now (w .entry)) (r .frames) (sounds v)) ⌝ }
