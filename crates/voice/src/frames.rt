@@ -20,19 +20,23 @@ use crate::Voice;
 use crate::calm::calm;
 use crate::motion::go_on;
 use crate::motion::step_of;
+use crate::rounds::ring;
 use crate::sound::loss_of;
 use crate::sound::loud_of;
-use crate::sound::to_left;
-use crate::sound::to_right;
+use crate::sound::part_of;
+use crate::sound::sides_of;
 use crate::sound::total_of;
 use crate::stages::age_by;
 use crate::stages::enter;
 use crate::stages::envelope_of;
 use crate::stages::is_dead;
 use crate::stages::is_waiting;
+use crate::stretch::Reached;
 use crate::stretch::add_pair;
 use crate::stretch::glide;
+use crate::stretch::is_uneven;
 use crate::stretch::limit_of;
+use crate::way::way_of;
 use crate::with_moved;
 use arith::least;
 use curves::GainTable;
@@ -75,8 +79,9 @@ pub fn frame_at(st: u32, l: i64, g: &GainTable, w: &[i16], s: Slot) -> Framed
         });
     }
     let u = loud_of(l, g, w, v, e);
-    let a = to_left(u, v.pan);
-    let b = to_right(u, v.pan);
+    let d = sides_of(v.pan);
+    let a = part_of(u, d.left);
+    let b = part_of(u, d.right);
     let n = go_on(v, e, st);
     Framed {
         slot: n,
@@ -122,6 +127,37 @@ fn one(st: u32, l: i64, g: &GainTable, w: &[i16], s: Slot, acc: &mut [i32], k: u
     Went { slot: t, frames: 1 }
 }
 
+// How many frames go in rounds: a few where a stretch may follow, else all.
+fn few(v: Voice, s: Stage, st: u32, most: usize) -> usize {
+    if is_uneven(v, s, st) {
+        return most;
+    }
+    least(most as u64, 16) as usize
+}
+
+// Some frames of a stage past its delay: a stretch if one may begin, else rounds.
+fn onward(
+    v: Voice,
+    s: Stage,
+    st: u32,
+    l: i64,
+    g: &GainTable,
+    w: &[i16],
+    acc: &mut [i32],
+    k: usize,
+    most: usize,
+) -> Reached {
+    let sides = sides_of(v.pan);
+    let limit = limit_of(v, s, st, w);
+    let count = ahead(v, s, limit, most);
+    if count == 0 {
+        let way = way_of(v, s, st);
+        return ring(v, s, l, g, sides, way, w, acc, k, few(v, s, st, most));
+    }
+    let a = total_of(l, envelope_of(v, s));
+    glide(st, gain(g, a), sides, limit, w, v.place, acc, k, count)
+}
+
 // The next frames of a slot that sounds, one or more, into frame k of the sums and those behind it.
 fn go(
     st: u32,
@@ -132,26 +168,14 @@ fn go(
     acc: &mut [i32],
     k: usize,
     most: usize,
-) -> Went
-    requires tables { ⌜ now g ≡ gains ⌝ }
-    requires loss { ⌜ Within l 1099511627776 ⌝ }
-    requires sounding { ⌜ s .sounding ≡ true ⌝ }
-    requires sums { ⌜ (0 < most) × (2 * (k + most) ≤ length (now acc)) × From (2 * k) (now acc) ⌝ }
-    ensures count { λ r. ⌜ (0 < r .frames) × (r .frames ≤ most) ⌝ }
-    ensures slot { λ r. ⌜ r .slot ≡ afterAt st l (now (w .entry)) (r .frames) s ⌝ }
-    ensures sums { λ r. ⌜ now (acc .exit) ≡ addAt (2 * k) (heardAt st l (now (w .entry)) (r .frames) s) (now (acc .entry)) ⌝ }
-    ensures small { λ r. ⌜ Small 1 (heardAt st l (now (w .entry)) (r .frames) s) ⌝ }
-{
+) -> Went {
     let v = s.voice;
     let old = v.stage;
     let e = enter(v, old);
-    let limit = limit_of(v, e, st, w);
-    let count = ahead(v, e, limit, most);
-    if count == 0 {
+    let r = onward(v, e, st, l, g, w, acc, k, most);
+    if r.frames == 0 {
         return one(st, l, g, w, s, acc, k);
     }
-    let a = total_of(l, envelope_of(v, e));
-    let r = glide(st, gain(g, a), v.pan, limit, w, v.place, acc, k, count);
     let y = age_by(e, r.frames as u32);
     Went {
         slot: Slot {

@@ -3,12 +3,15 @@ mod calm;
 mod changes;
 mod frames;
 mod motion;
+mod pace;
 mod panel;
 mod reading;
 mod release;
+mod rounds;
 mod sound;
 mod stages;
 mod stretch;
+mod way;
 
 pub use changes::no_voice;
 pub use changes::with_moved;

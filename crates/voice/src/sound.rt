@@ -52,7 +52,7 @@ pub fn scaled_by(x: i64, g: u32) -> i64
 }
 
 // floor(u * level / 2^24)
-fn at_level(u: i64, g: u32) -> i64
+pub fn at_level(u: i64, g: u64) -> i64
     requires { ⌜ Within u 25600001 × (g ≤ 16777216) ⌝ }
     ensures { λ r. ⌜ (r ≡ floorZ (u *ℤ pos g) 16777216) × Within r 25600002 ⌝ }
 {
@@ -66,7 +66,7 @@ fn shape(v: Voice, s: Stage, u: i64) -> i64
 {
     match s {
         Stage::Delay { left: _ } => u,
-        Stage::Attack { t } => at_level(u, level_at(v.attack, t)),
+        Stage::Attack { t } => at_level(u, level_at(v.attack, t) as u64),
         Stage::Hold { t: _ } => u,
         Stage::Decay { t: _ } => u,
         Stage::Sustain => u,
@@ -81,30 +81,36 @@ fn pan_of(p: i16) -> i64
     hold(-500, 500, p as i64)
 }
 
-// The floor of x / 1,000, by an offset that makes it positive: `/` rounds toward zero.
-fn biased_1000(x: i64) -> i64
-    requires { ⌜ Within x 1000000000000 ⌝ }
-    ensures { λ r. ⌜ r ≡ floorZ x 1000 ⌝ }
-{
-    ((x + 1000000000000) as u64 / 1000) as i64 - 1000000000
+// What each side gets of a number, in 2^-38, rounded up.
+pub struct Sides {
+    pub left: i64,
+    pub right: i64,
 }
 
-// floor(u * (500 - p) / 1,000)
-pub fn to_left(u: i64, p: i16) -> i32
-    requires { ⌜ Within u 25600002 ⌝ }
-    ensures { λ r. ⌜ (r ≡ leftOf u p) × Within r 25600003 ⌝ }
+// k / 1,000 in 2^-38, rounded up: for numbers of a voice a product with it is floor(u * k / 1,000) once it is shifted.
+fn share_of(k: i64) -> i64
+    requires { ⌜ k ≤ℤ 1000 ⌝ }
+    ensures { λ r. ⌜ r ≡ share k ⌝ }
 {
-    let q = pan_of(p);
-    biased_1000(u * (500 - q)) as i32
+    ((k as u64 * 274877906944 + 999) / 1000) as i64
 }
 
-// floor(u * (500 + p) / 1,000)
-pub fn to_right(u: i64, p: i16) -> i32
-    requires { ⌜ Within u 25600002 ⌝ }
-    ensures { λ r. ⌜ (r ≡ rightOf u p) × Within r 25600003 ⌝ }
+// Both sides' shares at a pan.
+pub fn sides_of(p: i16) -> Sides
+    ensures { λ r. ⌜ r ≡ sidesOf p ⌝ }
 {
     let q = pan_of(p);
-    biased_1000(u * (500 + q)) as i32
+    let a = share_of(500 - q);
+    let b = share_of(500 + q);
+    Sides { left: a, right: b }
+}
+
+// One side's share of u, rounded down.
+pub fn part_of(u: i64, share: i64) -> i32
+    requires { ⌜ Within u 8388610 × Within share 274877906944 ⌝ }
+    ensures { λ r. ⌜ (r ≡ part u share) × Within r loudest ⌝ }
+{
+    ((u * share + 16777216) >> 38) as i32
 }
 
 // The reading at its gain, and in attack at its level.

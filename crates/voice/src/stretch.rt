@@ -12,9 +12,9 @@ use crate::Voice;
 use crate::motion::is_folding;
 use crate::motion::span_of;
 use crate::reading::reading_of;
+use crate::sound::Sides;
+use crate::sound::part_of;
 use crate::sound::scaled_by;
-use crate::sound::to_left;
-use crate::sound::to_right;
 use arith::least;
 
 // How far a stretch came.
@@ -23,21 +23,21 @@ pub struct Reached {
     pub place: u64,
 }
 
-// Below this place a frame reads two samples before the end, and a step leads to neither fold nor end.
+// Below this place a frame reads three samples before the end, and a step leads to neither fold nor end.
 fn bound(end: u64, len: u64, st: u64) -> u64
     requires { ⌜ end < 4294967296 ⌝ }
-    ensures clear { λ r. ⌜ ((p : ℕ) → p < r → (p / 16777216 + 1 < end) × (p / 16777216 + 1 < len) × (p + st < end * 16777216)) ⌝ }
+    ensures clear { λ r. ⌜ ((p : ℕ) → p < r → (p / 16777216 + 2 < end) × (p / 16777216 + 2 < len) × (p + st < end * 16777216)) ⌝ }
     ensures size { λ r. ⌜ r ≤ 72057594037927936 ⌝ }
 {
     let last = least(end, len);
-    if last == 0 {
+    if last < 2 {
         return 0;
     }
     let all = end * 16777216;
     if all < st {
         return 0;
     }
-    least((last - 1) * 16777216, all - st)
+    least((last - 2) * 16777216, all - st)
 }
 
 // The loop's end, or the window's if it does not fold.
@@ -50,25 +50,55 @@ fn end_of(v: Voice, s: Stage) -> u64
     span_of(v)
 }
 
-// The place from which on a stretch may not go.
-pub fn limit_of(v: Voice, s: Stage, st: u32, w: &[i16]) -> u64
-    ensures clear { λ r. ⌜ ((p : ℕ) → p < r → Clear (now (w .entry)) v s st p) ⌝ }
-    ensures size { λ r. ⌜ r ≤ 72057594037927936 ⌝ }
-{
+// A loop of less than 64 steps.
+fn is_short(v: Voice, s: Stage, st: u32) -> bool {
+    if !is_folding(v, s) {
+        return false;
+    }
+    ((v.loopto - v.loopfrom) as u64) * 16777216 < 64 * (st as u64)
+}
+
+// Stages in which the gain or the level is another in each 16 frames or sooner.
+fn is_quick(v: Voice, s: Stage) -> bool {
+    match s {
+        Stage::Delay { left: _ } => true,
+        Stage::Attack { t: _ } => true,
+        Stage::Hold { t: _ } => false,
+        Stage::Decay { t: _ } => v.decay < 16000,
+        Stage::Sustain => false,
+        Stage::Release { from: _, t: _ } => v.release < 16000,
+    }
+}
+
+// Whether stretches would be too short to be worth their start.
+pub fn is_uneven(v: Voice, s: Stage, st: u32) -> bool {
+    if is_quick(v, s) {
+        return true;
+    }
+    is_short(v, s, st)
+}
+
+// The place from which on a stretch may not go; 0 where none may begin.
+pub fn limit_of(v: Voice, s: Stage, st: u32, w: &[i16]) -> u64 {
+    if v.place < 16777216 || st == 0 {
+        return 0;
+    }
+    if is_uneven(v, s, st) {
+        return 0;
+    }
     let end = end_of(v, s);
     bound(end, w.len() as u64, st as u64)
 }
 
 // The reading between a sample and the next.
-fn read_on(w: &[i16], p: u64) -> i64
-    requires { ⌜ p / 16777216 + 1 < length (now w) ⌝ }
-    ensures { λ r. ⌜ (r ≡ interpolated (sample (now (w .entry)) (p / 16777216)) (sample (now (w .entry)) (p / 16777216 + 1)) (p % 16777216)) × Within r 100000 ⌝ }
-{
+fn read_on(w: &[i16], p: u64) -> i64 {
     let i = (p / 16777216) as usize;
-    let f = (p % 16777216) as u32;
-    let a = w[i];
-    let b = w[i + 1];
-    reading_of(a, b, f)
+    let q = (p % 16777216 / 4096) as u32;
+    let x0 = w[i - 1];
+    let x1 = w[i];
+    let x2 = w[i + 1];
+    let x3 = w[i + 2];
+    reading_of(x0, x1, x2, x3, q)
 }
 
 // A frame's two numbers, added into frame k of the sums.
@@ -87,7 +117,7 @@ pub fn add_pair(acc: &mut [i32], k: usize, left: i32, right: i32)
 pub fn glide(
     st: u32,
     gain: u32,
-    pan: i16,
+    sides: Sides,
     limit: u64,
     w: &[i16],
     from: u64,
@@ -103,19 +133,14 @@ pub fn glide(
     ensures sums { λ r. ⌜ now (acc .exit) ≡ addAt (2 * k) (plains gain pan (now (w .entry)) st from (r .frames)) (now (acc .entry)) ⌝ }
     ensures small { λ r. ⌜ Small 1 (plains gain pan (now (w .entry)) st from (r .frames)) ⌝ }
 {
+    let end = least(limit, from + (most as u64) * (st as u64));
     let mut p = from;
     let mut m: usize = 0;
-    while m < most {
-        if limit <= p {
-            return Reached {
-                frames: m,
-                place: p,
-            };
-        }
+    while p < end {
         let x = read_on(w, p);
         let u = scaled_by(x, gain);
-        let a = to_left(u, pan);
-        let b = to_right(u, pan);
+        let a = part_of(u, sides.left);
+        let b = part_of(u, sides.right);
         add_pair(acc, k + m, a, b);
         p = p + (st as u64);
         m = m + 1;
