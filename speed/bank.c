@@ -10,7 +10,7 @@
    lowest at the lowest, 28,244 frames a sample).
    STAGE, the first that lasts at all: decay (some 100 seconds, 1,200 cB down, where to find a gain costs most), noise (the same by samples of chance, half of
    them at an end of the 16 bits), loud (noise in bell's decay, for a hash that tells), attack (as long as decay, as far down), quick (a decay of 1,000 frames,
-   each with a gain of its own, from 440 to 1,440 cB in all), delay (18 seconds). */
+   each with a gain of its own, from 440 to 1,440 cB in all), slow (a decay of 16,000 frames, each 16 of them with a gain), hold, delay (18 seconds each). */
 #include <math.h>
 #include <stdint.h>
 #include <stdio.h>
@@ -140,6 +140,8 @@ static int dear(const char *kind) {
     if (!strcmp(stage, "decay") || !strcmp(stage, "noise")) given.decay = 8000, given.sustain = 1000, given.loss = 1200;
     else if (!strcmp(stage, "attack")) given.attack = 8000, given.loss = 1200;
     else if (!strcmp(stage, "quick")) given.decay = -6555, given.sustain = 1000, given.loss = 358;
+    else if (!strcmp(stage, "slow")) given.decay = -1755, given.sustain = 1000, given.loss = 1100;
+    else if (!strcmp(stage, "hold")) given.hold = 5000, given.loss = 1200;
     else if (!strcmp(stage, "delay")) given.delay = 5000;
     else if (!strcmp(stage, "loud")) given.loss = 220; /* so that the sum of 32 is not held */
     else return 0;
@@ -166,7 +168,7 @@ int main(int argc, char **argv) {
     int kind = 0;
     while (argc == 4 && kind < 6 && strcmp(argv[1], kinds[kind])) kind++;
     if (argc != 4 || (kind == 6 && !dear(argv[1])))
-        return fprintf(stderr, "bank bell|middle|full|short|deep|wide|LOOP-keys|one|high|low-decay|noise|loud|attack|quick|delay IN SF2\n"), 2;
+        return fprintf(stderr, "bank bell|middle|full|short|deep|wide|LOOP-keys|one|high|low-decay|noise|loud|attack|quick|slow|hold|delay IN SF2\n"), 2;
     if (kind == 4) deep();
     else if (kind == 5) wide();
     else if (kind < 4) lists(kind == 3, kind == 1 ? 8000 : kind == 2 ? 65536 : 0);
