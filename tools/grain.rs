@@ -18,8 +18,8 @@ const RENDERS: u32 = 17;
 const UP: u8 = 18;
 const FULL: f64 = 32767.0;
 
-/// The step, by 01's rule: the octave table's entry for 600 cents is the largest T with T^1200 <= 2^36600, that is T^2 <= 2^61; at 44,100, an octave up
-/// and 2^-24 samples of it, T is divided by 2^5.
+/// The step in 2^-24 samples, by 01's rule for 1,800 = 1,200 * 1 + 600 cents at 44,100: floor(T / 2^(6 - 1)), where T is the largest whole number with
+/// T^1200 <= 2^(600 + 36,000), that is T^2 <= 2^61.
 fn step() -> u64 {
     let mut t: u64 = 1 << 30;
     for bit in (0..30).rev() {
