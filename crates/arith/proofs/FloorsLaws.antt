@@ -1,13 +1,14 @@
 -- `floorZ x d` by an offset, where `/` rounds toward zero; and that it is the floor.
 use mathlib.Core.Path.{_≡_, ap, _∙_, sym, subst, refl}
-use mathlib.Core.Bool.{Bool, cond}
+use mathlib.Core.Bool.{Bool, true, false, cond}
 use Prim.Native.Nat.{ℕ, suc, _-_, _≤_, _<_, _+_, _*_, _/_, _%_, zero}
-use lib.IntN.{pos, negsuc, subℕ, ℤ, _+ℤ_, natAbs, _-ℤ_, +ℤ-negℤ-cancel, negℤ, _*ℤ_}
-use borrow.Author.Tests.{le-ltb, lt-ltb}
+use lib.IntN.{pos, negsuc, subℕ, ℤ, _+ℤ_, natAbs, _-ℤ_, +ℤ-negℤ-cancel, -ℤ-+ℤ-cancel, negℤ, _*ℤ_, ℤ-ind, zero-*ℤ, sucℤ-*ℤ, +ℤ-idl, +ℤ-assoc, +ℤ-comm, +ℤ-one}
+use borrow.Author.Tests.{le-ltb, lt-ltb, ltb-true, ltb-false}
 use lib.Signed.{nonNeg, _≤ℤ_, ltZ, _<ℤ_}
-use lib.Dec.{T, le→leb, lt→ltb}
-use native.Mathlib.Nat.{div-lt-iff-lt-mul, div-add-mod', mod-lt, suc-mul, add-mul, add-mul-div-right, div-mul-le-self, zero-mul, mul-pos}
+use lib.Dec.{T, ltb, le→leb, lt→ltb}
+use native.Mathlib.Nat.{div-lt-iff-lt-mul, div-add-mod', mod-lt, suc-mul, add-mul, add-mul-div-right, div-mul-le-self, zero-mul, mul-pos, div-eq-of-lt}
 use native.Mathlib.Omega.{arith}
+use mathlib.Core.Logic.{_⊎_, inl, inr, ⊎-elim}
 use lib.Arith.{digits-div}
 use Rattle.arith.specs.Within.{Within}
 use Rattle.arith.specs.Floors.{floorZ, modZ}
@@ -94,3 +95,88 @@ pub mod-lift : (x : ℤ) → Within x 32768 → natAbs (x +ℤ pos 32768) % 4 �
 unfolding modZ
 mod-lift (pos a) h = omega arith
 mod-lift (negsuc a) h = rw (sub-pos 32768 (suc a) (h .within)) (omega (arith, h .within))
+
+-- ---- a whole number of times more
+up-one : (q : ℕ) → negsuc (suc q) +ℤ pos 1 ≡ negsuc q
+up-one q = sub-neg 1 (suc (suc q)) (omega arith) ∙ ap negsuc (omega arith)
+
+-- below or not
+lt-or-le : (a b : ℕ) → (a < b) ⊎ (b ≤ a)
+lt-or-le a b = by (ltb a b) refl
+  where
+    by : (t : Bool) → ltb a b ≡ t → (a < b) ⊎ (b ≤ a)
+    by true e = inl (ltb-true a b e)
+    by false e = inr (ltb-false a b e)
+
+-- d more is one more
+floor-up : (s : ℤ) (d : ℕ) → 0 < d → floorZ (s +ℤ pos d) d ≡ floorZ s d +ℤ pos 1
+floor-up (pos a) d p = ap pos (ap (λ (n : ℕ). n / d) (one-d a d) ∙ add-mul-div-right a 1 p)
+  where
+    one-d : (a d : ℕ) → a + d ≡ a + 1 * d
+    one-d a d = omega arith
+floor-up (negsuc a) d p = ⊎-elim (λ (l : a < d). near l) (λ (g : d ≤ a). far g) (lt-or-le a d)
+  where
+    near : a < d → floorZ (negsuc a +ℤ pos d) d ≡ negsuc (a / d) +ℤ pos 1
+    near l =
+        ap (λ (z : ℤ). floorZ z d) (sub-pos d (suc a) (omega arith))
+        ∙ ap pos (div-eq-of-lt (small a d l))
+        ∙ sym (ap (λ (q : ℕ). negsuc q +ℤ pos 1) (div-eq-of-lt l))
+      where
+        small : (a d : ℕ) → a < d → d - suc a < d
+        small a d l = omega arith
+
+    far : d ≤ a → floorZ (negsuc a +ℤ pos d) d ≡ negsuc (a / d) +ℤ pos 1
+    far g =
+        ap (λ (z : ℤ). floorZ z d) (sub-neg d (suc a) (omega arith) ∙ ap negsuc (shift a d g))
+        ∙ sym (up-one ((a - d) / d))
+        ∙ sym (ap (λ (q : ℕ). negsuc q +ℤ pos 1) (ap (λ (n : ℕ). n / d) (split a d g) ∙ add-mul-div-right (a - d) 1 p ∙ plus-one ((a - d) / d)))
+      where
+        shift : (a d : ℕ) → d ≤ a → suc a - suc d ≡ a - d
+        shift a d g = omega arith
+
+        split : (a d : ℕ) → d ≤ a → a ≡ a - d + 1 * d
+        split a d g = omega arith
+
+        plus-one : (q : ℕ) → q + 1 ≡ suc q
+        plus-one q = omega arith
+
+-- a number of times d stands outside
+pub floor-add : (z r : ℤ) (d : ℕ) → 0 < d → floorZ (z *ℤ pos d +ℤ r) d ≡ z +ℤ floorZ r d
+floor-add z r d p =
+    ℤ-ind (λ (z : ℤ). floorZ (z *ℤ pos d +ℤ r) d ≡ z +ℤ floorZ r d)
+    (ap (λ (x : ℤ). floorZ x d) (ap (λ (x : ℤ). x +ℤ r) (zero-*ℤ (pos d)) ∙ +ℤ-idl r) ∙ sym (+ℤ-idl (floorZ r d)))
+    (λ n h. more (pos n) h)
+    (λ n h. less (negℤ (pos n)) h)
+    z
+  where
+    times : (z : ℤ) → (z +ℤ pos 1) *ℤ pos d +ℤ r ≡ z *ℤ pos d +ℤ r +ℤ pos d
+    times z =
+        ap (λ (x : ℤ). x *ℤ pos d +ℤ r) (+ℤ-one z)
+        ∙ ap (λ (x : ℤ). x +ℤ r) (sucℤ-*ℤ z (pos d))
+        ∙ +ℤ-assoc (z *ℤ pos d) (pos d) r
+        ∙ ap (λ (x : ℤ). z *ℤ pos d +ℤ x) (+ℤ-comm (pos d) r)
+        ∙ sym (+ℤ-assoc (z *ℤ pos d) r (pos d))
+
+    beside : (z f : ℤ) → z +ℤ f +ℤ pos 1 ≡ z +ℤ pos 1 +ℤ f
+    beside z f = +ℤ-assoc z f (pos 1) ∙ ap (λ (x : ℤ). z +ℤ x) (+ℤ-comm f (pos 1)) ∙ sym (+ℤ-assoc z (pos 1) f)
+
+    more : (z : ℤ) → floorZ (z *ℤ pos d +ℤ r) d ≡ z +ℤ floorZ r d → floorZ ((z +ℤ pos 1) *ℤ pos d +ℤ r) d ≡ z +ℤ pos 1 +ℤ floorZ r d
+    more z h =
+        ap (λ (x : ℤ). floorZ x d) (times z)
+        ∙ floor-up (z *ℤ pos d +ℤ r) d p
+        ∙ ap (λ (x : ℤ). x +ℤ pos 1) h
+        ∙ beside z (floorZ r d)
+
+    less : (z : ℤ) → floorZ (z *ℤ pos d +ℤ r) d ≡ z +ℤ floorZ r d
+        → floorZ ((z +ℤ negℤ (pos 1)) *ℤ pos d +ℤ r) d ≡ z +ℤ negℤ (pos 1) +ℤ floorZ r d
+    less z h =
+        let y = z +ℤ negℤ (pos 1) in
+        let b : y +ℤ pos 1 ≡ z = -ℤ-+ℤ-cancel z (pos 1) in
+        let up : floorZ (y *ℤ pos d +ℤ r) d +ℤ pos 1 ≡ z +ℤ floorZ r d =
+        sym (floor-up (y *ℤ pos d +ℤ r) d p)
+        ∙ ap (λ (x : ℤ). floorZ x d) (sym (times y))
+        ∙ ap (λ (x : ℤ). floorZ (x *ℤ pos d +ℤ r) d) b
+        ∙ h in
+        sym (+ℤ-negℤ-cancel (floorZ (y *ℤ pos d +ℤ r) d) (pos 1))
+        ∙ ap (λ (x : ℤ). x -ℤ pos 1) (up ∙ ap (λ (x : ℤ). x +ℤ floorZ r d) (sym b) ∙ sym (beside y (floorZ r d)))
+        ∙ +ℤ-negℤ-cancel (y +ℤ floorZ r d) (pos 1)

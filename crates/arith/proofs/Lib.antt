@@ -2,6 +2,8 @@ pub mod BytesLaws
 pub mod Expressions
 pub mod FloatsLaws
 pub mod FloorsLaws
+pub mod RingLaws
+pub mod Linear
 pub mod HoldsLaws
 pub mod Loops
 pub mod Put

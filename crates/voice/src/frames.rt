@@ -8,10 +8,11 @@ ghost use Rattle.curves.specs.Levels.{gains};
 ghost use Rattle.curves.specs.Octave.{octaves};
 ghost use Rattle.voice.specs.Frames.{after, silent, frameAt};
 ghost use Rattle.voice.specs.Internal.Frames.{heard, afterAt, heardAt};
-ghost use Rattle.voice.specs.Stages.{dead};
+ghost use Rattle.voice.specs.Changes.{withMoved, sounds};
+ghost use Rattle.voice.specs.Stages.{dead, entered, spentBy};
 ghost use Rattle.voice.specs.Internal.Calm.{Calms};
 ghost use Rattle.voice.specs.Internal.Stages.{RoomBy};
-ghost use Rattle.voice.specs.Internal.Sums.{addTo, addAt, Small, From};
+ghost use Rattle.voice.specs.Internal.Sums.{addTo, addAt, loudest, Small, From};
 use crate::Channel;
 use crate::Framed;
 use crate::Slot;
@@ -21,10 +22,10 @@ use crate::calm::calm;
 use crate::motion::go_on;
 use crate::motion::step_of;
 use crate::rounds::ring;
+use crate::sides::part_of;
+use crate::sides::sides_of;
 use crate::sound::loss_of;
 use crate::sound::loud_of;
-use crate::sound::part_of;
-use crate::sound::sides_of;
 use crate::sound::total_of;
 use crate::stages::age_by;
 use crate::stages::enter;
@@ -57,7 +58,7 @@ fn silent_at(s: Slot) -> Framed
 // One frame of a slot whose step is st and whose loss is l.
 pub fn frame_at(st: u32, l: i64, g: &GainTable, w: &[i16], s: Slot) -> Framed
     requires { ⌜ (now g ≡ gains) × Within l 1099511627776 ⌝ }
-    ensures { λ r. ⌜ (r ≡ frameAt st l (now (w .entry)) s) × Within (r .left) 25600003 × Within (r .right) 25600003 ⌝ }
+    ensures { λ r. ⌜ (r ≡ frameAt st l (now (w .entry)) s) × Within (r .left) loudest × Within (r .right) loudest ⌝ }
 {
     if !s.sounding {
         return silent_at(s);
@@ -128,14 +129,16 @@ fn one(st: u32, l: i64, g: &GainTable, w: &[i16], s: Slot, acc: &mut [i32], k: u
 }
 
 // How many frames go in rounds: a few where a stretch may follow, else all.
-fn few(v: Voice, s: Stage, st: u32, most: usize) -> usize {
+fn few(v: Voice, s: Stage, st: u32, most: usize) -> usize
+    ensures { λ r. ⌜ r ≤ most ⌝ }
+{
     if is_uneven(v, s, st) {
         return most;
     }
     least(most as u64, 16) as usize
 }
 
-// Some frames of a stage past its delay: a stretch if one may begin, else rounds.
+// The next frames of a voice in stage s: a stretch if one may begin, else rounds; none where neither may.
 fn onward(
     v: Voice,
     s: Stage,
@@ -146,7 +149,16 @@ fn onward(
     acc: &mut [i32],
     k: usize,
     most: usize,
-) -> Reached {
+) -> Reached
+    requires tables { ⌜ now g ≡ gains ⌝ }
+    requires loss { ⌜ Within l 1099511627776 ⌝ }
+    requires enters { ⌜ entered v (v .stage) ≡ s ⌝ }
+    requires sums { ⌜ (2 * (k + most) ≤ length (now acc)) × From (2 * k) (now acc) ⌝ }
+    ensures count { λ r. ⌜ (r .frames ≤ most) × (0 < r .frames → RoomBy (r .frames) s) ⌝ }
+    ensures slot { λ r. ⌜ (0 < r .frames → afterAt st l (now (w .entry)) (r .frames) (sounds v) ≡ sounds (withMoved v (spentBy (r .frames) s) (r .place) (v .marked))) ⌝ }
+    ensures sums { λ r. ⌜ now (acc .exit) ≡ addAt (2 * k) (heardAt st l (now (w .entry)) (r .frames) (sounds v)) (now (acc .entry)) ⌝ }
+    ensures small { λ r. ⌜ Small 1 (heardAt st l (now (w .entry)) (r .frames) (sounds v)) ⌝ }
+{
     let sides = sides_of(v.pan);
     let limit = limit_of(v, s, st, w);
     let count = ahead(v, s, limit, most);
@@ -168,7 +180,16 @@ fn go(
     acc: &mut [i32],
     k: usize,
     most: usize,
-) -> Went {
+) -> Went
+    requires tables { ⌜ now g ≡ gains ⌝ }
+    requires loss { ⌜ Within l 1099511627776 ⌝ }
+    requires sounding { ⌜ s .sounding ≡ true ⌝ }
+    requires sums { ⌜ (0 < most) × (2 * (k + most) ≤ length (now acc)) × From (2 * k) (now acc) ⌝ }
+    ensures count { λ r. ⌜ (0 < r .frames) × (r .frames ≤ most) ⌝ }
+    ensures slot { λ r. ⌜ r .slot ≡ afterAt st l (now (w .entry)) (r .frames) s ⌝ }
+    ensures sums { λ r. ⌜ now (acc .exit) ≡ addAt (2 * k) (heardAt st l (now (w .entry)) (r .frames) s) (now (acc .entry)) ⌝ }
+    ensures small { λ r. ⌜ Small 1 (heardAt st l (now (w .entry)) (r .frames) s) ⌝ }
+{
     let v = s.voice;
     let old = v.stage;
     let e = enter(v, old);

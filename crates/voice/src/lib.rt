@@ -8,6 +8,7 @@ mod panel;
 mod reading;
 mod release;
 mod rounds;
+mod sides;
 mod sound;
 mod stages;
 mod stretch;

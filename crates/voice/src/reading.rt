@@ -1,7 +1,7 @@
 // The reading at a place of the window.
 ghost use mathlib.Core.Path.{_≡_};
-ghost use Prim.Native.Nat.{_<_, _≤_};
-ghost use lib.IntN.{_+ℤ_};
+ghost use Prim.Native.Nat.{_<_};
+ghost use lib.IntN.{_+ℤ_, _-ℤ_};
 ghost use Rattle.arith.specs.Floors.{floorZ};
 ghost use Rattle.arith.specs.Within.{Within};
 ghost use Rattle.voice.specs.Internal.Reading.{risen};
@@ -36,11 +36,11 @@ fn before_at(w: &[i16], i: usize) -> i16
     if i == 0 { 0 } else { sample_at(w, i - 1) }
 }
 
-// The sum of the four points over 2 * 4,096^3, by Horner's rule; x1 stands outside, as 2 * 4,096^3 of it divide evenly.
+// The sum of the four points over 2 * 4,096^3. The whole of x1 stands outside; the rest goes by the differences and by Horner's rule.
 fn curved(x0: i64, x1: i64, x2: i64, x3: i64, q: i64) -> i64
     requires points { ⌜ Within x0 32768 × Within x1 32768 × Within x2 32768 × Within x3 32768 ⌝ }
     requires part { ⌜ Within q 4096 ⌝ }
-    ensures { λ r. ⌜ (r ≡ x1 +ℤ floorZ (risen x0 x1 x2 x3 q) 137438953472) × Within r 1099511627776 ⌝ }
+    ensures { λ r. ⌜ (r ≡ x1 +ℤ floorZ (risen (x1 -ℤ x0) (x2 -ℤ x1) (x3 -ℤ x2) q) 137438953472) × Within r 1099511627776 ⌝ }
 {
     let a = x1 - x0;
     let b = x2 - x1;

@@ -1,11 +1,11 @@
-// Sound: attenuation, gain, the attack's level, left and right.
+// Sound: attenuation, gain, the attack's level.
 ghost use mathlib.Core.Path.{_≡_};
 ghost use Prim.Native.Nat.{_≤_, _<_};
 ghost use lib.IntN.{pos, _+ℤ_, _*ℤ_};
 ghost use Rattle.arith.specs.Within.{Within};
 ghost use Rattle.arith.specs.Floors.{floorZ};
 ghost use Rattle.curves.specs.Levels.{gains, cbOf};
-ghost use Rattle.voice.specs.Sound.{wholeLoss, shaped, panOf, leftOf, rightOf};
+ghost use Rattle.voice.specs.Sound.{wholeLoss, shaped};
 ghost use Rattle.voice.specs.Frames.{loud};
 use crate::Stage;
 use crate::Voice;
@@ -13,7 +13,6 @@ use crate::motion::is_folding;
 use crate::reading::read;
 use crate::stages::envelope_of;
 use crate::stages::level_at;
-use arith::hold;
 use curves::GainTable;
 use curves::cb_of;
 use curves::gain;
@@ -45,24 +44,24 @@ pub fn total_of(l: i64, e: u64) -> u64
 
 // floor(x * g / 2^16)
 pub fn scaled_by(x: i64, g: u32) -> i64
-    requires { ⌜ Within x 100000 × (g ≤ 16777216) ⌝ }
-    ensures { λ r. ⌜ (r ≡ floorZ (x *ℤ pos g) 65536) × Within r 25600001 ⌝ }
+    requires { ⌜ Within x 32768 × (g ≤ 16777216) ⌝ }
+    ensures { λ r. ⌜ (r ≡ floorZ (x *ℤ pos g) 65536) × Within r 8388609 ⌝ }
 {
     (x * (g as i64)) >> 16
 }
 
 // floor(u * level / 2^24)
-pub fn at_level(u: i64, g: u64) -> i64
-    requires { ⌜ Within u 25600001 × (g ≤ 16777216) ⌝ }
-    ensures { λ r. ⌜ (r ≡ floorZ (u *ℤ pos g) 16777216) × Within r 25600002 ⌝ }
+pub fn at_level(u: i64, level: u64) -> i64
+    requires { ⌜ Within u 8388609 × (level ≤ 16777216) ⌝ }
+    ensures { λ r. ⌜ (r ≡ floorZ (u *ℤ pos level) 16777216) × Within r 8388610 ⌝ }
 {
-    (u * (g as i64)) >> 24
+    (u * (level as i64)) >> 24
 }
 
 // In attack, at its level.
 fn shape(v: Voice, s: Stage, u: i64) -> i64
-    requires { ⌜ Within u 25600001 ⌝ }
-    ensures { λ r. ⌜ (r ≡ shaped v s u) × Within r 25600002 ⌝ }
+    requires { ⌜ Within u 8388609 ⌝ }
+    ensures { λ r. ⌜ (r ≡ shaped v s u) × Within r 8388610 ⌝ }
 {
     match s {
         Stage::Delay { left: _ } => u,
@@ -74,49 +73,10 @@ fn shape(v: Voice, s: Stage, u: i64) -> i64
     }
 }
 
-// The pan, held to -500..500.
-fn pan_of(p: i16) -> i64
-    ensures { λ r. ⌜ (r ≡ panOf p) × Within r 500 ⌝ }
-{
-    hold(-500, 500, p as i64)
-}
-
-// What each side gets of a number, in 2^-38, rounded up.
-pub struct Sides {
-    pub left: i64,
-    pub right: i64,
-}
-
-// k / 1,000 in 2^-38, rounded up: for numbers of a voice a product with it is floor(u * k / 1,000) once it is shifted.
-fn share_of(k: i64) -> i64
-    requires { ⌜ k ≤ℤ 1000 ⌝ }
-    ensures { λ r. ⌜ r ≡ share k ⌝ }
-{
-    ((k as u64 * 274877906944 + 999) / 1000) as i64
-}
-
-// Both sides' shares at a pan.
-pub fn sides_of(p: i16) -> Sides
-    ensures { λ r. ⌜ r ≡ sidesOf p ⌝ }
-{
-    let q = pan_of(p);
-    let a = share_of(500 - q);
-    let b = share_of(500 + q);
-    Sides { left: a, right: b }
-}
-
-// One side's share of u, rounded down.
-pub fn part_of(u: i64, share: i64) -> i32
-    requires { ⌜ Within u 8388610 × Within share 274877906944 ⌝ }
-    ensures { λ r. ⌜ (r ≡ part u share) × Within r loudest ⌝ }
-{
-    ((u * share + 16777216) >> 38) as i32
-}
-
 // The reading at its gain, and in attack at its level.
 pub fn loud_of(l: i64, g: &GainTable, w: &[i16], v: Voice, s: Stage) -> i64
     requires { ⌜ (now g ≡ gains) × Within l 1099511627776 ⌝ }
-    ensures { λ r. ⌜ (r ≡ loud l (now (w .entry)) v s) × Within r 25600002 ⌝ }
+    ensures { λ r. ⌜ (r ≡ loud l (now (w .entry)) v s) × Within r 8388610 ⌝ }
 {
     let f = is_folding(v, s);
     let x = read(f, v.loopfrom, v.loopto, w, v.place);

@@ -4,18 +4,18 @@ ghost use mathlib.Core.List.{[], _∷_};
 ghost use Prim.Native.Nat.{ℕ, _+_, _*_, _/_, _%_, _<_, _≤_};
 ghost use lib.ListN.{length};
 ghost use Rattle.arith.specs.Within.{Within};
-ghost use Rattle.voice.specs.Reading.{sample, interpolated};
 ghost use Rattle.voice.specs.Internal.Sums.{addAt, From, Small, loudest};
-ghost use Rattle.voice.specs.Internal.Stretch.{top, Clear, plains};
+ghost use Rattle.voice.specs.Internal.Stretch.{top, Clear, between, plains};
 use crate::Stage;
 use crate::Voice;
 use crate::motion::is_folding;
 use crate::motion::span_of;
 use crate::reading::reading_of;
-use crate::sound::Sides;
-use crate::sound::part_of;
+use crate::sides::Sides;
+use crate::sides::part_of;
 use crate::sound::scaled_by;
 use arith::least;
+use arith::less;
 
 // How far a stretch came.
 pub struct Reached {
@@ -55,10 +55,10 @@ fn is_short(v: Voice, s: Stage, st: u32) -> bool {
     if !is_folding(v, s) {
         return false;
     }
-    ((v.loopto - v.loopfrom) as u64) * 16777216 < 64 * (st as u64)
+    (less(v.loopto, v.loopfrom) as u64) * 16777216 < 64 * (st as u64)
 }
 
-// Stages in which the gain or the level is another in each 16 frames or sooner.
+// A stage in which the level rises, or the gain is another one after less than 16 frames.
 fn is_quick(v: Voice, s: Stage) -> bool {
     match s {
         Stage::Delay { left: _ } => true,
@@ -79,8 +79,15 @@ pub fn is_uneven(v: Voice, s: Stage, st: u32) -> bool {
 }
 
 // The place from which on a stretch may not go; 0 where none may begin.
-pub fn limit_of(v: Voice, s: Stage, st: u32, w: &[i16]) -> u64 {
-    if v.place < 16777216 || st == 0 {
+pub fn limit_of(v: Voice, s: Stage, st: u32, w: &[i16]) -> u64
+    ensures clear { λ r. ⌜ ((p : ℕ) → p < r → Clear (now (w .entry)) v s st p) ⌝ }
+    ensures begins { λ r. ⌜ (0 < r → (16777216 ≤ v .place) × (0 < st)) ⌝ }
+    ensures size { λ r. ⌜ r ≤ 72057594037927936 ⌝ }
+{
+    if v.place < 16777216 {
+        return 0;
+    }
+    if st == 0 {
         return 0;
     }
     if is_uneven(v, s, st) {
@@ -90,8 +97,11 @@ pub fn limit_of(v: Voice, s: Stage, st: u32, w: &[i16]) -> u64 {
     bound(end, w.len() as u64, st as u64)
 }
 
-// The reading between a sample and the next.
-fn read_on(w: &[i16], p: u64) -> i64 {
+// The reading between a sample and the next, away from the window's ends.
+fn read_on(w: &[i16], p: u64) -> i64
+    requires { ⌜ (16777216 ≤ p) × (p / 16777216 + 2 < length (now w)) ⌝ }
+    ensures { λ r. ⌜ (r ≡ between (now (w .entry)) (p / 16777216) (p % 16777216 / 4096)) × Within r 32768 ⌝ }
+{
     let i = (p / 16777216) as usize;
     let q = (p % 16777216 / 4096) as u32;
     let x0 = w[i - 1];
@@ -125,14 +135,16 @@ pub fn glide(
     k: usize,
     most: usize,
 ) -> Reached
-    requires level { ⌜ gain ≤ 16777216 ⌝ }
-    requires window { ⌜ (limit ≤ 72057594037927936) × ((p : ℕ) → p < limit → p / 16777216 + 1 < length (now w)) ⌝ }
+    requires level { ⌜ (gain ≤ 16777216) × (sides .left ≤ 274877906944) × (sides .right ≤ 274877906944) ⌝ }
+    requires window { ⌜ (limit ≤ 72057594037927936) × ((p : ℕ) → p < limit → p / 16777216 + 2 < length (now w)) ⌝ }
+    requires begins { ⌜ (0 < st) × (16777216 ≤ from) × (from < limit) × (most < 4294967296) ⌝ }
     requires sums { ⌜ (2 * (k + most) ≤ length (now acc)) × From (2 * k) (now acc) ⌝ }
-    ensures count { λ r. ⌜ (r .frames ≤ most) × (0 < most → from < limit → 0 < r .frames) ⌝ }
+    ensures count { λ r. ⌜ r .frames ≤ most ⌝ }
     ensures place { λ r. ⌜ (r .place ≡ from + r .frames * st) × ((j : ℕ) → j < r .frames → from + j * st < limit) ⌝ }
-    ensures sums { λ r. ⌜ now (acc .exit) ≡ addAt (2 * k) (plains gain pan (now (w .entry)) st from (r .frames)) (now (acc .entry)) ⌝ }
-    ensures small { λ r. ⌜ Small 1 (plains gain pan (now (w .entry)) st from (r .frames)) ⌝ }
+    ensures sums { λ r. ⌜ now (acc .exit) ≡ addAt (2 * k) (plains gain (sides .left) (sides .right) (now (w .entry)) st from (r .frames)) (now (acc .entry)) ⌝ }
+    ensures small { λ r. ⌜ Small 1 (plains gain (sides .left) (sides .right) (now (w .entry)) st from (r .frames)) ⌝ }
 {
+    // one test a frame: the limit, or where the last of so many frames leads
     let end = least(limit, from + (most as u64) * (st as u64));
     let mut p = from;
     let mut m: usize = 0;

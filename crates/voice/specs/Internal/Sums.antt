@@ -7,7 +7,7 @@ use Rattle.arith.specs.Within.{Within}
 
 -- the most that one voice adds to a sum, up or down
 abbrev pub loudest : ℕ
-loudest = 25600003
+loudest = 8388611
 
 -- the first elements of ys, each with its element of xs added
 unfoldable pub addTo : List ℤ → List ℤ → List ℤ
