@@ -135,22 +135,15 @@ impl Voice {
         }
     }
 
-    /// x0 + floor((x1 - x0)·fraction/2^24). While it folds, behind the loop's last sample stands its first; otherwise
-    /// behind the window's last stands 0. Elsewhere x1 is the next sample.
+    /// The four points (02, M-100), x1 at the place. x0 is the sample before it. While it folds, behind the loop's last
+    /// sample stands its first. In front of the window's first sample and behind its last stand zeros.
     fn reading(&self, memory: &[i16]) -> i64 {
         let w = &self.numbers.window;
+        let next = |place: i64| if self.folds() && place == w.loop_end - 1 { w.loop_start } else { place + 1 };
+        let sample = |place: i64| if (w.start..w.end).contains(&place) { memory[place as usize] as i64 } else { 0 };
         let at = w.start + (self.place >> 24) as i64;
-        let fraction = (self.place & 0xFF_FFFF) as i64;
-        let sample = |place: i64| memory[place as usize] as i64;
-        let x0 = sample(at);
-        let x1 = if self.folds() && at == w.loop_end - 1 {
-            sample(w.loop_start)
-        } else if !self.folds() && at == w.end - 1 {
-            0
-        } else {
-            sample(at + 1)
-        };
-        x0 + ((x1 - x0) * fraction).div_euclid(FULL)
+        let points = [at - 1, at, next(at), next(next(at))].map(sample);
+        between(points, (self.place & 0xFF_FFFF) as i64 >> 12)
     }
 
     /// The step for the pitch total with the bend, held to -9,600..4,800.
@@ -210,6 +203,17 @@ impl Voice {
         self.spend();
         (left, right, sounds)
     }
+}
+
+/// Between x1 and x2 (02, M-100), q the top 12 bits of the fraction, Q = 4,096: floor((2·x1·Q³ + (x2-x0)·q·Q² +
+/// (2·x0-5·x1+4·x2-x3)·q²·Q + (3·x1-x0-3·x2+x3)·q³) / (2·Q³)), held to the 16-bit range.
+pub fn between([x0, x1, x2, x3]: [i64; 4], q: i64) -> i64 {
+    const Q: i64 = 4_096;
+    let sum = 2 * x1 * Q.pow(3)
+        + (x2 - x0) * q * Q.pow(2)
+        + (2 * x0 - 5 * x1 + 4 * x2 - x3) * q.pow(2) * Q
+        + (3 * x1 - x0 - 3 * x2 + x3) * q.pow(3);
+    sum.div_euclid(2 * Q.pow(3)).clamp(-32_768, 32_767)
 }
 
 /// The least a whose gain is at most the level; 1,000 if that is above 1,000 or if the level is 0.

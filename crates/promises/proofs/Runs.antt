@@ -24,7 +24,7 @@ use Rattle.curves.specs.Pitch.{stepOf, bendCents}
 use Rattle.curves.specs.Levels.{gainOf, cbOf, leastCb, above}
 use Rattle.voice.specs.declared.Stage.the-variants.{Delay}
 use Rattle.voice.specs.Changes.{sounds}
-use Rattle.voice.specs.Reading.{behind, reading}
+use Rattle.voice.specs.Reading.{before, behind, interpolated, reading}
 use Rattle.voice.specs.Frames.{goOn, loud, readAndMoved, living, frameAt, frame, after}
 use Rattle.events.specs.Keys.{pedalHeld, held, heldKey, letOff, off, offKey}
 use Rattle.state.specs.Quiet.{fresh}
@@ -75,84 +75,84 @@ voice0 :
     let c : Channel = record { program = 0; stored = 0; bank = 0; bend = 8192; volume = 113; expression = 32; pedal = 0 } in
     let w : List ℤ = pos 713 ∷ pos 14225 ∷ [] in
     heard 8 c w (sounds (release (after c w 0 (sounds (mk (Delay 0) 0 0 63 70 false 0 2 0 1 2 400 (negℤ (pos 2830)) (pos 248) (negℤ (pos 187)) 5 1 0 1000 1)) .voice))) ≡ pos 0 ∷ pos 0 ∷ pos 0 ∷ pos 0 ∷ pos 0 ∷ pos 0 ∷ pos 0 ∷ pos 0 ∷ pos 0 ∷ pos 0 ∷ pos 0 ∷ pos 0 ∷ pos 0 ∷ pos 0 ∷ pos 0 ∷ pos 0 ∷ []
-unfolding heardAt afterAt after frame frameAt living readAndMoved goOn loud reading behind gained leftOf rightOf gainOf cbOf loss step pitchTotal bendCents stepOf folds fold settled ended levelAt decayAt releaseAt fromDelay fromAttack fromHold fromDecay release leastCb above
+unfolding heardAt afterAt after frame frameAt living readAndMoved goOn loud reading behind before interpolated gained leftOf rightOf gainOf cbOf loss step pitchTotal bendCents stepOf folds fold settled ended levelAt decayAt releaseAt fromDelay fromAttack fromHold fromDecay release leastCb above
 voice0 = refl
 
 voice1 :
     let c : Channel = record { program = 0; stored = 0; bank = 0; bend = 16383; volume = 16; expression = 84; pedal = 0 } in
     let w : List ℤ = negℤ (pos 32072) ∷ [] in
     heard 8 c w (sounds (release (after c w 2 (sounds (mk (Delay 2) 0 1 61 70 false 0 1 1 0 1 8000 (negℤ (pos 5048)) (pos 489) (pos 1) 3 0 2 1000 1)) .voice))) ≡ pos 0 ∷ pos 0 ∷ pos 0 ∷ pos 0 ∷ pos 0 ∷ pos 0 ∷ pos 0 ∷ pos 0 ∷ pos 0 ∷ pos 0 ∷ pos 0 ∷ pos 0 ∷ pos 0 ∷ pos 0 ∷ pos 0 ∷ pos 0 ∷ []
-unfolding heardAt afterAt after frame frameAt living readAndMoved goOn loud reading behind gained leftOf rightOf gainOf cbOf loss step pitchTotal bendCents stepOf folds fold settled ended levelAt decayAt releaseAt fromDelay fromAttack fromHold fromDecay release leastCb above
+unfolding heardAt afterAt after frame frameAt living readAndMoved goOn loud reading behind before interpolated gained leftOf rightOf gainOf cbOf loss step pitchTotal bendCents stepOf folds fold settled ended levelAt decayAt releaseAt fromDelay fromAttack fromHold fromDecay release leastCb above
 voice1 = refl
 
 voice2 :
     let c : Channel = record { program = 0; stored = 0; bank = 0; bend = 297; volume = 11; expression = 46; pedal = 0 } in
     let w : List ℤ = negℤ (pos 32325) ∷ pos 11520 ∷ negℤ (pos 24115) ∷ pos 7858 ∷ [] in
     heard 8 c w (sounds (release (after c w 0 (sounds (mk (Delay 2) 0 1 61 8 false 0 4 1 1 3 44100 (negℤ (pos 10251)) (pos 365) (pos 166) 0 2 2 999 9)) .voice))) ≡ pos 0 ∷ pos 0 ∷ pos 0 ∷ pos 0 ∷ pos 0 ∷ pos 0 ∷ pos 0 ∷ pos 0 ∷ pos 0 ∷ pos 0 ∷ pos 0 ∷ pos 0 ∷ pos 0 ∷ pos 0 ∷ pos 0 ∷ pos 0 ∷ []
-unfolding heardAt afterAt after frame frameAt living readAndMoved goOn loud reading behind gained leftOf rightOf gainOf cbOf loss step pitchTotal bendCents stepOf folds fold settled ended levelAt decayAt releaseAt fromDelay fromAttack fromHold fromDecay release leastCb above
+unfolding heardAt afterAt after frame frameAt living readAndMoved goOn loud reading behind before interpolated gained leftOf rightOf gainOf cbOf loss step pitchTotal bendCents stepOf folds fold settled ended levelAt decayAt releaseAt fromDelay fromAttack fromHold fromDecay release leastCb above
 voice2 = refl
 
 voice3 :
     let c : Channel = record { program = 0; stored = 0; bank = 0; bend = 16383; volume = 23; expression = 79; pedal = 0 } in
     let w : List ℤ = negℤ (pos 513) ∷ pos 27814 ∷ [] in
-    heard 8 c w (sounds (release (after c w 2 (sounds (mk (Delay 0) 0 1 60 76 false 0 2 3 1 2 44100 (negℤ (pos 1306)) (negℤ (pos 57)) (negℤ (pos 163)) 1 1 7 999 1)) .voice))) ≡ pos 315284 ∷ pos 250756 ∷ pos 0 ∷ pos 0 ∷ pos 0 ∷ pos 0 ∷ pos 0 ∷ pos 0 ∷ pos 0 ∷ pos 0 ∷ pos 0 ∷ pos 0 ∷ pos 0 ∷ pos 0 ∷ pos 0 ∷ pos 0 ∷ []
-unfolding heardAt afterAt after frame frameAt living readAndMoved goOn loud reading behind gained leftOf rightOf gainOf cbOf loss step pitchTotal bendCents stepOf folds fold settled ended levelAt decayAt releaseAt fromDelay fromAttack fromHold fromDecay release leastCb above
+    heard 8 c w (sounds (release (after c w 2 (sounds (mk (Delay 0) 0 1 60 76 false 0 2 3 1 2 44100 (negℤ (pos 1306)) (negℤ (pos 57)) (negℤ (pos 163)) 1 1 7 999 1)) .voice))) ≡ pos 331386 ∷ pos 263561 ∷ pos 0 ∷ pos 0 ∷ pos 0 ∷ pos 0 ∷ pos 0 ∷ pos 0 ∷ pos 0 ∷ pos 0 ∷ pos 0 ∷ pos 0 ∷ pos 0 ∷ pos 0 ∷ pos 0 ∷ pos 0 ∷ []
+unfolding heardAt afterAt after frame frameAt living readAndMoved goOn loud reading behind before interpolated gained leftOf rightOf gainOf cbOf loss step pitchTotal bendCents stepOf folds fold settled ended levelAt decayAt releaseAt fromDelay fromAttack fromHold fromDecay release leastCb above
 voice3 = refl
 
 voice4 :
     let c : Channel = record { program = 0; stored = 0; bank = 0; bend = 8192; volume = 33; expression = 33; pedal = 0 } in
     let w : List ℤ = negℤ (pos 9506) ∷ negℤ (pos 22519) ∷ negℤ (pos 13256) ∷ pos 7773 ∷ [] in
-    heard 8 c w (sounds (release (after c w 4 (sounds (mk (Delay 2) 0 1 60 31 false 0 4 1 0 1 44100 (negℤ (pos 2802)) (pos 166) (pos 266) 1 0 7 0 9)) .voice))) ≡ negℤ (pos 175) ∷ negℤ (pos 347) ∷ negℤ (pos 49) ∷ negℤ (pos 97) ∷ negℤ (pos 14) ∷ negℤ (pos 28) ∷ negℤ (pos 5) ∷ negℤ (pos 8) ∷ negℤ (pos 2) ∷ negℤ (pos 3) ∷ negℤ (pos 1) ∷ negℤ (pos 1) ∷ negℤ (pos 1) ∷ negℤ (pos 1) ∷ pos 0 ∷ pos 0 ∷ []
-unfolding heardAt afterAt after frame frameAt living readAndMoved goOn loud reading behind gained leftOf rightOf gainOf cbOf loss step pitchTotal bendCents stepOf folds fold settled ended levelAt decayAt releaseAt fromDelay fromAttack fromHold fromDecay release leastCb above
+    heard 8 c w (sounds (release (after c w 4 (sounds (mk (Delay 2) 0 1 60 31 false 0 4 1 0 1 44100 (negℤ (pos 2802)) (pos 166) (pos 266) 1 0 7 0 9)) .voice))) ≡ negℤ (pos 187) ∷ negℤ (pos 372) ∷ negℤ (pos 51) ∷ negℤ (pos 102) ∷ negℤ (pos 15) ∷ negℤ (pos 28) ∷ negℤ (pos 5) ∷ negℤ (pos 8) ∷ negℤ (pos 2) ∷ negℤ (pos 3) ∷ negℤ (pos 1) ∷ negℤ (pos 1) ∷ negℤ (pos 1) ∷ negℤ (pos 1) ∷ pos 0 ∷ pos 0 ∷ []
+unfolding heardAt afterAt after frame frameAt living readAndMoved goOn loud reading behind before interpolated gained leftOf rightOf gainOf cbOf loss step pitchTotal bendCents stepOf folds fold settled ended levelAt decayAt releaseAt fromDelay fromAttack fromHold fromDecay release leastCb above
 voice4 = refl
 
 voice5 :
     let c : Channel = record { program = 0; stored = 0; bank = 0; bend = 0; volume = 96; expression = 45; pedal = 0 } in
     let w : List ℤ = negℤ (pos 10641) ∷ pos 24190 ∷ [] in
-    heard 8 c w (sounds (release (after c w 4 (sounds (mk (Delay 1) 0 1 61 59 false 0 2 1 0 2 8000 (pos 3861) (pos 205) (pos 299) 5 1 2 1000 9)) .voice))) ≡ pos 741 ∷ pos 1773 ∷ negℤ (pos 296) ∷ negℤ (pos 708) ∷ pos 50 ∷ pos 119 ∷ pos 52 ∷ pos 126 ∷ pos 4 ∷ pos 11 ∷ negℤ (pos 2) ∷ negℤ (pos 5) ∷ pos 0 ∷ pos 0 ∷ pos 0 ∷ pos 0 ∷ []
-unfolding heardAt afterAt after frame frameAt living readAndMoved goOn loud reading behind gained leftOf rightOf gainOf cbOf loss step pitchTotal bendCents stepOf folds fold settled ended levelAt decayAt releaseAt fromDelay fromAttack fromHold fromDecay release leastCb above
+    heard 8 c w (sounds (release (after c w 4 (sounds (mk (Delay 1) 0 1 61 59 false 0 2 1 0 2 8000 (pos 3861) (pos 205) (pos 299) 5 1 2 1000 9)) .voice))) ≡ pos 913 ∷ pos 2183 ∷ negℤ (pos 305) ∷ negℤ (pos 727) ∷ pos 47 ∷ pos 114 ∷ pos 54 ∷ pos 129 ∷ pos 5 ∷ pos 13 ∷ negℤ (pos 2) ∷ negℤ (pos 5) ∷ pos 0 ∷ pos 0 ∷ pos 0 ∷ pos 0 ∷ []
+unfolding heardAt afterAt after frame frameAt living readAndMoved goOn loud reading behind before interpolated gained leftOf rightOf gainOf cbOf loss step pitchTotal bendCents stepOf folds fold settled ended levelAt decayAt releaseAt fromDelay fromAttack fromHold fromDecay release leastCb above
 voice5 = refl
 
 voice6 :
     let c : Channel = record { program = 0; stored = 0; bank = 0; bend = 16383; volume = 70; expression = 118; pedal = 0 } in
     let w : List ℤ = negℤ (pos 9160) ∷ negℤ (pos 21085) ∷ pos 31701 ∷ [] in
     heard 8 c w (after c w 2 (sounds (mk (Delay 1) 0 1 62 72 false 0 3 0 1 2 44100 (pos 4914) (pos 288) (pos 71) 3 2 0 0 9))) ≡ pos 0 ∷ pos 0 ∷ pos 0 ∷ pos 0 ∷ pos 0 ∷ pos 0 ∷ pos 0 ∷ pos 0 ∷ pos 0 ∷ pos 0 ∷ pos 0 ∷ pos 0 ∷ pos 0 ∷ pos 0 ∷ pos 0 ∷ pos 0 ∷ []
-unfolding heardAt afterAt after frame frameAt living readAndMoved goOn loud reading behind gained leftOf rightOf gainOf cbOf loss step pitchTotal bendCents stepOf folds fold settled ended levelAt decayAt releaseAt fromDelay fromAttack fromHold fromDecay release leastCb above
+unfolding heardAt afterAt after frame frameAt living readAndMoved goOn loud reading behind before interpolated gained leftOf rightOf gainOf cbOf loss step pitchTotal bendCents stepOf folds fold settled ended levelAt decayAt releaseAt fromDelay fromAttack fromHold fromDecay release leastCb above
 voice6 = refl
 
 voice7 :
     let c : Channel = record { program = 0; stored = 0; bank = 0; bend = 0; volume = 50; expression = 40; pedal = 0 } in
     let w : List ℤ = pos 13968 ∷ pos 12829 ∷ [] in
-    heard 8 c w (sounds (release (after c w 4 (sounds (mk (Delay 0) 0 0 61 26 false 0 2 3 1 2 44100 (pos 4638) (pos 208) (pos 89) 5 0 7 1000 4)) .voice))) ≡ pos 324 ∷ pos 787 ∷ pos 0 ∷ pos 0 ∷ pos 0 ∷ pos 0 ∷ pos 0 ∷ pos 0 ∷ pos 0 ∷ pos 0 ∷ pos 0 ∷ pos 0 ∷ pos 0 ∷ pos 0 ∷ pos 0 ∷ pos 0 ∷ []
-unfolding heardAt afterAt after frame frameAt living readAndMoved goOn loud reading behind gained leftOf rightOf gainOf cbOf loss step pitchTotal bendCents stepOf folds fold settled ended levelAt decayAt releaseAt fromDelay fromAttack fromHold fromDecay release leastCb above
+    heard 8 c w (sounds (release (after c w 4 (sounds (mk (Delay 0) 0 0 61 26 false 0 2 3 1 2 44100 (pos 4638) (pos 208) (pos 89) 5 0 7 1000 4)) .voice))) ≡ pos 196 ∷ pos 476 ∷ pos 0 ∷ pos 0 ∷ pos 0 ∷ pos 0 ∷ pos 0 ∷ pos 0 ∷ pos 0 ∷ pos 0 ∷ pos 0 ∷ pos 0 ∷ pos 0 ∷ pos 0 ∷ pos 0 ∷ pos 0 ∷ []
+unfolding heardAt afterAt after frame frameAt living readAndMoved goOn loud reading behind before interpolated gained leftOf rightOf gainOf cbOf loss step pitchTotal bendCents stepOf folds fold settled ended levelAt decayAt releaseAt fromDelay fromAttack fromHold fromDecay release leastCb above
 voice7 = refl
 
 voice8 :
     let c : Channel = record { program = 0; stored = 0; bank = 0; bend = 16383; volume = 0; expression = 89; pedal = 0 } in
     let w : List ℤ = negℤ (pos 9078) ∷ negℤ (pos 4059) ∷ [] in
     heard 8 c w (sounds (release (after c w 4 (sounds (mk (Delay 1) 0 1 61 62 false 0 2 0 0 1 8000 (negℤ (pos 9832)) (negℤ (pos 24)) (pos 225) 5 2 7 0 1)) .voice))) ≡ negℤ (pos 1) ∷ negℤ (pos 1) ∷ pos 0 ∷ pos 0 ∷ pos 0 ∷ pos 0 ∷ pos 0 ∷ pos 0 ∷ pos 0 ∷ pos 0 ∷ pos 0 ∷ pos 0 ∷ pos 0 ∷ pos 0 ∷ pos 0 ∷ pos 0 ∷ []
-unfolding heardAt afterAt after frame frameAt living readAndMoved goOn loud reading behind gained leftOf rightOf gainOf cbOf loss step pitchTotal bendCents stepOf folds fold settled ended levelAt decayAt releaseAt fromDelay fromAttack fromHold fromDecay release leastCb above
+unfolding heardAt afterAt after frame frameAt living readAndMoved goOn loud reading behind before interpolated gained leftOf rightOf gainOf cbOf loss step pitchTotal bendCents stepOf folds fold settled ended levelAt decayAt releaseAt fromDelay fromAttack fromHold fromDecay release leastCb above
 voice8 = refl
 
 voice9 :
     let c : Channel = record { program = 0; stored = 0; bank = 0; bend = 8192; volume = 23; expression = 89; pedal = 0 } in
     let w : List ℤ = pos 20977 ∷ negℤ (pos 17685) ∷ pos 16237 ∷ [] in
-    heard 8 c w (after c w 0 (sounds (mk (Delay 1) 0 1 62 105 false 0 3 0 1 3 8000 (pos 2733) (pos 332) (pos 219) 5 0 0 1000 9))) ≡ pos 0 ∷ pos 0 ∷ pos 0 ∷ pos 0 ∷ negℤ (pos 148) ∷ negℤ (pos 733) ∷ pos 182 ∷ pos 904 ∷ pos 199 ∷ pos 987 ∷ pos 0 ∷ pos 0 ∷ pos 0 ∷ pos 0 ∷ pos 0 ∷ pos 0 ∷ []
-unfolding heardAt afterAt after frame frameAt living readAndMoved goOn loud reading behind gained leftOf rightOf gainOf cbOf loss step pitchTotal bendCents stepOf folds fold settled ended levelAt decayAt releaseAt fromDelay fromAttack fromHold fromDecay release leastCb above
+    heard 8 c w (after c w 0 (sounds (mk (Delay 1) 0 1 62 105 false 0 3 0 1 3 8000 (pos 2733) (pos 332) (pos 219) 5 0 0 1000 9))) ≡ pos 0 ∷ pos 0 ∷ pos 0 ∷ pos 0 ∷ negℤ (pos 182) ∷ negℤ (pos 901) ∷ pos 225 ∷ pos 1116 ∷ pos 229 ∷ pos 1139 ∷ pos 0 ∷ pos 0 ∷ pos 0 ∷ pos 0 ∷ pos 0 ∷ pos 0 ∷ []
+unfolding heardAt afterAt after frame frameAt living readAndMoved goOn loud reading behind before interpolated gained leftOf rightOf gainOf cbOf loss step pitchTotal bendCents stepOf folds fold settled ended levelAt decayAt releaseAt fromDelay fromAttack fromHold fromDecay release leastCb above
 voice9 = refl
 
 voice10 :
     let c : Channel = record { program = 0; stored = 0; bank = 0; bend = 16383; volume = 125; expression = 73; pedal = 0 } in
     let w : List ℤ = negℤ (pos 18623) ∷ pos 9966 ∷ negℤ (pos 14327) ∷ pos 9888 ∷ [] in
     heard 8 c w (sounds (release (after c w 0 (sounds (mk (Delay 1) 0 1 63 125 false 0 4 3 1 3 50000 (pos 1579) (pos 110) (negℤ (pos 38)) 3 1 2 1000 0)) .voice))) ≡ pos 0 ∷ pos 0 ∷ pos 0 ∷ pos 0 ∷ pos 0 ∷ pos 0 ∷ pos 0 ∷ pos 0 ∷ pos 0 ∷ pos 0 ∷ pos 0 ∷ pos 0 ∷ pos 0 ∷ pos 0 ∷ pos 0 ∷ pos 0 ∷ []
-unfolding heardAt afterAt after frame frameAt living readAndMoved goOn loud reading behind gained leftOf rightOf gainOf cbOf loss step pitchTotal bendCents stepOf folds fold settled ended levelAt decayAt releaseAt fromDelay fromAttack fromHold fromDecay release leastCb above
+unfolding heardAt afterAt after frame frameAt living readAndMoved goOn loud reading behind before interpolated gained leftOf rightOf gainOf cbOf loss step pitchTotal bendCents stepOf folds fold settled ended levelAt decayAt releaseAt fromDelay fromAttack fromHold fromDecay release leastCb above
 voice10 = refl
 
 voice11 :
     let c : Channel = record { program = 0; stored = 0; bank = 0; bend = 0; volume = 4; expression = 32; pedal = 0 } in
     let w : List ℤ = negℤ (pos 29652) ∷ [] in
     heard 8 c w (sounds (release (after c w 2 (sounds (mk (Delay 1) 0 1 62 32 false 0 1 1 0 1 50000 (negℤ (pos 9796)) (pos 1) (pos 51) 1 2 2 999 9)) .voice))) ≡ negℤ (pos 135) ∷ negℤ (pos 136) ∷ negℤ (pos 38) ∷ negℤ (pos 38) ∷ negℤ (pos 11) ∷ negℤ (pos 11) ∷ negℤ (pos 3) ∷ negℤ (pos 4) ∷ negℤ (pos 1) ∷ negℤ (pos 2) ∷ pos 0 ∷ pos 0 ∷ pos 0 ∷ pos 0 ∷ pos 0 ∷ pos 0 ∷ []
-unfolding heardAt afterAt after frame frameAt living readAndMoved goOn loud reading behind gained leftOf rightOf gainOf cbOf loss step pitchTotal bendCents stepOf folds fold settled ended levelAt decayAt releaseAt fromDelay fromAttack fromHold fromDecay release leastCb above
+unfolding heardAt afterAt after frame frameAt living readAndMoved goOn loud reading behind before interpolated gained leftOf rightOf gainOf cbOf loss step pitchTotal bendCents stepOf folds fold settled ended levelAt decayAt releaseAt fromDelay fromAttack fromHold fromDecay release leastCb above
 voice11 = refl
 
 run0 :

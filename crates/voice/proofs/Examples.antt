@@ -17,7 +17,7 @@ use Rattle.curves.specs.Pitch.{stepOf, bendCents}
 use Rattle.curves.specs.Levels.{gainOf, cbOf, leastCb, above}
 use Rattle.voice.specs.Changes.{sounds}
 use Rattle.voice.specs.Stages.{levelAt, decayAt, releaseAt, fromDelay, fromAttack, fromHold, fromDecay}
-use Rattle.voice.specs.Reading.{behind, reading}
+use Rattle.voice.specs.Reading.{before, behind, interpolated, reading}
 use Rattle.voice.specs.Frames.{goOn, loud, readAndMoved, living, frameAt, frame, after}
 
 -- the samples that it reads
@@ -63,32 +63,39 @@ heard n s = heardAt (step channel (s .voice)) (loss channel (s .voice)) window n
 -- delay, attack, hold, decay, sustain in a loop
 looping :
     heard 9 (sounds (bell 1 4 1 3 1 4 2 (pos 700)))
-    ≡ pos 0 ∷ pos 0 ∷ pos 0 ∷ pos 0 ∷ pos 475989 ∷ pos 713983 ∷ negℤ (pos 2222490) ∷ negℤ (pos 3333735) ∷ pos 1416908 ∷ pos 2125363 ∷ negℤ (pos 3311924) ∷ negℤ (pos 4967885) ∷ pos 118287 ∷ pos 177430 ∷ negℤ (pos 155678) ∷ negℤ (pos 233516) ∷ pos 65989 ∷ pos 98984 ∷ []
-unfolding heardAt afterAt after frame frameAt living readAndMoved goOn loud reading behind gained leftOf rightOf gainOf cbOf loss step pitchTotal bendCents stepOf folds fold settled ended levelAt decayAt releaseAt fromDelay fromAttack fromHold fromDecay release leastCb above
+    ≡ pos 0 ∷ pos 0 ∷ pos 0 ∷ pos 0 ∷ pos 602555 ∷ pos 903833 ∷ negℤ (pos 2233140) ∷ negℤ (pos 3349709) ∷ pos 1790668 ∷ pos 2686003 ∷ negℤ (pos 3343668) ∷ negℤ (pos 5015501) ∷ pos 149244 ∷ pos 223866 ∷ negℤ (pos 157901) ∷ negℤ (pos 236852) ∷ pos 83121 ∷ pos 124682 ∷ []
+unfolding heardAt afterAt after frame frameAt living readAndMoved goOn loud reading behind before interpolated gained leftOf rightOf gainOf cbOf loss step pitchTotal bendCents stepOf folds fold settled ended levelAt decayAt releaseAt fromDelay fromAttack fromHold fromDecay release leastCb above
 looping = refl
 
 -- released in attack, free at the third frame of its release
 letting :
     heard 4 (sounds (release (after channel window 2 (sounds (bell 1 4 1 3 1 4 2 (pos 700))) .voice)))
-    ≡ pos 707486 ∷ pos 1061230 ∷ negℤ (pos 5224) ∷ negℤ (pos 7835) ∷ pos 0 ∷ pos 0 ∷ pos 0 ∷ pos 0 ∷ []
-unfolding heardAt afterAt after frame frameAt living readAndMoved goOn loud reading behind gained leftOf rightOf gainOf cbOf loss step pitchTotal bendCents stepOf folds fold settled ended levelAt decayAt releaseAt fromDelay fromAttack fromHold fromDecay release leastCb above
+    ≡ pos 895608 ∷ pos 1343413 ∷ negℤ (pos 5249) ∷ negℤ (pos 7873) ∷ pos 0 ∷ pos 0 ∷ pos 0 ∷ pos 0 ∷ []
+unfolding heardAt afterAt after frame frameAt living readAndMoved goOn loud reading behind before interpolated gained leftOf rightOf gainOf cbOf loss step pitchTotal bendCents stepOf folds fold settled ended levelAt decayAt releaseAt fromDelay fromAttack fromHold fromDecay release leastCb above
 letting = refl
 
 -- no loop: freed at its end, and silent from there
 ending :
     heard 6 (sounds (bell 0 4 0 0 0 0 2 (pos 700)))
-    ≡ pos 4844 ∷ pos 7267 ∷ pos 67564 ∷ pos 101346 ∷ negℤ (pos 157737) ∷ negℤ (pos 236605) ∷ pos 30208 ∷ pos 45313 ∷ pos 0 ∷ pos 0 ∷ pos 0 ∷ pos 0 ∷ []
-unfolding heardAt afterAt after frame frameAt living readAndMoved goOn loud reading behind gained leftOf rightOf gainOf cbOf loss step pitchTotal bendCents stepOf folds fold settled ended levelAt decayAt releaseAt fromDelay fromAttack fromHold fromDecay release leastCb above
+    ≡ pos 4844 ∷ pos 7267 ∷ pos 85529 ∷ pos 128294 ∷ negℤ (pos 158614) ∷ negℤ (pos 237920) ∷ pos 44085 ∷ pos 66127 ∷ pos 0 ∷ pos 0 ∷ pos 0 ∷ pos 0 ∷ []
+unfolding heardAt afterAt after frame frameAt living readAndMoved goOn loud reading behind before interpolated gained leftOf rightOf gainOf cbOf loss step pitchTotal bendCents stepOf folds fold settled ended levelAt decayAt releaseAt fromDelay fromAttack fromHold fromDecay release leastCb above
 ending = refl
+
+-- no loop, less than a sample a frame: zeros about the window, and held at the lowest number
+slow :
+    heard 7 (sounds (bell 0 4 0 0 0 0 2 (negℤ (pos 481))))
+    ≡ pos 4844 ∷ pos 7267 ∷ negℤ (pos 17535) ∷ negℤ (pos 26302) ∷ pos 89333 ∷ pos 133999 ∷ pos 81571 ∷ pos 122356 ∷ negℤ (pos 158764) ∷ negℤ (pos 238145) ∷ pos 22248 ∷ pos 33372 ∷ pos 38934 ∷ pos 58402 ∷ []
+unfolding heardAt afterAt after frame frameAt living readAndMoved goOn loud reading behind before interpolated gained leftOf rightOf gainOf cbOf loss step pitchTotal bendCents stepOf folds fold settled ended levelAt decayAt releaseAt fromDelay fromAttack fromHold fromDecay release leastCb above
+slow = refl
 
 -- a loop of two samples and a step of sixteen
 folding : after channel window 3 (sounds (bell 1 3 0 0 0 0 2 (pos 4800))) .voice .place ≡ 33554432
-unfolding heardAt afterAt after frame frameAt living readAndMoved goOn loud reading behind gained leftOf rightOf gainOf cbOf loss step pitchTotal bendCents stepOf folds fold settled ended levelAt decayAt releaseAt fromDelay fromAttack fromHold fromDecay release leastCb above
+unfolding heardAt afterAt after frame frameAt living readAndMoved goOn loud reading behind before interpolated gained leftOf rightOf gainOf cbOf loss step pitchTotal bendCents stepOf folds fold settled ended levelAt decayAt releaseAt fromDelay fromAttack fromHold fromDecay release leastCb above
 folding = refl
 
 -- mode 3 folds until it is released, and then runs to its end
 mode3 :
     heard 3 (sounds (release (after channel window 3 (sounds (bell 3 4 0 0 0 4 5 (pos 700))) .voice)))
-    ≡ pos 67041 ∷ pos 100561 ∷ negℤ (pos 15671) ∷ negℤ (pos 23506) ∷ pos 304 ∷ pos 456 ∷ []
-unfolding heardAt afterAt after frame frameAt living readAndMoved goOn loud reading behind gained leftOf rightOf gainOf cbOf loss step pitchTotal bendCents stepOf folds fold settled ended levelAt decayAt releaseAt fromDelay fromAttack fromHold fromDecay release leastCb above
+    ≡ pos 84725 ∷ pos 127088 ∷ negℤ (pos 15844) ∷ negℤ (pos 23766) ∷ pos 444 ∷ pos 666 ∷ []
+unfolding heardAt afterAt after frame frameAt living readAndMoved goOn loud reading behind before interpolated gained leftOf rightOf gainOf cbOf loss step pitchTotal bendCents stepOf folds fold settled ended levelAt decayAt releaseAt fromDelay fromAttack fromHold fromDecay release leastCb above
 mode3 = refl

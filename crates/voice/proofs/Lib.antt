@@ -5,10 +5,14 @@ pub mod FramesLaws
 pub mod Inside
 pub mod LoudestLaws
 pub mod MotionLaws
+pub mod PaceLaws
 pub mod PanelLaws
+pub mod ReadingLaws
 pub mod RunLaws
+pub mod SidesLaws
 pub mod Silence
 pub mod SoundLaws
 pub mod StagesLaws
 pub mod StretchLaws
 pub mod SumsLaws
+pub mod WayLaws

@@ -1,13 +1,13 @@
 -- What a voice adds is within `loudest`, whatever its record says, and 32 times that fits the sums.
-use Prim.Native.Nat.{ℕ, _≤_, _%_, zero, suc, _*_, _<_}
+use Prim.Native.Nat.{ℕ, _≤_, zero, suc, _*_, _<_}
 use mathlib.Core.List.{List}
 use lib.IntN.{ℤ, pos}
 use lib.Dec.{lit<, lit≤}
 use mathlib.Core.Bool.{Bool, true, false, cond}
-use native.Mathlib.Nat.{mod-lt, le-of-lt}
 use native.Mathlib.Omega.{arith}
 use Rattle.arith.specs.Within.{Within}
-use Rattle.voice.specs.Reading.{sample, interpolated, reading}
+use Rattle.voice.specs.Motion.{folds}
+use Rattle.voice.proofs.ReadingLaws.{reading-in}
 use Rattle.arith.proofs.WithinLaws.{w-nat, w-le, w-add, w-sub, w-mul, w-floor-by, w-lit}
 use Rattle.curves.proofs.PitchLaws.{gain-le}
 use Rattle.voice.specs.Sound.{gained, shaped, panOf, leftOf, rightOf}
@@ -25,24 +25,10 @@ use Rattle.voice.specs.declared.Channel.{Channel}
 use Rattle.voice.specs.Internal.Frames.{heard}
 use Rattle.voice.proofs.SumsLaws.{small-none, small-two}
 
--- every sample of the window is a signed 16-bit number
-abbrev pub Samples : List ℤ → Type 0
-Samples w = (i : ℕ) → Within (sample w i) 32768
-
--- between two such samples
-between-in : (a b : ℤ) (f : ℕ) → Within a 32768 → Within b 32768 → f ≤ 16777216 → Within (interpolated a b f) 100000
-between-in a b f p q h =
-    w-le (w-add p (w-floor-by 65536 16777216 (lit< tt) (lit≤ tt) (w-mul (w-sub q p) (w-nat h)))) (lit≤ tt)
-
--- the reading of a window of such samples
-pub reading-in : (b : Bool) (from to : ℕ) (w : List ℤ) (p : ℕ) → Samples w → Within (reading b from to w p) 100000
-unfolding reading
-reading-in b from to w p h = between-in _ _ (p % 16777216) (h _) (h _) (le-of-lt (mod-lt p (lit< tt)))
-
 -- at its gain, which is at most 2^24
-gained-in : (x : ℤ) (a : ℕ) → Within x 100000 → Within (gained x a) 25600001
+gained-in : (x : ℤ) (a : ℕ) → Within x 32768 → Within (gained x a) 8388609
 unfolding gained
-gained-in x a h = w-floor-by 25600001 65536 (lit< tt) (lit≤ tt) (w-mul h (w-nat (gain-le a)))
+gained-in x a h = w-floor-by 8388609 65536 (lit< tt) (lit≤ tt) (w-mul h (w-nat (gain-le a)))
 
 -- a level is at most full
 pub level-le : (n t : ℕ) → levelAt n t ≤ 16777216
@@ -50,32 +36,32 @@ unfolding levelAt
 level-le n t = omega arith
 
 -- at its level
-shaped-in : (v : Voice) (s : Stage) (u : ℤ) → Within u 25600001 → Within (shaped v s u) 25600002
+shaped-in : (v : Voice) (s : Stage) (u : ℤ) → Within u 8388609 → Within (shaped v s u) 8388610
 shaped-in v (Delay left) u h = w-le h (lit≤ tt)
-shaped-in v (Attack t) u h = w-floor-by 25600002 16777216 (lit< tt) (lit≤ tt) (w-mul h (w-nat (level-le (v .attack) t)))
+shaped-in v (Attack t) u h = w-floor-by 8388610 16777216 (lit< tt) (lit≤ tt) (w-mul h (w-nat (level-le (v .attack) t)))
 shaped-in v (Hold t) u h = w-le h (lit≤ tt)
 shaped-in v (Decay t) u h = w-le h (lit≤ tt)
 shaped-in v Sustain u h = w-le h (lit≤ tt)
 shaped-in v (Release a t) u h = w-le h (lit≤ tt)
 
 -- what a frame gives before its pan
-loud-in : (l : ℤ) (w : List ℤ) (v : Voice) (s : Stage) → Samples w → Within (loud l w v s) 25600002
+loud-in : (l : ℤ) (w : List ℤ) (v : Voice) (s : Stage) → Within (loud l w v s) 8388610
 unfolding loud
-loud-in l w v s h = shaped-in v s _ (gained-in _ _ (reading-in _ (v .loopfrom) (v .loopto) w (v .place) h))
+loud-in l w v s = shaped-in v s _ (gained-in _ _ (reading-in (folds v s) (v .loopfrom) (v .loopto) w (v .place)))
 
 -- the pan's total is held to -500..500
 pan-in : (p : ℤ) → Within (panOf p) 500
 pan-in p = held-within p 499
 
 -- the left share
-left-in : (u p : ℤ) → Within u 25600002 → Within (leftOf u p) loudest
+left-in : (u p : ℤ) → Within u 8388610 → Within (leftOf u p) loudest
 unfolding leftOf
-left-in u p h = w-floor-by 25600003 1000 (lit< tt) (lit≤ tt) (w-mul h (w-sub (w-lit (pos 500)) (pan-in p)))
+left-in u p h = w-floor-by 8388611 1000 (lit< tt) (lit≤ tt) (w-mul h (w-sub (w-lit (pos 500)) (pan-in p)))
 
 -- the right share
-right-in : (u p : ℤ) → Within u 25600002 → Within (rightOf u p) loudest
+right-in : (u p : ℤ) → Within u 8388610 → Within (rightOf u p) loudest
 unfolding rightOf
-right-in u p h = w-floor-by 25600003 1000 (lit< tt) (lit≤ tt) (w-mul h (w-add (w-lit (pos 500)) (pan-in p)))
+right-in u p h = w-floor-by 8388611 1000 (lit< tt) (lit≤ tt) (w-mul h (w-add (w-lit (pos 500)) (pan-in p)))
 
 -- both sides of a frame
 abbrev pub Quiet : Framed → Type 0
@@ -86,9 +72,9 @@ none : Within (pos 0) loudest
 none = w-nat (lit≤ tt)
 
 -- one frame of any slot adds at most `loudest` on each side
-pub frame-in : (st : ℕ) (l : ℤ) (w : List ℤ) (s : Slot) → Samples w → Quiet (frameAt st l w s)
+pub frame-in : (st : ℕ) (l : ℤ) (w : List ℤ) (s : Slot) → Quiet (frameAt st l w s)
 unfolding frameAt living readAndMoved
-frame-in st l w s h = by (s .sounding) (dead v g) (waiting g)
+frame-in st l w s = by (s .sounding) (dead v g) (waiting g)
   where
     v : Voice
     v = s .voice
@@ -99,16 +85,16 @@ frame-in st l w s h = by (s .sounding) (dead v g) (waiting g)
     by : (a b c : Bool) → Quiet (cond a (cond b (silent (free v)) (cond c (silent (sounds (moved v g (v .place)))) (readAndMoved st l w v g))) (silent s))
     by true true c = (none, none)
     by true false true = (none, none)
-    by true false false = (left-in _ (v .pan) (loud-in l w v g h), right-in _ (v .pan) (loud-in l w v g h))
+    by true false false = (left-in _ (v .pan) (loud-in l w v g), right-in _ (v .pan) (loud-in l w v g))
     by false b c = (none, none)
 
 -- what n frames of a voice add: 32 voices' sums stay within 32 times `loudest`, and that is a signed 32-bit number
-pub heard-in : (c : Channel) (w : List ℤ) (n : ℕ) (s : Slot) → Samples w → Small 1 (heard c w n s)
+pub heard-in : (c : Channel) (w : List ℤ) (n : ℕ) (s : Slot) → Small 1 (heard c w n s)
 unfolding heard frame
-heard-in c w zero s h = small-none
-heard-in c w (suc n) s h =
-    let f = frame-in _ _ w (after c w n s) h in
-    small-two (heard c w n s) _ _ (heard-in c w n s h) (f .0) (f .1)
+heard-in c w zero s = small-none
+heard-in c w (suc n) s =
+    let f = frame-in _ _ w (after c w n s) in
+    small-two (heard c w n s) _ _ (heard-in c w n s) (f .0) (f .1)
 
 -- 32 voices together
 pub thirty-two : 32 * loudest < 2147483648

@@ -32,6 +32,9 @@
 //!   listing_cases; faults of two kinds, and several of one kind: fault_cases
 //! - how many voices sound (u): count_cases
 //! - gains, the panel's levels and least attenuations at both sides of each 200 cB, and of 1,440 (M-105): gain_cases
+//! - the four points at both sides of each edge of a window and a loop, every q, both ends of the range, rounding below 0,
+//!   modes 1 and 3 before and after release, loops of one to four samples and of about 64 steps, at steps from low to the
+//!   highest, in attacks, decays, releases, bends and pans (M-100): point_cases
 //! - the numbers of each layer's voice (h): strike_cases; values of the tables: number_lines
 //! - what the prover computes by the definitions: proof_examples, over the voices and runs of drawn
 //!
@@ -95,6 +98,7 @@ mod layer_cases;
 mod listing_cases;
 mod number_lines;
 mod numbers_of_table;
+mod point_cases;
 mod proof_examples;
 pub mod record_cases;
 pub mod script;
@@ -197,5 +201,6 @@ pub fn all_cases() -> Script {
     fault_cases::write(&mut script);
     count_cases::write(&mut script);
     gain_cases::write(&mut script);
+    point_cases::write(&mut script);
     script
 }

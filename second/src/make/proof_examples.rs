@@ -13,7 +13,7 @@ const MADE_BY: &str =
     "-- Made by: (cd second && cargo build --release --offline) && second/target/release/second make crates\n";
 
 /// The definitions that the prover looks into where it computes what a voice gives, and where it does so for a run.
-const OF_FRAMES: &str = "unfolding heardAt afterAt after frame frameAt living readAndMoved goOn loud reading behind gained leftOf rightOf gainOf cbOf loss step pitchTotal bendCents stepOf folds fold settled ended levelAt decayAt releaseAt fromDelay fromAttack fromHold fromDecay release leastCb above";
+const OF_FRAMES: &str = "unfolding heardAt afterAt after frame frameAt living readAndMoved goOn loud reading behind before interpolated gained leftOf rightOf gainOf cbOf loss step pitchTotal bendCents stepOf folds fold settled ended levelAt decayAt releaseAt fromDelay fromAttack fromHold fromDecay release leastCb above";
 const OF_RUNS: &str = "unfolding run fresh paired wordOf ofChannel held heldKey letOff off offKey EventsKeys.noteOff pedalHeld cut pedal silence controlled controlChange lowestFree claim leastBy taken seat without renewed startIn EventsStriking.noteOn channelBank anyPast classIn rival start startAll cleared struck noteOnNumber release leastCb above levelAt decayAt releaseAt keysOf marksOf";
 
 // Numbers and lists in the prover's writing
@@ -210,6 +210,12 @@ pub fn examples() -> String {
             Bell(1, 4, [1, 3, 1, 4, 2], 700),
         ),
         &from_start("ending", "no loop: freed at its end, and silent from there", 6, Bell(0, 4, [0, 0, 0, 0, 2], 700)),
+        &from_start(
+            "slow",
+            "no loop, less than a sample a frame: zeros about the window, and held at the lowest number",
+            7,
+            Bell(0, 4, [0, 0, 0, 0, 2], -481),
+        ),
         &place_example("folding", "a loop of two samples and a step of sixteen", 3, Bell(1, 3, [0, 0, 0, 0, 2], 4_800)),
         &from_release(
             "mode3",

@@ -5,8 +5,8 @@ use mir.Syntax.{w16, w64}
 use borrow.Author.Needs.{sfits-of, needs}
 use Rattle.arith.proofs.WithinLaws.{w-back, w-of, w-fits}
 use Rattle.arith.proofs.HoldsLaws.{held-within}
-use Rattle.voice.proofs.sound.pan_of.Statement.{statement}
-use Rattle.voice.proofs.sound.pan_of.Tie as tie
+use Rattle.voice.proofs.sides.pan_of.Statement.{statement}
+use Rattle.voice.proofs.sides.pan_of.Tie as tie
 
 cast-hold : tie.Need-cast-hold
 cast-hold c = rw (toZ-ofZ (c .fits .p)) (w-fits w64 (w-of w16 (c .fits .p)) (lit< tt))
