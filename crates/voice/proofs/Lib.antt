@@ -8,6 +8,7 @@ pub mod MotionLaws
 pub mod PaceLaws
 pub mod PanelLaws
 pub mod ReadingLaws
+pub mod RoundsLaws
 pub mod RunLaws
 pub mod SidesLaws
 pub mod Silence

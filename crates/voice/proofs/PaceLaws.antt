@@ -3,9 +3,9 @@ use Prim.Native.Nat.{ℕ, zero, suc, _+_, _*_, _-_, _/_, _%_, _<_, _≤_, min}
 use mathlib.Core.Path.{_≡_, refl, ap, sym, _∙_, subst}
 use mathlib.Core.Bool.{Bool, true, false, cond}
 use native.Mathlib.Omega.{arith}
-use native.Mathlib.Nat.{add-zero, div-add-mod', mod-lt, mul-suc, mul-zero, add-mul, suc-mul, add-mul-div-right, div-eq-of-lt, div-lt-iff-lt-mul, lt-of-mul-lt-mul-left, not-suc-le-zero}
+use native.Mathlib.Nat.{add-zero, div-add-mod', mod-lt, mul-suc, mul-zero, add-mul, suc-mul, add-mul-div-right, div-eq-of-lt, div-lt-iff-lt-mul, lt-of-mul-lt-mul-left, le-of-lt, not-suc-le-zero}
 use borrow.Author.Tests.{lt-leb, eqb-true, eqb-false}
-use lib.Dec.{eqb, leb, lit<}
+use lib.Dec.{eqb, leb, lit<, lit≤}
 use lib.IntN.{ℤ, pos, _*ℤ_, +ℤ-idr}
 use Rattle.arith.proofs.FloorsLaws.{floor-add}
 use Rattle.arith.specs.Floors.{floorZ}
@@ -52,7 +52,7 @@ positive (suc n) e = omega arith
 within-frames : (whole t n : ℕ) → 0 < n → suc whole * t / n < suc whole → t < n
 within-frames whole t n p h =
     let k : suc whole * t < suc whole * n = div-lt-iff-lt-mul p .0 h in
-    lt-of-mul-lt-mul-left k
+    lt-of-mul-lt-mul-left (suc whole) k
 
 module _ (v : Voice) where
   lives-attack : (t : ℕ) → valueIn v (Attack t) < stopIn v (Attack t) → Lives v (Attack t)
@@ -150,6 +150,15 @@ module _ (v : Voice) where
   stop-same j Sustain = refl
   stop-same j (Release a t) = refl
 
+  -- before it the level is at most full
+  pub level-in : (s : Stage) (x : ℕ) → x < stopIn v s → levelIn s x ≤ 16777216
+  level-in (Delay left) x h = lit≤ tt
+  level-in (Attack t) x h = le-of-lt (has-frames (v .attack) x 16777216 h .1)
+  level-in (Hold t) x h = lit≤ tt
+  level-in (Decay t) x h = lit≤ tt
+  level-in Sustain x h = lit≤ tt
+  level-in (Release a t) x h = lit≤ tt
+
   -- a last frame before the stop leaves the count of frames a 32-bit number
   pub room : (s : Stage) (m : ℕ) → v .attack < 4294967296 → v .hold < 4294967296 → v .decay < 4294967296 → v .release < 4294967296
       → valueIn v (spentBy m s) < stopIn v s → RoomBy (suc m) s
@@ -163,20 +172,20 @@ module _ (v : Voice) where
   room (Decay t) m a h d r k =
       let f = has-frames (v .decay) (valueIn v (Decay (t + m))) (min (v .sustain) 1000) k in
       let e : t + m < v .decay =
-      within-frames 999 (t + m) (v .decay) (positive (v .decay) (f .0)) (subst (λ (n : ℕ). 1000 * (t + m) / n < 1000) (own (v .decay) (f .0)) (thousand (f .1))) in
+      within-frames 999 (t + m) (v .decay) (positive (v .decay) (f .0)) (subst (λ (n : ℕ). 1000 * (t + m) / n < 1000) (own (v .decay) (f .0)) (thousand _ (v .sustain) (f .1))) in
       omega arith
     where
-      thousand : {x z : ℕ} → x < min z 1000 → x < 1000
-      thousand h = omega arith
+      thousand : (x z : ℕ) → x < min z 1000 → x < 1000
+      thousand x z h = omega arith
   room Sustain m a h d r k = tt
   room (Release b t) m a h d r k =
       let f = has-frames (v .release) (valueIn v (Release b (t + m))) (1000 - b) k in
       let e : t + m < v .release =
-      within-frames 999 (t + m) (v .release) (positive (v .release) (f .0)) (subst (λ (n : ℕ). 1000 * (t + m) / n < 1000) (own (v .release) (f .0)) (thousand (f .1))) in
+      within-frames 999 (t + m) (v .release) (positive (v .release) (f .0)) (subst (λ (n : ℕ). 1000 * (t + m) / n < 1000) (own (v .release) (f .0)) (thousand _ b (f .1))) in
       omega arith
     where
-      thousand : {x b : ℕ} → x < 1000 - b → x < 1000
-      thousand h = omega arith
+      thousand : (x b : ℕ) → x < 1000 - b → x < 1000
+      thousand x b h = omega arith
 
   -- the record of a stage is that of the stage with a frame more, once it has gone on
   pub pace-on : (s : Stage) (c : Pace) → Paced (wholeIn s) (framesIn v s) (wholeIn s * spentIn s + wholeIn s) c → PaceAt v (spent s) c

@@ -1,5 +1,5 @@
 -- A stretch of calm frames is what the definition of one frame, repeated, gives.
-use Prim.Native.Nat.{ℕ, zero, suc, _+_, _*_, _-_, _/_, _%_, _<_}
+use Prim.Native.Nat.{ℕ, zero, suc, _+_, _*_, _-_, _/_, _%_, _<_, _≤_}
 use mathlib.Core.Path.{_≡_, refl, ap, sym, ap₂, _∙_, subst}
 use mathlib.Core.List.{List, [], _∷_, _++_}
 use native.Mathlib.Numerals.{add-one}
@@ -8,16 +8,22 @@ use lib.IntN.{ℤ, pos, _*ℤ_}
 use lib.ListN.{length, length-append}
 use mathlib.Core.Bool.{Bool, true, false, cond}
 use native.Mathlib.Nat.{add-zero, not-suc-le-zero, suc-mul, zero-mul}
-use borrow.Author.Tests.{ne-eqb}
 use Rattle.voice.specs.Sound.{leftOf, rightOf, shaped, wholeLoss, gained}
-use Rattle.voice.specs.Internal.Stretch.{plain, plains, Clear}
+use Rattle.voice.specs.Internal.Sides.{share, part, leftOut, rightOut}
+use Rattle.voice.specs.Internal.Stretch.{between, plain, plains, Clear}
+use Rattle.voice.proofs.ReadingLaws.{interpolated-in, side-by-side}
+use Rattle.voice.proofs.SidesLaws.{part-left, part-right}
+use Rattle.arith.specs.Within.{Within}
+use Rattle.arith.proofs.WithinLaws.{w-nat, w-le, w-mul, w-floor-by}
+use Rattle.curves.proofs.PitchLaws.{gain-le}
+use lib.Dec.{lit<, lit≤}
 use Rattle.voice.specs.declared.Stage.{Stage}
 use Rattle.voice.specs.declared.Stage.the-variants.{Delay, Attack, Hold, Decay, Sustain, Release}
 use Rattle.voice.specs.declared.Voice.{Voice}
 use Rattle.voice.specs.Changes.{withMoved, sounds}
 use Rattle.voice.specs.Stages.{envelope, entered, dead, released, fromDelay, fromAttack, fromHold, fromDecay, spent, spentBy}
 use Rattle.voice.specs.Motion.{folds, span}
-use Rattle.voice.specs.Reading.{sample, interpolated, behind, reading}
+use Rattle.voice.specs.Reading.{reading}
 use Rattle.voice.specs.Internal.Calm.{Calm, Calms}
 use Rattle.arith.specs.Floors.{floorZ}
 use Rattle.curves.specs.Levels.{gainOf}
@@ -29,14 +35,14 @@ use Rattle.voice.proofs.FramesLaws.{go-fold, go-stay, frame-on, living-
 use Rattle.voice.specs.Internal.Frames.{afterAt, heardAt}
 
 -- a turn of the stretch's loop
-module _ (gain : ℕ) (pan : ℤ) (w : List ℤ) (st p : ℕ) where
-  pub plains-turn : (m : ℕ) → plains gain pan w st p (m + 1)
-      ≡ plains gain pan w st p m ++ (leftOf (plain gain w (p + m * st)) pan ∷ rightOf (plain gain w (p + m * st)) pan ∷ [])
+module _ (gain left right : ℕ) (w : List ℤ) (st p : ℕ) where
+  pub plains-turn : (m : ℕ) → plains gain left right w st p (m + 1)
+      ≡ plains gain left right w st p m ++ (part (plain gain w (p + m * st)) left ∷ part (plain gain w (p + m * st)) right ∷ [])
   unfolding plains
   plains-turn m = rw add-one
 
   -- two numbers a frame
-  pub plains-length : (m : ℕ) → length (plains gain pan w st p m) ≡ 2 * m
+  pub plains-length : (m : ℕ) → length (plains gain left right w st p m) ≡ 2 * m
   unfolding plains
   plains-length zero = refl
   plains-length (suc m) = simp length-append (omega (arith, plains-length m))
@@ -47,7 +53,7 @@ module _ (v : Voice) (x : Stage) (p : ℕ) (m : Bool) where
   abbrev u : Voice
   u = withMoved v x p m
 
-  entered-same : (s : Stage) → entered u s ≡ entered v s
+  pub entered-same : (s : Stage) → entered u s ≡ entered v s
   unfolding fromDelay fromAttack fromHold fromDecay
   entered-same (Delay left) = refl
   entered-same (Attack t) = refl
@@ -56,7 +62,7 @@ module _ (v : Voice) (x : Stage) (p : ℕ) (m : Bool) where
   entered-same Sustain = refl
   entered-same (Release a t) = refl
 
-  dead-same : (s : Stage) → dead u s ≡ dead v s
+  pub dead-same : (s : Stage) → dead u s ≡ dead v s
   dead-same (Delay left) = refl
   dead-same (Attack t) = refl
   dead-same (Hold t) = refl
@@ -64,7 +70,7 @@ module _ (v : Voice) (x : Stage) (p : ℕ) (m : Bool) where
   dead-same Sustain = refl
   dead-same (Release a t) = refl
 
-  envelope-same : (s : Stage) → envelope u s ≡ envelope v s
+  pub envelope-same : (s : Stage) → envelope u s ≡ envelope v s
   envelope-same (Delay left) = refl
   envelope-same (Attack t) = refl
   envelope-same (Hold t) = refl
@@ -72,7 +78,7 @@ module _ (v : Voice) (x : Stage) (p : ℕ) (m : Bool) where
   envelope-same Sustain = refl
   envelope-same (Release a t) = refl
 
-  shaped-same : (s : Stage) (z : ℤ) → shaped u s z ≡ shaped v s z
+  pub shaped-same : (s : Stage) (z : ℤ) → shaped u s z ≡ shaped v s z
   shaped-same (Delay left) z = refl
   shaped-same (Attack t) z = refl
   shaped-same (Hold t) z = refl
@@ -80,7 +86,7 @@ module _ (v : Voice) (x : Stage) (p : ℕ) (m : Bool) where
   shaped-same Sustain z = refl
   shaped-same (Release a t) z = refl
 
-  folds-same : (g h : Stage) → released h ≡ released g → folds u h ≡ folds v g
+  pub folds-same : (g h : Stage) → released h ≡ released g → folds u h ≡ folds v g
   unfolding folds
   folds-same g h e = rw e
 
@@ -93,7 +99,7 @@ less : (n j : ℕ) → n - j - 1 ≡ n - suc j
 less n j = omega arith
 
 -- one frame more, and j frames
-spent-by : (j : ℕ) (g : Stage) → spent (spentBy j g) ≡ spentBy (suc j) g
+pub spent-by : (j : ℕ) (g : Stage) → spent (spentBy j g) ≡ spentBy (suc j) g
 spent-by j (Delay left) = ap Delay (less left j)
 spent-by j (Attack t) = ap Attack (more t j)
 spent-by j (Hold t) = ap Hold (more t j)
@@ -102,7 +108,7 @@ spent-by j Sustain = refl
 spent-by j (Release a t) = ap (Release a) (more t j)
 
 -- and no frame
-spent-none : (g : Stage) → spentBy 0 g ≡ g
+pub spent-none : (g : Stage) → spentBy 0 g ≡ g
 spent-none (Delay left) = ap Delay (omega arith)
 spent-none (Attack t) = ap Attack (add-zero t)
 spent-none (Hold t) = ap Hold (add-zero t)
@@ -110,15 +116,11 @@ spent-none (Decay t) = ap Decay (add-zero t)
 spent-none Sustain = refl
 spent-none (Release a t) = ap (Release a) (add-zero t)
 
--- away from the loop's end the next sample stands behind
-next-behind : (f : Bool) (from to : ℕ) (w : List ℤ) (p : ℕ) → (f ≡ true → p / 16777216 + 1 < to)
-    → reading f from to w p ≡ interpolated (sample w (p / 16777216)) (sample w (p / 16777216 + 1)) (p % 16777216)
-unfolding reading behind
-next-behind true from to w p h =
-    let k = h refl in
-    ap (λ (b : Bool). interpolated (sample w (p / 16777216)) (sample w (cond b from (p / 16777216 + 1))) (p % 16777216))
-    (ne-eqb (p / 16777216 + 1) to (λ e. omega arith))
-next-behind false from to w p h = refl
+-- a plain frame is a number of a voice
+plain-in : (gain : ℕ) (w : List ℤ) (p : ℕ) → gain ≤ 16777216 → Within (plain gain w p) 16777216
+unfolding plain
+plain-in gain w p h =
+    w-le (w-floor-by 8388609 65536 (lit< tt) (lit≤ tt) (w-mul (interpolated-in _ _ _ _ _) (w-nat h))) (lit≤ tt)
 
 module _ (st : ℕ) (l : ℤ) (w : List ℤ) (v : Voice) (g : Stage) (alive : dead v g ≡ false) where
   -- the gain, which stays
@@ -130,8 +132,8 @@ module _ (st : ℕ) (l : ℤ) (w : List ℤ) (v : Voice) (g : Stage) (alive : de
   calmly h p =
       record {
         slot = sounds (withMoved v (spent h) (p + st) (v .marked));
-        left = leftOf (plain gainAt w p) (v .pan);
-        right = rightOf (plain gainAt w p) (v .pan);
+        left = part (plain gainAt w p) (share (leftOut (v .pan)));
+        right = part (plain gainAt w p) (share (rightOut (v .pan)));
       }
 
   -- a frame with u = z, before its pan
@@ -158,12 +160,12 @@ module _ (st : ℕ) (l : ℤ) (w : List ℤ) (v : Voice) (g : Stage) (alive : de
             ∙ ap (λ (q : ℕ). sounds (withMoved v (spent h) q (v .marked))) (fold-in (v .loopfrom * 16777216) (v .loopto * 16777216) (p + st) z)
         by false e z = go-stay at h (p + st) (folding ∙ e) z
 
-    -- what it reads, at the gain
-    reads : reading (folds at h) (v .loopfrom) (v .loopto) w p
-        ≡ interpolated (sample w (p / 16777216)) (sample w (p / 16777216 + 1)) (p % 16777216)
+    -- what it reads
+    reads : reading (folds at h) (v .loopfrom) (v .loopto) w p ≡ between w (p / 16777216) (p % 16777216 / 4096)
+    unfolding reading
     reads =
-        next-behind (folds at h) (v .loopfrom) (v .loopto) w p
-        (λ (e : folds at h ≡ true). subst (λ (f : Bool). p / 16777216 + 1 < cond f (v .loopto) (span v)) (sym folding ∙ e) (k .before))
+        side-by-side (folds at h) (v .loopfrom) (v .loopto) w (p / 16777216) (p % 16777216 / 4096)
+        (λ (e : folds at h ≡ true). subst (λ (f : Bool). p / 16777216 + 2 < cond f (v .loopto) (span v)) (sym folding ∙ e) (k .before))
 
     -- what it gives, before its pan
     louds : loud l w at h ≡ plain gainAt w p
@@ -182,6 +184,14 @@ module _ (st : ℕ) (l : ℤ) (w : List ℤ) (v : Voice) (g : Stage) (alive : de
         ∙ ap (living st l w at) (entered-same v x p (v .marked) x ∙ e)
         ∙ living-plays st l w at h u (c .waits)
         ∙ ap₂ (λ (s : Slot) (z : ℤ). framed s z) goes louds
+        ∙ ap₂ (λ (y z : ℤ). sided y z) (sym (part-left (plain gainAt w p) (v .pan) inside)) (sym (part-right (plain gainAt w p) (v .pan) inside))
+      where
+        -- the frame with its sides
+        sided : ℤ → ℤ → Framed
+        sided y z = record { slot = sounds (withMoved v (spent h) (p + st) (v .marked)); left = y; right = z }
+
+        inside : Within (plain gainAt w p) 16777216
+        inside = plain-in gainAt w p (gain-le (wholeLoss l (envelope v g)))
 
   -- the stage before frame j of the stretch
   abbrev stageAt : ℕ → Stage
@@ -191,7 +201,7 @@ module _ (st : ℕ) (l : ℤ) (w : List ℤ) (v : Voice) (g : Stage) (alive : de
   -- what m frames lead to
   pub record Stretched (m : ℕ) (s : Slot) (xs : List ℤ) : Type 0 where
     pub slot : s ≡ sounds (withMoved v (stageAt m) (v .place + m * st) (v .marked))
-    pub sums : xs ≡ plains gainAt (v .pan) w st (v .place) m
+    pub sums : xs ≡ plains gainAt (share (leftOut (v .pan))) (share (rightOut (v .pan))) w st (v .place) m
 
   module _ (enters : entered v (v .stage) ≡ g) where
     -- each frame enters its stage of the stretch
@@ -232,5 +242,5 @@ module _ (st : ℕ) (l : ℤ) (w : List ℤ) (v : Voice) (g : Stage) (alive : de
 
     -- what is heard in them
     pub stretch-sums : (m : ℕ) → Calms v g m → ((j : ℕ) → j < m → Clear w v g st (v .place + j * st))
-        → heardAt st l w m (sounds v) ≡ plains (gainOf (wholeLoss l (envelope v g))) (v .pan) w st (v .place) m
+        → heardAt st l w m (sounds v) ≡ plains (gainOf (wholeLoss l (envelope v g))) (share (leftOut (v .pan))) (share (rightOut (v .pan))) w st (v .place) m
     stretch-sums m c k = stretched m c k .sums

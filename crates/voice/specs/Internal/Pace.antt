@@ -74,9 +74,9 @@ cbIn v (Decay t) x = x
 cbIn v Sustain x = v .sustain
 cbIn v (Release a t) x = a + x
 
--- the quotient of sum over frames, and what a frame adds of whole: the code's record
-pub record Paced (whole frames sum : ℕ) (c : Pace) : Type 0 where
-  pub frames : c .frames ≡ frames
+-- the code's record: sum over n frames as a quotient, and what a frame adds to it, whole over n
+pub record Paced (whole n sum : ℕ) (c : Pace) : Type 0 where
+  pub frames : c .frames ≡ n
   pub size : (0 < c .frames) × (c .frames < 4294967296)
   pub value : c .value * c .frames + c .over ≡ sum
   pub over : c .over < c .frames

@@ -1,51 +1,59 @@
--- The reading, by the contracts of the two samples and of the reading between them.
-use lib.Dec.{lit<}
-use lib.IntN.{ℤ}
-use mir.Syntax.{w64, w16}
-use mir.Facts.{toZ-ofZ}
-use borrow.Author.Needs.{sfits-of, needs}
-use Prim.Native.Nat.{ℕ, _%_}
-use mathlib.Core.Path.{ap₂, ap, _∙_}
-use Rattle.arith.proofs.WithinLaws.{w-back}
-use Rattle.voice.specs.Reading.{interpolated, reading, sample}
+use borrow.Author.Needs.{needs}
 use Rattle.voice.proofs.reading.read.Statement.{statement}
 use Rattle.voice.proofs.reading.read.Tie as tie
+use Rattle.voice.proofs.reading.read.Reads as reads
+use Rattle.voice.proofs.reading.read.Lts as lts
+use Rattle.voice.proofs.reading.before_at.Reads as before-at-reads
+use Rattle.voice.proofs.reading.behind_at.Reads as behind-at-reads
+use Rattle.voice.proofs.reading.reading_of.Reads as reading-of-reads
+use Rattle.voice.proofs.reading.sample_at.Reads as sample-at-reads
 
-cast-f : tie.Need-cast-f
-cast-f c = search needs
+-- src/reading.rt:67:13
+cast-q : tie.Need-cast-q
+cast-q c = search needs
 
+-- src/reading.rt:68:9
 behind-at-requires : tie.Need-behind-at-requires
 behind-at-requires c κs = search needs
 
+-- src/reading.rt:69:9
+behind-at-requires-2 : tie.Need-behind-at-requires-2
+behind-at-requires-2 c κs = ?
+
+-- src/reading.rt:70:9
+before-at-requires : tie.Need-before-at-requires
+before-at-requires c κs = search needs
+
+-- src/reading.rt:71:9
 sample-at-requires : tie.Need-sample-at-requires
 sample-at-requires c κs = search needs
 
+-- src/reading.rt:72:9
 sample-at-requires-2 : tie.Need-sample-at-requires-2
 sample-at-requires-2 c κs = search needs
 
+-- src/reading.rt:73:9
+sample-at-requires-3 : tie.Need-sample-at-requires-3
+sample-at-requires-3 c κs = search needs
+
+-- src/reading.rt:74:5
 reading-of-requires : tie.Need-reading-of-requires
 reading-of-requires c κs = search needs
 
+-- src/reading.rt:63:1
 returns : tie.Need-returns
-unfolding reading
-returns c = let b = c .before in
-    let a = b .before .before .before .args in
-    let x = toZ-ofZ {w = w16} {z = b .before .sample-at .result} (sfits-of (b .before .sample-at .ok)) in
-    let y = toZ-ofZ {w = w16} {z = b .sample-at2 .result} (sfits-of (b .sample-at2 .ok)) in
-    let e = rw (x, y) at (c .reading-of .ensures .0) in
-    let k = ap (λ (j : ℕ). sample (a .w .now) j) (b .before .before .behind-at .ensures) in (
-      rw (w-back w64 (c .reading-of .ensures .1) (lit< tt))
-          (e ∙ ap₂ (λ (p q : ℤ). interpolated p q (a .place % 16777216)) (b .before .sample-at .ensures) (b .sample-at2 .ensures ∙ k)),
-      rw (w-back w64 (c .reading-of .ensures .1) (lit< tt)) (c .reading-of .ensures .1),
-    )
+returns c = ?
 
 pub read-spec : {M : Type 1} → statement M
 read-spec =
     tie.close
     (tie.spec
-    cast-f
+    cast-q
     behind-at-requires
+    behind-at-requires-2
+    before-at-requires
     sample-at-requires
     sample-at-requires-2
+    sample-at-requires-3
     reading-of-requires
     returns)

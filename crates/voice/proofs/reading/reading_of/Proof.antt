@@ -1,36 +1,52 @@
--- The reading of two samples, each widened to 64 bits.
 use borrow.Author.Needs.{needs}
-use mathlib.Core.Path.{_≡_}
-use lib.IntN.{ℤ}
-use mir.Val.{SFits, toZ, ofZ}
-use lib.Dec.{lit<}
-use mir.Facts.{toZ-ofZ}
-use mir.Syntax.{w16, w64}
-use Rattle.arith.proofs.WithinLaws.{w-of, w-nat, w-fits, w-back}
 use Rattle.voice.proofs.reading.reading_of.Statement.{statement}
 use Rattle.voice.proofs.reading.reading_of.Tie as tie
+use Rattle.voice.proofs.reading.reading_of.Reads as reads
+use Rattle.voice.proofs.reading.reading_of.Lts as lts
+use Rattle.arith.proofs.hold.Reads as hold-reads
+use Rattle.voice.proofs.reading.curved.Reads as curved-reads
 
-abbrev back16 : {z : ℤ} → SFits w16 z → toZ w64 (ofZ w64 z) ≡ z
-back16 h = w-back w64 (w-of w16 h) (lit< tt)
+-- src/reading.rt:58:20
+cast-curved : tie.Need-cast-curved
+cast-curved c = ?
 
-cast-reading : tie.Need-cast-reading
-cast-reading c = rw (toZ-ofZ (c .fits .a)) (w-fits w64 (w-of w16 (c .fits .a)) (lit< tt))
+-- src/reading.rt:58:31
+cast-curved-2 : tie.Need-cast-curved-2
+cast-curved-2 c = ?
 
-cast-reading-2 : tie.Need-cast-reading-2
-cast-reading-2 c = rw (toZ-ofZ (c .fits .b)) (w-fits w64 (w-of w16 (c .fits .b)) (lit< tt))
+-- src/reading.rt:58:42
+cast-curved-3 : tie.Need-cast-curved-3
+cast-curved-3 c = ?
 
-cast-reading-3 : tie.Need-cast-reading-3
-cast-reading-3 c = search needs
+-- src/reading.rt:58:53
+cast-curved-4 : tie.Need-cast-curved-4
+cast-curved-4 c = ?
 
-reading-requires : tie.Need-reading-requires
-reading-requires c κs =
-    rw (toZ-ofZ (c .fits .a), toZ-ofZ (c .fits .b), back16 (c .fits .a), back16 (c .fits .b), w-back w64 (w-nat (c .pre)) (lit< tt))
-    (w-of w16 (c .fits .a), w-of w16 (c .fits .b), w-nat (c .pre))
+-- src/reading.rt:58:64
+cast-curved-5 : tie.Need-cast-curved-5
+cast-curved-5 c = search needs
 
+-- src/reading.rt:58:9
+curved-requires : tie.Need-curved-requires
+curved-requires c κs = ?
+
+-- src/reading.rt:59:5
+hold-requires : tie.Need-hold-requires
+hold-requires c κs = search needs
+
+-- src/reading.rt:54:1
 returns : tie.Need-returns
-returns c =
-    rw (w-back w64 (c .reading .ensures .1) (lit< tt))
-    (rw (toZ-ofZ (c .before .fits .a), toZ-ofZ (c .before .fits .b), back16 (c .before .fits .a), back16 (c .before .fits .b), w-back w64 (w-nat (c .before .pre)) (lit< tt)) at (c .reading .ensures))
+returns c = ?
 
 pub reading-of-spec : {M : Type 1} → statement M
-reading-of-spec = tie.close (tie.spec cast-reading cast-reading-2 cast-reading-3 reading-requires returns)
+reading-of-spec =
+    tie.close
+    (tie.spec
+    cast-curved
+    cast-curved-2
+    cast-curved-3
+    cast-curved-4
+    cast-curved-5
+    curved-requires
+    hold-requires
+    returns)

@@ -1,49 +1,81 @@
--- Two samples of the window.
-use lib.Dec.{lit<}
-use mir.Facts.{toZ-ofZ}
-use mir.Syntax.{w16, w64}
-use borrow.Author.Needs.{sfits-of, needs}
-use Rattle.arith.proofs.WithinLaws.{w-back}
+use borrow.Author.Needs.{needs}
 use Rattle.voice.proofs.stretch.read_on.Statement.{statement}
 use Rattle.voice.proofs.stretch.read_on.Tie as tie
+use Rattle.voice.proofs.stretch.read_on.Reads as reads
+use Rattle.voice.proofs.stretch.read_on.Lts as lts
+use Rattle.voice.proofs.reading.reading_of.Reads as reading-of-reads
 
-cast-f : tie.Need-cast-f
-cast-f c = search needs
+-- src/stretch.rt:106:13
+cast-q : tie.Need-cast-q
+cast-q c = search needs
 
-mul-a : tie.Need-mul-a
-mul-a c = search needs
+-- src/stretch.rt:107:16
+sub-x0 : tie.Need-sub-x0
+sub-x0 c = search needs
 
-shared-slice-copy-out-a : tie.Need-shared-slice-copy-out-a
-shared-slice-copy-out-a c = search needs
+-- src/stretch.rt:107:14
+mul-x0 : tie.Need-mul-x0
+mul-x0 c = search needs
 
-add-b : tie.Need-add-b
-add-b c = search needs
+-- src/stretch.rt:107:14
+shared-slice-copy-out-x0 : tie.Need-shared-slice-copy-out-x0
+shared-slice-copy-out-x0 c = search needs
 
-mul-b : tie.Need-mul-b
-mul-b c = search needs
+-- src/stretch.rt:108:14
+mul-x1 : tie.Need-mul-x1
+mul-x1 c = search needs
 
-shared-slice-copy-out-b : tie.Need-shared-slice-copy-out-b
-shared-slice-copy-out-b c = search needs
+-- src/stretch.rt:108:14
+shared-slice-copy-out-x1 : tie.Need-shared-slice-copy-out-x1
+shared-slice-copy-out-x1 c = search needs
 
+-- src/stretch.rt:109:16
+add-x2 : tie.Need-add-x2
+add-x2 c = search needs
+
+-- src/stretch.rt:109:14
+mul-x2 : tie.Need-mul-x2
+mul-x2 c = search needs
+
+-- src/stretch.rt:109:14
+shared-slice-copy-out-x2 : tie.Need-shared-slice-copy-out-x2
+shared-slice-copy-out-x2 c = search needs
+
+-- src/stretch.rt:110:16
+add-x3 : tie.Need-add-x3
+add-x3 c = search needs
+
+-- src/stretch.rt:110:14
+mul-x3 : tie.Need-mul-x3
+mul-x3 c = search needs
+
+-- src/stretch.rt:110:14
+shared-slice-copy-out-x3 : tie.Need-shared-slice-copy-out-x3
+shared-slice-copy-out-x3 c = search needs
+
+-- src/stretch.rt:111:5
 reading-of-requires : tie.Need-reading-of-requires
 reading-of-requires c κs = search needs
 
+-- src/stretch.rt:101:1
 returns : tie.Need-returns
-returns c =
-    let y = c .before in
-    let x = y .before in
-    rw (w-back w64 (c .reading-of .ensures .1) (lit< tt))
-    (rw (toZ-ofZ {w = w16} (sfits-of (x .a .given)), toZ-ofZ {w = w16} (sfits-of (y .b .given))) at (c .reading-of .ensures .0), c .reading-of .ensures .1)
+returns c = ?
 
 pub read-on-spec : {M : Type 1} → statement M
 read-on-spec =
     tie.close
     (tie.spec
-    cast-f
-    mul-a
-    shared-slice-copy-out-a
-    add-b
-    mul-b
-    shared-slice-copy-out-b
+    cast-q
+    sub-x0
+    mul-x0
+    shared-slice-copy-out-x0
+    mul-x1
+    shared-slice-copy-out-x1
+    add-x2
+    mul-x2
+    shared-slice-copy-out-x2
+    add-x3
+    mul-x3
+    shared-slice-copy-out-x3
     reading-of-requires
     returns)
