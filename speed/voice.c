@@ -83,6 +83,24 @@ static uint64_t fold(uint64_t a, uint64_t b, uint64_t p) {
     return near < b ? near : a + (p - a) % (b - a);
 }
 
+// Behind sample i: while it folds, behind the loop's last stands its first.
+static size_t behind(const Voice *v, bool f, size_t i) { return f && i + 1 == v->loopto ? v->loopfrom : i + 1; }
+
+static int64_t sample(const int16_t *w, size_t len, size_t i) { return i < len ? w[i] : 0; }
+
+// Four points, q in 4,096ths of the way from x1 to x2 (02, M-100): the same sum, by Horner's rule and with x1 taken out of the fraction.
+static int64_t smooth(int64_t x0, int64_t x1, int64_t x2, int64_t x3, int64_t q) {
+    int64_t c1 = x2 - x0, c2 = 2 * x0 - 5 * x1 + 4 * x2 - x3, c3 = 3 * x1 - x0 - 3 * x2 + x3;
+    int64_t x = x1 + (((c3 * q + c2 * 4096) * q + c1 * 4096 * 4096) * q >> 37);
+    return x < -32768 ? -32768 : x > 32767 ? 32767 : x;
+}
+
+// x0 is the sample before x1, after a fold too; 0 at the window's start.
+static int64_t reading(const Voice *v, bool f, const int16_t *w, size_t len) {
+    size_t i = v->place >> 24, j = behind(v, f, i), k = behind(v, f, j);
+    return smooth(i > 0 ? sample(w, len, i - 1) : 0, sample(w, len, i), sample(w, len, j), sample(w, len, k), v->place >> 12 & 4095);
+}
+
 static void run(Slot *s, uint16_t bend, uint8_t volume, uint8_t expression, const int16_t *w, size_t len, int32_t *acc, size_t n) {
     Voice *v = &s->voice;
     uint32_t st = step_of(v, bend);
@@ -102,9 +120,7 @@ static void run(Slot *s, uint16_t bend, uint8_t volume, uint8_t expression, cons
             continue;
         }
         bool f = folds(v);
-        size_t i = v->place >> 24, j = f && i + 1 == v->loopto ? v->loopfrom : i + 1;
-        int64_t x0 = i < len ? w[i] : 0, x1 = j < len ? w[j] : 0;
-        int64_t x = x0 + ((x1 - x0) * (int64_t)(v->place & 16777215) >> 24);
+        int64_t x = reading(v, f, w, len);
         int64_t a = loss + (int64_t)e;
         if (a < 0) a = 0;
         int64_t u = x * (a > 1440 ? 0 : GAINS[a]) >> 16;

@@ -1,4 +1,4 @@
--- As many renders as asked.
+-- As many renders as asked, each behind its strikes.
 use lib.ListN.{length}
 use mathlib.Core.Path.{_≡_}
 use borrow.Author.Needs.{needs}
@@ -7,13 +7,16 @@ use Rattle.render_bench.proofs.play.Statement.{statement}
 use Rattle.render_bench.proofs.play.Tie as tie
 
 abbrev Inv-loop : tie.InvT-loop
-Inv-loop ram rom out₀ renders e₀ i₀ out e i = (i ≤ renders) × (length out ≡ length out₀)
+Inv-loop bank ram rom out₀ renders frames strikes e₀ i₀ out e i = (i ≤ renders) × (length out ≡ length out₀)
 
 abbrev μ-loop : tie.MeasureT-loop
-μ-loop ram rom out₀ renders e₀ i₀ out e i = renders - i
+μ-loop bank ram rom out₀ renders frames strikes e₀ i₀ out e i = renders - i
 
 loop-holds : tie.Need-loop-holds Inv-loop μ-loop
 loop-holds c = search needs
+
+strike-requires : tie.Need-strike-requires Inv-loop μ-loop
+strike-requires c κs = search needs
 
 wrapping-add-u32-requires : tie.Need-wrapping-add-u32-requires Inv-loop μ-loop
 wrapping-add-u32-requires c κs = search needs
@@ -43,6 +46,7 @@ play-spec =
     Inv-loop
     μ-loop
     loop-holds
+    strike-requires
     wrapping-add-u32-requires
     render-requires
     add-i

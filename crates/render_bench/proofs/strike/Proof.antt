@@ -10,9 +10,6 @@ Inv-loop bank ram rom strikes e₀ i₀ e i = i ≤ strikes
 abbrev μ-loop : tie.MeasureT-loop
 μ-loop bank ram rom strikes e₀ i₀ e i = strikes - i
 
-fresh-requires : tie.Need-fresh-requires Inv-loop μ-loop
-fresh-requires c κs = search needs
-
 loop-holds : tie.Need-loop-holds Inv-loop μ-loop
 loop-holds c = search needs
 
@@ -40,7 +37,6 @@ strike-spec =
     (tie.spec
     Inv-loop
     μ-loop
-    fresh-requires
     loop-holds
     key-of-requires
     note-on-requires
