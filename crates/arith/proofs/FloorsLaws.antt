@@ -60,7 +60,8 @@ floor-bias (negsuc a) K d p h =
     less (suc K) q l = sub-neg (suc K - suc q) (suc K) (omega arith) ∙ ap negsuc (omega arith)
 
 -- ---- `floorZ` is the floor: q = floorZ z d is the number with q * d <= z < (q + 1) * d
-neg-suc : (n : ℕ) → 0 < n → negℤ (pos n) ≡ negsuc (n - 1)
+-- -n where n is not 0
+pub neg-suc : (n : ℕ) → 0 < n → negℤ (pos n) ≡ negsuc (n - 1)
 neg-suc zero h = absurd (no h)
   where
     no : 0 < 0 → ⊥

@@ -37,9 +37,9 @@ turned [] = []
 turned (c ∷ cs) = negℤ c ∷ turned cs
 
 -- factors so many times
-abbrev thrice : ℕ → List ℤ → List ℤ
-thrice zero cs = []
-thrice (suc k) cs = plus (thrice k cs) cs
+abbrev often : ℕ → List ℤ → List ℤ
+often zero cs = []
+often (suc k) cs = plus (often k cs) cs
 
 -- the factor 1 of one variable
 abbrev unit : ℕ → List ℤ
@@ -51,7 +51,7 @@ abbrev pub factors : S → List ℤ
 factors (var i) = unit i
 factors (add a b) = plus (factors a) (factors b)
 factors (sub a b) = plus (factors a) (turned (factors b))
-factors (times k a) = thrice k (factors a)
+factors (times k a) = often k (factors a)
 
 plus-dot : (cs ds ρ : List ℤ) → dot (plus cs ds) ρ ≡ dot cs ρ +ℤ dot ds ρ
 plus-dot [] ds ρ = sym (+ℤ-idl (dot ds ρ))
@@ -65,10 +65,10 @@ turned-dot [] ρ = refl
 turned-dot (c ∷ cs) [] = refl
 turned-dot (c ∷ cs) (x ∷ ρ) = ap₂ (λ (y z : ℤ). y +ℤ z) (neg-mul-Z c x) (turned-dot cs ρ) ∙ sym (negℤ-+ℤ (c *ℤ x) (dot cs ρ))
 
-thrice-dot : (k : ℕ) (cs ρ : List ℤ) → dot (thrice k cs) ρ ≡ pos k *ℤ dot cs ρ
-thrice-dot zero cs ρ = sym (zero-*ℤ (dot cs ρ))
-thrice-dot (suc k) cs ρ =
-    plus-dot (thrice k cs) cs ρ ∙ ap (λ (x : ℤ). x +ℤ dot cs ρ) (thrice-dot k cs ρ) ∙ sym (sucℤ-*ℤ (pos k) (dot cs ρ))
+often-dot : (k : ℕ) (cs ρ : List ℤ) → dot (often k cs) ρ ≡ pos k *ℤ dot cs ρ
+often-dot zero cs ρ = sym (zero-*ℤ (dot cs ρ))
+often-dot (suc k) cs ρ =
+    plus-dot (often k cs) cs ρ ∙ ap (λ (x : ℤ). x +ℤ dot cs ρ) (often-dot k cs ρ) ∙ sym (sucℤ-*ℤ (pos k) (dot cs ρ))
 
 unit-dot : (i : ℕ) (ρ : List ℤ) → dot (unit i) ρ ≡ getD ρ i (pos 0)
 unfolding one
@@ -85,7 +85,7 @@ counted (sub a b) ρ =
     ap₂ (λ (x y : ℤ). x -ℤ y) (counted a ρ) (counted b ρ)
     ∙ ap (λ (y : ℤ). dot (factors a) ρ +ℤ y) (sym (turned-dot (factors b) ρ))
     ∙ sym (plus-dot (factors a) (turned (factors b)) ρ)
-counted (times k a) ρ = ap (λ (x : ℤ). pos k *ℤ x) (counted a ρ) ∙ sym (thrice-dot k (factors a) ρ)
+counted (times k a) ρ = ap (λ (x : ℤ). pos k *ℤ x) (counted a ρ) ∙ sym (often-dot k (factors a) ρ)
 
 -- the same factors, the same number
 pub linear : (a b : S) (ρ : List ℤ) → factors a ≡ factors b → says a ρ ≡ says b ρ

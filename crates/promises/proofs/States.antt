@@ -23,7 +23,7 @@ use Rattle.voice.specs.declared.Voice.{Voice}
 use Rattle.voice.specs.Changes.{withMoved, sounds, free}
 use Rattle.voice.specs.Frames.{silent, moved, goOn, readAndMoved, living, frameAt, frame, after}
 use Rattle.voice.specs.Motion.{span, folds, folded, settled, ended}
-use Rattle.voice.specs.Reading.{behind}
+use Rattle.voice.specs.Reading.{before, behind}
 use Rattle.voice.specs.Release.{letGo, release}
 use Rattle.voice.specs.Sound.{panOf}
 use Rattle.voice.specs.Stages.{levelAt, entered, dead, waiting, released, spent}
@@ -41,7 +41,7 @@ use Rattle.events.specs.Starting.{cleared}
 use Rattle.engine.specs.Rendering.{window}
 use Rattle.promises.specs.Calls.{Call, Render, does, run, voiceIn, framesRun}
 use Rattle.promises.specs.Age.{Ordered}
-use Rattle.promises.specs.States.{NoSecondRelease, OrderUnguarded, NoOrderGuard, amid, InBounds, StatesHold, FramesHold, Unguarded, NoGuardActs, NoGuardInFrames, NoZeroChannel, Windowed, NoEmptyWindow, Sample, Behind, ReadsOwn, OnlyItsSamples, secondOf}
+use Rattle.promises.specs.States.{NoSecondRelease, OrderUnguarded, NoOrderGuard, amid, InBounds, StatesHold, FramesHold, Unguarded, NoGuardActs, NoGuardInFrames, NoZeroChannel, Windowed, NoEmptyWindow, Sample, Behind, Before, ReadsOwn, OnlyItsSamples, firstOf, secondOf, thirdOf}
 use Rattle.promises.proofs.Banks.{Came, came}
 use Rattle.promises.proofs.Demand1.{render-numbers}
 use Rattle.promises.proofs.Demand2.{let-go}
@@ -392,29 +392,45 @@ module _ (ram rom : List ℤ) (v : Voice) (h : Windowed ram rom v) (l : v .end �
         is = ap (λ (w : List ℤ). getD w j (pos 0)) (h .part) ∙ getD-take (span v) (drop (v .start) m) j (pos 0) less ∙ getD-drop (v .start) m j (pos 0);
       }
 
-  -- the second number
-  is-second : InBounds v → Read (window ram rom v) (secondOf v)
-      → Sample ram rom v (secondOf v) ⊎ ((folds v (stageIn v) ≡ false) × Behind ram rom v (secondOf v))
-  is-second b (inl k) = inl (is-sample (secondOf v) k)
-  is-second b (inr k) = by (folds v g) refl
-    where
-      g : Stage
-      g = stageIn v
+  -- while it folds, both numbers behind lie before the loop's end
+  in-loop : InBounds v → folds v (stageIn v) ≡ true → (secondOf v < v .loopto) × (thirdOf v < v .loopto)
+  in-loop b q =
+      let g = stageIn v in
+      let l = folds-loop v g q in
+      let p = b .folded (folds-before v (v .stage) g (λ r. enters v (v .stage) .1 ∙ r) q) in
+      let at : v .place / 16777216 < v .loopto = div-lt-iff-lt-mul (lit< tt) .1 p in
+      let second : secondOf v < v .loopto = rw q (behind-lt (v .loopfrom) (v .loopto) (v .place / 16777216) l at) in
+      let third : behind true (v .loopfrom) (v .loopto) (secondOf v) < v .loopto = behind-lt (v .loopfrom) (v .loopto) (secondOf v) l second in
+      (second, subst (λ (f : Bool). behind f (v .loopfrom) (v .loopto) (secondOf v) < v .loopto) (sym q) third)
 
-      by : (f : Bool) → folds v g ≡ f → Sample ram rom v (secondOf v) ⊎ ((folds v g ≡ false) × Behind ram rom v (secondOf v))
-      by false q = inr (q, record { behind = omega (arith, k .0, h .whole, h .some); zero = k .1 })
-      by true q =
-          let p = b .folded (folds-before v (v .stage) g (λ r. enters v (v .stage) .1 ∙ r) q) in
-          let at : v .place / 16777216 < v .loopto = div-lt-iff-lt-mul (lit< tt) .1 p in
-          let j : secondOf v < v .loopto = rw q (behind-lt (v .loopfrom) (v .loopto) (v .place / 16777216) (folds-loop v g q) at) in
-          absurd (over (secondOf v) (v .loopto) (span v) j (b .loop-in (folds-mode v g q)) (k .0 ∙ h .whole))
+  -- such a number is a sample, or one of the zeros behind where it does not fold
+  is-behind : InBounds v → (n j : ℕ) → (folds v (stageIn v) ≡ true → j < v .loopto) → Read (window ram rom v) n j
+      → Sample ram rom v j ⊎ ((folds v (stageIn v) ≡ false) × Behind ram rom v n j)
+  is-behind b n j t (inl k) = inl (is-sample j k)
+  is-behind b n j t (inr k) = by (folds v (stageIn v)) refl
+    where
+      by : (f : Bool) → folds v (stageIn v) ≡ f → Sample ram rom v j ⊎ ((folds v (stageIn v) ≡ false) × Behind ram rom v n j)
+      by false q = inr (q, record { behind = omega (arith, k .0, h .whole, h .some); near = omega (arith, k .1, h .whole, h .some); zero = k .2 })
+      by true q = absurd (over j (v .loopto) (span v) (t q) (b .loop-in (folds-mode v (stageIn v) q)) (omega (arith, k .0, h .whole)))
         where
-          over : (j to n : ℕ) → j < to → to ≤ n → j ≡ n → ⊥
+          over : (j to n : ℕ) → j < to → to ≤ n → n ≤ j → ⊥
           over j to n x y z = omega arith
 
-  -- and so both
+  -- what stands before a sample
+  is-before : (j : ℕ) → j < length (window ram rom v) → Before ram rom v j
+  unfolding before
+  is-before zero k = refl
+  is-before (suc j) k = (refl, is-sample j (omega arith))
+
+  -- and so all four
   reads-own : InBounds v → Reads (window ram rom v) v (stageIn v) → ReadsOwn ram rom v
-  reads-own b r = record { first = is-sample (v .place / 16777216) (r .first); second = is-second b (r .second) }
+  reads-own b r =
+      record {
+        fore = is-before (firstOf v) (r .first);
+        first = is-sample (firstOf v) (r .first);
+        second = is-behind b 1 (secondOf v) (λ q. in-loop b q .0) (r .second);
+        third = is-behind b 2 (thirdOf v) (λ q. in-loop b q .1) (r .third);
+      }
 
 -- what a frame reads, by the window that its render found
 frame-reads : (xs : List Call) (i k : ℕ) → k < framesRun xs fresh → slotAt (inFront k xs fresh) i .sounding ≡ true

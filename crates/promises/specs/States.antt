@@ -1,6 +1,6 @@
 -- Reached states: what holds of every voice that sounds after any run. So no guard ever acts (what a definition adds to 01 for
 -- values that 01 does not speak of), and a voice reads its own samples.
-use Prim.Native.Nat.{ℕ, _+_, _*_, _/_, _<_, _≤_}
+use Prim.Native.Nat.{ℕ, zero, suc, _+_, _*_, _/_, _<_, _≤_}
 use mathlib.Core.Bool.{true, false, not, _&&_, _||_}
 use mathlib.Core.Path.{_≡_}
 use mathlib.Core.List.{List, [], _∷_, _++_}
@@ -16,7 +16,7 @@ use Rattle.voice.specs.declared.Stage.the-variants.{Attack}
 use Rattle.voice.specs.declared.Voice.{Voice}
 use Rattle.voice.specs.Stages.{levelAt, released}
 use Rattle.voice.specs.Motion.{span, folds}
-use Rattle.voice.specs.Reading.{sample, behind}
+use Rattle.voice.specs.Reading.{sample, before, behind}
 use Rattle.voice.specs.Sound.{panOf}
 use Rattle.state.specs.Channels.{channelAt}
 use Rattle.state.specs.Quiet.{fresh}
@@ -137,19 +137,35 @@ pub record Sample (ram rom : List ℤ) (v : Voice) (j : ℕ) : Type 0 where
   pub lent : v .start + j < length (memory ram rom v)
   pub is : sample (window ram rom v) j ≡ getD (memory ram rom v) (v .start + j) (pos 0)
 
--- it is the 0 behind the window's last sample
-pub record Behind (ram rom : List ℤ) (v : Voice) (j : ℕ) : Type 0 where
-  pub behind : v .start + j ≡ v .end
+-- it is one of the first n zeros behind the window's last sample
+pub record Behind (ram rom : List ℤ) (v : Voice) (n j : ℕ) : Type 0 where
+  pub behind : v .end ≤ v .start + j
+  pub near : v .start + j < v .end + n
   pub zero : sample (window ram rom v) j ≡ pos 0
 
--- the number of the second sample that a frame of the voice reads
-abbrev pub secondOf : Voice → ℕ
-secondOf v = behind (folds v (stageIn v)) (v .loopfrom) (v .loopto) (v .place / 16777216)
+-- the number of the sample at the voice's place
+abbrev pub firstOf : Voice → ℕ
+firstOf v = v .place / 16777216
 
--- what a frame reads at the voice's place: a sample, and then a sample or, where it does not fold, the 0 behind the last
+-- the one behind it
+abbrev pub secondOf : Voice → ℕ
+secondOf v = behind (folds v (stageIn v)) (v .loopfrom) (v .loopto) (firstOf v)
+
+-- and the one behind that
+abbrev pub thirdOf : Voice → ℕ
+thirdOf v = behind (folds v (stageIn v)) (v .loopfrom) (v .loopto) (secondOf v)
+
+-- what stands before number j: a sample and the one before it in the memory, or the 0 in front of the window
+abbrev pub Before : (ram rom : List ℤ) → Voice → ℕ → Type 0
+Before ram rom v zero = before (window ram rom v) 0 ≡ pos 0
+Before ram rom v (suc j) = (before (window ram rom v) (suc j) ≡ sample (window ram rom v) j) × Sample ram rom v j
+
+-- the four numbers that a frame reads at the voice's place: a sample; before it a sample or the 0 in front; behind it samples or, where it does not fold, zeros
 pub record ReadsOwn (ram rom : List ℤ) (v : Voice) : Type 0 where
-  pub first : Sample ram rom v (v .place / 16777216)
-  pub second : Sample ram rom v (secondOf v) ⊎ ((folds v (stageIn v) ≡ false) × Behind ram rom v (secondOf v))
+  pub fore : Before ram rom v (firstOf v)
+  pub first : Sample ram rom v (firstOf v)
+  pub second : Sample ram rom v (secondOf v) ⊎ ((folds v (stageIn v) ≡ false) × Behind ram rom v 1 (secondOf v))
+  pub third : Sample ram rom v (thirdOf v) ⊎ ((folds v (stageIn v) ≡ false) × Behind ram rom v 2 (thirdOf v))
 
 -- so it is in each frame of any run, while the voice sounds
 abbrev pub OnlyItsSamples : Type 0

@@ -1,4 +1,4 @@
--- A voice never reads outside its window: it reads samples of the window, and the 0 that stands behind its last.
+-- A voice never reads outside its window: it reads samples of the window, and the zeros that stand in front of its first and behind its last.
 use Prim.Native.Nat.{_*_, _≤_, _<_, ℕ, _/_, _+_, zero, suc}
 use mathlib.Core.Path.{_≡_, refl, _∙_}
 use mathlib.Core.Bool.{true, Bool, false, cond, _&&_, not}
@@ -8,7 +8,7 @@ use lib.ListN.{length, List·getD-eq-default}
 use mathlib.Core.Logic.{_⊎_, ⊎-elim, inl, inr}
 use native.Mathlib.Omega.{arith}
 use native.Mathlib.Nat.{div-lt-iff-lt-mul}
-use lib.Dec.{eqb, lit<, leb}
+use lib.Dec.{lit<, leb}
 use borrow.Author.Tests.{leb-false}
 use Rattle.voice.specs.declared.Stage.{Stage}
 use Rattle.voice.specs.declared.Voice.{Voice}
@@ -16,6 +16,7 @@ use Rattle.voice.specs.Motion.{folds, span, folded, settled, ended}
 use Rattle.voice.specs.Reading.{sample, behind}
 use Rattle.voice.proofs.MotionLaws.{split, fold-lt}
 use Rattle.voice.proofs.FramesLaws.{folds-loop}
+use Rattle.voice.proofs.ReadingLaws.{behind-lt}
 use Rattle.voice.proofs.Advance.{not-both}
 use Rattle.voice.specs.Changes.{withMoved, sounds, free}
 use Rattle.voice.specs.declared.Slot.{Slot}
@@ -29,42 +30,46 @@ pub record Inside (w : List ℤ) (v : Voice) : Type 0 where
   pub place : v .place < span v * 16777216
   pub loop : (s : Stage) → folds v s ≡ true → v .loopto ≤ span v
 
--- sample i is one of the window's, or it is the 0 behind its last
-abbrev pub Read : List ℤ → ℕ → Type 0
-Read w i = (i < length w) ⊎ ((i ≡ length w) × (sample w i ≡ pos 0))
+-- sample i is one of the window's, or it is one of the first n zeros behind its last
+abbrev pub Read : List ℤ → ℕ → ℕ → Type 0
+Read w n i = (i < length w) ⊎ ((length w ≤ i) × (i < length w + n) × (sample w i ≡ pos 0))
 
--- the two samples that a frame in stage s reads
+-- the samples that a frame in stage s reads; the one before the first is the window's, or none is there
 pub record Reads (w : List ℤ) (v : Voice) (s : Stage) : Type 0 where
   pub first : v .place / 16777216 < length w
-  pub second : Read w (behind (folds v s) (v .loopfrom) (v .loopto) (v .place / 16777216))
+  pub second : Read w 1 (behind (folds v s) (v .loopfrom) (v .loopto) (v .place / 16777216))
+  pub third : Read w 2 (behind (folds v s) (v .loopfrom) (v .loopto) (behind (folds v s) (v .loopfrom) (v .loopto) (v .place / 16777216)))
 
--- the sample behind one of the window's
-next : (w : List ℤ) (i : ℕ) → i < length w → Read w (i + 1)
-next w i h =
-    ⊎-elim (λ (l : i + 1 < length w). inl l)
-    (λ (g : length w ≤ i + 1). inr ((omega arith), List·getD-eq-default w (pos 0) {n = i + 1} g))
-    (split (i + 1) (length w))
+-- not past those zeros
+read-in : (w : List ℤ) (n i : ℕ) → i < length w + n → Read w n i
+read-in w n i h =
+    ⊎-elim (λ (l : i < length w). inl l)
+    (λ (g : length w ≤ i). inr (g, h, List·getD-eq-default w (pos 0) {n = i} g))
+    (split i (length w))
 
--- a voice inside its window reads samples of it, or the 0 behind its last
+-- a voice inside its window reads samples of it, or zeros behind its last
 pub inside-reads : (w : List ℤ) (v : Voice) (s : Stage) → Inside w v → Reads w v s
-unfolding behind
-inside-reads w v s h = record { first = at; second = by (folds v s) refl }
+inside-reads w v s h =
+    record {
+      first = at;
+      second = read-in w 1 j one;
+      third = read-in w 2 _ (omega (arith, behind-lt (folds v s) (v .loopfrom) (v .loopto) j (length w + 1) one (λ e. omega (arith, loops e))));
+    }
   where
     i : ℕ
     i = v .place / 16777216
 
+    j : ℕ
+    j = behind (folds v s) (v .loopfrom) (v .loopto) (v .place / 16777216)
+
     at : v .place / 16777216 < length w
     at = rw (h .window) (div-lt-iff-lt-mul (lit< tt) .1 (h .place))
 
-    behind-it : (f e : Bool) → (f ≡ true → v .loopfrom < length w) → Read w (cond (f && e) (v .loopfrom) (i + 1))
-    behind-it true true k = inl (k refl)
-    behind-it true false k = next w i at
-    behind-it false e k = next w i at
+    loops : folds v s ≡ true → v .loopfrom < length w
+    loops e = let l = folds-loop v s e in omega (arith, h .loop s e, h .window)
 
-    by : (f : Bool) → folds v s ≡ f → Read w (cond (f && eqb (i + 1) (v .loopto)) (v .loopfrom) (i + 1))
-    by f q =
-        behind-it f (eqb (i + 1) (v .loopto))
-        (λ (e : f ≡ true). let l = folds-loop v s (q ∙ e) in omega (arith, h .loop s (q ∙ e), h .window))
+    one : behind (folds v s) (v .loopfrom) (v .loopto) (v .place / 16777216) < length w + 1
+    one = behind-lt (folds v s) (v .loopfrom) (v .loopto) (v .place / 16777216) (length w) at loops
 
 -- moved and not ended, it lies in its window, and before the loop's end where it folds
 pub settled-in : (v : Voice) (g : Stage) (p : ℕ) → (folds v g ≡ true → v .loopto ≤ span v) → ended v g p ≡ false

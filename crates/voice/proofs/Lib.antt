@@ -7,6 +7,7 @@ pub mod LoudestLaws
 pub mod MotionLaws
 pub mod PaceLaws
 pub mod PanelLaws
+pub mod Points
 pub mod ReadingLaws
 pub mod RoundsLaws
 pub mod RunLaws

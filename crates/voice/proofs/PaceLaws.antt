@@ -74,7 +74,6 @@ module _ (v : Voice) where
       least : (x : ℕ) → x < 16777216 → min x 16777216 ≡ x
       least x h = omega arith
 
-
   lives-hold : (t : ℕ) → valueIn v (Hold t) < stopIn v (Hold t) → Lives v (Hold t)
   unfolding fromHold
   lives-hold t h =

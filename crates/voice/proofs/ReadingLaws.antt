@@ -135,12 +135,12 @@ before-is w (suc i) h = ap (sample w) (less i)
     less : (i : ℕ) → suc i - 1 ≡ i
     less i = omega arith
 
--- the sample behind one before n, with a loop that begins before n, is not past n
-pub behind-lt : (f : Bool) (from to i n : ℕ) → i < n → from < n → behind f from to i < n + 1
+-- the sample behind one before n, with a loop that begins before n where it folds, is not past n
+pub behind-lt : (f : Bool) (from to i n : ℕ) → i < n → (f ≡ true → from < n) → behind f from to i < n + 1
 unfolding behind
 behind-lt true from to i n h k = by (eqb (i + 1) to)
   where
     by : (b : Bool) → cond b from (i + 1) < n + 1
-    by true = omega arith
+    by true = omega (arith, k refl)
     by false = omega arith
 behind-lt false from to i n h k = omega arith

@@ -3,13 +3,12 @@ use Prim.Native.Nat.{ℕ, zero, suc, _+_, _*_, _-_, _/_, _<_, _≤_}
 use mathlib.Core.Path.{_≡_, refl, ap, sym, _∙_}
 use native.Mathlib.Omega.{arith}
 use native.Mathlib.Nat.{mul-add, mul-zero, mul-assoc, mul-comm, mul-le-mul-left}
-use lib.Dec.{lit<}
-use lib.IntN.{ℤ, pos, negsuc, natAbs, negℤ, _+ℤ_, _-ℤ_, _*ℤ_, *ℤ-zero}
+use lib.IntN.{ℤ, pos, negsuc, natAbs, negℤ, _+ℤ_, _-ℤ_, _*ℤ_}
 use lib.Signed.{nonNeg}
 use lib.Dec.{T}
 use Rattle.arith.specs.Floors.{floorZ}
 use Rattle.arith.specs.Within.{Within}
-use Rattle.arith.proofs.FloorsLaws.{sub-pos, sub-neg}
+use Rattle.arith.proofs.FloorsLaws.{sub-pos, sub-neg, neg-suc}
 use Rattle.arith.proofs.HoldsLaws.{held-within}
 use Rattle.voice.specs.Internal.Sides.{share, part, leftOut, rightOut}
 use Rattle.voice.specs.Sound.{panOf, leftOf, rightOf}
@@ -59,17 +58,9 @@ below n k h p = by (n * share k) (n * k) (n * excess k) (product n k) (small n k
     by : (a b d : ℕ) → 1000 * a ≡ b * 274877906944 + d → d ≤ 16760438784 → 0 < b → (a - 16777217) / 274877906944 ≡ (b - 1) / 1000
     by a b d e h p = omega arith
 
--- -a where a is not 0
-minus : (a : ℕ) → 0 < a → negℤ (pos a) ≡ negsuc (a - 1)
-minus zero h = absurd (no h)
-  where
-    no : 0 < 0 → ⊥
-    no h = omega arith
-minus (suc a) h = ap negsuc (omega arith)
-
 -- -a and an offset below it
 offset : (a c : ℕ) → c < a → negℤ (pos a) +ℤ pos c ≡ negsuc (a - suc c)
-offset a c h = ap (λ (z : ℤ). z +ℤ pos c) (minus a (omega arith)) ∙ sub-neg c (suc (a - 1)) (omega arith) ∙ ap negsuc (by a c h)
+offset a c h = ap (λ (z : ℤ). z +ℤ pos c) (neg-suc a (omega arith)) ∙ sub-neg c (suc (a - 1)) (omega arith) ∙ ap negsuc (by a c h)
   where
     by : (a c : ℕ) → c < a → suc (a - 1) - suc c ≡ a - suc c
     by a c h = omega arith
@@ -85,7 +76,7 @@ part-is (negsuc n) (suc j) h =
     let some : 0 < m * k = omega arith in
     ap (λ (z : ℤ). floorZ z 274877906944) (offset (m * share k) 16777216 (past m k some))
     ∙ ap negsuc (below m k (h .within) some)
-    ∙ sym (ap (λ (z : ℤ). floorZ z 1000) (minus (m * k) some))
+    ∙ sym (ap (λ (z : ℤ). floorZ z 1000) (neg-suc (m * k) some))
 
 -- a number that is not below 0 is its magnitude
 upward : (z : ℤ) → T (nonNeg z) → pos (natAbs z) ≡ z

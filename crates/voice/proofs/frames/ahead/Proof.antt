@@ -30,7 +30,7 @@ least-requires-2 : tie.Need-least-requires-2
 least-requires-2 c κs = search needs
 
 returns-3 : tie.Need-returns-3
-returns-3 c = 
+returns-3 c =
     let m = c .before in
     let e = c .least2 .ensures in
     let f = m .least .ensures in
@@ -39,12 +39,11 @@ returns-3 c =
       (omega (arith, e), omega (arith, e, f)),
       (
         λ j k. m .before .calm .ensures .0 j (omega (arith, e, f)),
-        λ z.
-            (
-              sym (n .before .is-dead .ensures) ∙ n .if1 .left,
-              y .if2 .left,
-              room-le (n .before .before .args .s) (m .before .calm .result) (c .least2 .result) (omega (arith, e, f)) (m .before .calm .ensures .1),
-            ),
+        λ z. (
+          sym (n .before .is-dead .ensures) ∙ n .if1 .left,
+          y .if2 .left,
+          room-le (n .before .before .args .s) (m .before .calm .result) (c .least2 .result) (omega (arith, e, f)) (m .before .calm .ensures .1),
+        ),
       ),
     )
 

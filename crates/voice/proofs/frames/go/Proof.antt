@@ -47,7 +47,7 @@ is-waiting-requires : tie.Need-is-waiting-requires
 is-waiting-requires c κs = search needs
 
 one-requires : tie.Need-one-requires
-one-requires c κs = 
+one-requires c κs =
     let s = c .before .before .before .before .before in
     let p = s .pre .1 .1 .1 in
     (s .pre .0, (rw (w-back w64 (s .pre .1 .0) (lit< tt)) (s .pre .1 .0), (omega (arith, p .0, p .1), p .2)))
@@ -56,7 +56,7 @@ same-length : tie.Need-same-length
 same-length c = search needs
 
 returns : tie.Need-returns
-returns c = 
+returns c =
     let o = c .before .one .ensures in
     let s = c .before .before .before .before .before .before .before in
     let a = s .args in
@@ -73,14 +73,14 @@ returns c =
     )
 
 onward-requires : tie.Need-onward-requires
-onward-requires c κs = 
+onward-requires c κs =
     let e = c .before .before .before in
     let s = e .before .before in
     let p = s .pre .1 .1 .1 in
     (s .pre .0, (rw (w-back w64 (s .pre .1 .0) (lit< tt)) (s .pre .1 .0), (sym (e .enter .ensures .0), (p .1, p .2))))
 
 one-requires-2 : tie.Need-one-requires-2
-one-requires-2 c κs = 
+one-requires-2 c κs =
     let f = c .before .before .before .before in
     let s = k f in
     let p = s .pre .1 .1 .1 in
@@ -90,7 +90,7 @@ same-length-2 : tie.Need-same-length-2
 same-length-2 c = search needs
 
 returns-2 : tie.Need-returns-2
-returns-2 c = 
+returns-2 c =
     let o = c .before .one2 .ensures in
     let s = k (c .before .before .before .before .before .before) in
     let a = s .args in
@@ -112,7 +112,7 @@ cast-age-by : tie.Need-cast-age-by
 cast-age-by c = let f = c .before .before .before .before in omega (arith, f .onward .ensures .0 .1)
 
 age-by-requires : tie.Need-age-by-requires
-age-by-requires c κs = 
+age-by-requires c κs =
     let n = c .before in
     let f = n .before .before .before in
     f .onward .ensures .0 .2 (omega (arith, n .if2 .left))
@@ -124,7 +124,7 @@ same-length-3 : tie.Need-same-length-3
 same-length-3 c = search needs
 
 returns-3 : tie.Need-returns-3
-returns-3 c = 
+returns-3 c =
     let g = c .before in
     let n = g .before .before in
     let f = n .before .before .before in

@@ -143,7 +143,7 @@ few-requires : tie.Need-few-requires
 few-requires c κs = search needs
 
 ring-requires : tie.Need-ring-requires
-ring-requires c κs = 
+ring-requires c κs =
     let y = c .before .before .way-of .ensures .1 in
     let z = c .before .before .before .before .before .before in
     let s = start z in
@@ -162,7 +162,7 @@ same-length : tie.Need-same-length
 same-length c = search needs
 
 returns : tie.Need-returns
-returns c = 
+returns c =
     let r = c .before in
     let s = k r in
     let a = s .args in
@@ -195,7 +195,7 @@ gain-requires : tie.Need-gain-requires
 gain-requires c κs = search needs
 
 glide-requires : tie.Need-glide-requires
-glide-requires c κs = 
+glide-requires c κs =
     let n = c .before .before .before .before in
     let d = n .before in
     let lim = d .before in
@@ -218,7 +218,7 @@ same-length-2 : tie.Need-same-length-2
 same-length-2 c = search needs
 
 returns-2 : tie.Need-returns-2
-returns-2 c = 
+returns-2 c =
     let f = c .before in
     let s = begun f in
     let a = s .args in (

@@ -14,7 +14,7 @@ returns c = let n = c .before .args .n in (sym (ap (λ (b : Bool). cond b 1 n) (
 
 returns-2 : tie.Need-returns-2
 unfolding some
-returns-2 c = 
+returns-2 c =
     let n = c .before .args .n in
     (sym (ap (λ (b : Bool). cond b 1 n) (ne-eqb n 0 (c .if1 .left))), omega (arith, c .if1 .left), omega arith)
 

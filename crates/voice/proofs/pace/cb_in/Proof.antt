@@ -44,12 +44,12 @@ returns-4 : tie.Need-returns-4
 returns-4 c = let a = c .before .before .args in (sym (ap (λ (s : Stage). cbIn (a .v) s (a .value)) (c .enum-told4 .given .1)), omega (arith, c .before .before .pre))
 
 returns-5 : tie.Need-returns-5
-returns-5 c = 
+returns-5 c =
     let a = c .before .before .before .args in
     (c .wide .ensures ∙ sym (ap (λ (s : Stage). cbIn (a .v) s (a .value)) (c .before .enum-told5 .given .1)), omega arith)
 
 returns-6 : tie.Need-returns-6
-returns-6 c = 
+returns-6 c =
     let a = c .before .before .before .before .args in
     (c .fallen .ensures .0 ∙ sym (ap (λ (s : Stage). cbIn (a .v) s (a .value)) (c .before .before .s .given .1)), c .fallen .ensures .1)
 

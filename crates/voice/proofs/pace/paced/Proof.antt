@@ -12,7 +12,7 @@ at-least-one-requires : tie.Need-at-least-one-requires
 at-least-one-requires c κs = search needs
 
 mul-sum : tie.Need-mul-sum
-mul-sum c = 
+mul-sum c =
     let a = c .before .args in
     let t : a .t ≤ 4294967295 = omega arith in
     let h : a .whole * a .t ≤ 16777216 * 4294967295 = mul-le-mul (c .before .pre) t in
@@ -31,7 +31,7 @@ rem-t9 : tie.Need-rem-t9
 rem-t9 c = search needs
 
 returns : tie.Need-returns
-returns c = 
+returns c =
     let a = c .before .args in
     let n = c .at-least-one .result in
     let p = c .at-least-one .ensures .1 in

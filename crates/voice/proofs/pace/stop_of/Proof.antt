@@ -53,17 +53,17 @@ returns : tie.Need-returns
 returns c = (sym (ap (stopIn (c .before .before .args .v)) (c .enum-told .given .1)), omega arith)
 
 returns-2 : tie.Need-returns-2
-returns-2 c = 
+returns-2 c =
     let a = c .before .before .before .args in
     (c .stop-if .ensures .0 ∙ sym (ap (stopIn (a .v)) (c .before .enum-told2 .given .1)), omega (arith, c .stop-if .ensures .1))
 
 returns-3 : tie.Need-returns-3
-returns-3 c = 
+returns-3 c =
     let a = c .before .before .before .args in
     (sym (ap (stopIn (a .v)) (c .before .enum-told3 .given .1)), omega arith)
 
 returns-4 : tie.Need-returns-4
-returns-4 c = 
+returns-4 c =
     let t = c .before .before .before in
     let a = t .before .before .args in
     let e = c .before .least .ensures ∙ ap (λ (n : ℕ). min n 1000) (c .before .before .wide .ensures) in (
@@ -72,12 +72,12 @@ returns-4 c =
     )
 
 returns-5 : tie.Need-returns-5
-returns-5 c = 
+returns-5 c =
     let a = c .before .before .before .args in
     (c .left-of .ensures ∙ sym (ap (stopIn (a .v)) (c .before .enum-told5 .given .1)), omega (arith, c .left-of .ensures))
 
 returns-6 : tie.Need-returns-6
-returns-6 c = 
+returns-6 c =
     let t = c .before .before .before in
     let a = t .before .before .args in (
       c .stop-if3 .ensures .0 ∙ ap (stopIf (a .v .release)) (c .before .left-of2 .ensures) ∙ sym (ap (stopIn (a .v)) (t .s .given .1)),

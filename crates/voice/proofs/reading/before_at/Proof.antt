@@ -20,7 +20,7 @@ unfolding before
 returns c = sym (ap (before (c .before .args .w .now)) (c .if1 .taken))
 
 returns-2 : tie.Need-returns-2
-returns-2 c = 
+returns-2 c =
     let a = c .before .before .args in
     rw (toZ-ofZ {w = w16} {z = c .sample-at .result} (sfits-of (c .sample-at .ok)))
     (c .sample-at .ensures ∙ before-is (a .w .now) (a .i) (omega (arith, c .before .if1 .left)))

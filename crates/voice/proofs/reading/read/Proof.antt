@@ -21,9 +21,9 @@ behind-at-requires : tie.Need-behind-at-requires
 behind-at-requires c κs = search needs
 
 behind-at-requires-2 : tie.Need-behind-at-requires-2
-behind-at-requires-2 c κs = 
+behind-at-requires-2 c κs =
     let a = c .before .args in
-    omega (arith, c .behind-at .ensures, behind-lt (a .folding) (a .from) (a .to) (a .place / 16777216) 1099511627776 (omega arith) (omega arith))
+    omega (arith, c .behind-at .ensures, behind-lt (a .folding) (a .from) (a .to) (a .place / 16777216) 1099511627776 (omega arith) (λ e. omega arith))
 
 before-at-requires : tie.Need-before-at-requires
 before-at-requires c κs = search needs
@@ -42,7 +42,7 @@ reading-of-requires c κs = search needs
 
 returns : tie.Need-returns
 unfolding reading
-returns c = 
+returns c =
     let d = c .before in
     let x = d .before in
     let y = x .before in
@@ -60,8 +60,7 @@ returns c =
     let three =
     d .sample-at3 .ensures
     ∙ ap (sample w) (k .behind-at2 .ensures ∙ ap (behind (a .folding) (a .from) (a .to)) (j .behind-at .ensures)) in
-    rw (w-back w64 (c .reading-of .ensures .1) (lit< tt))
-    (
+    rw (w-back w64 (c .reading-of .ensures .1) (lit< tt)) (
       e
           ∙ ap₂ (λ (p q : ℤ). interpolated p q (x .sample-at2 .result) (d .sample-at3 .result) (a .place % 16777216 / 4096)) (z .before-at .ensures) (y .sample-at .ensures)
           ∙ ap₂ (λ (p q : ℤ). interpolated (before w (a .place / 16777216)) (sample w (a .place / 16777216)) p q (a .place % 16777216 / 4096)) two three,

@@ -34,7 +34,7 @@ cast-curved-5 : tie.Need-cast-curved-5
 cast-curved-5 c = search needs
 
 curved-requires : tie.Need-curved-requires
-curved-requires c κs = 
+curved-requires c κs =
     let f = c .fits in
     rw (toZ-ofZ (f .x0), toZ-ofZ (f .x1), toZ-ofZ (f .x2), toZ-ofZ (f .x3), back16 (f .x0), back16 (f .x1), back16 (f .x2), back16 (f .x3), w-back w64 (w-nat (le-of-lt (c .pre))) (lit< tt))
     ((w-of w16 (f .x0), w-of w16 (f .x1), w-of w16 (f .x2), w-of w16 (f .x3)), w-nat (le-of-lt (c .pre)))
@@ -43,7 +43,7 @@ hold-requires : tie.Need-hold-requires
 hold-requires c κs = search needs
 
 returns : tie.Need-returns
-returns c = 
+returns c =
     let k = c .before in
     let s = k .before in
     let f = s .fits in

@@ -11,7 +11,7 @@ use Rattle.voice.proofs.rounds.regain.Statement.{statement}
 use Rattle.voice.proofs.rounds.regain.Tie as tie
 
 returns : tie.Need-returns
-returns c = 
+returns c =
     let k = c .before in
     (k .pre .1 .1 .0 ∙ sym (ap (λ (e : ℕ). gainOf (wholeLoss (k .args .l) e)) (c .if1 .taken)), k .pre .1 .1 .1)
 
@@ -22,7 +22,7 @@ gain-requires : tie.Need-gain-requires
 gain-requires c κs = search needs
 
 returns-2 : tie.Need-returns-2
-returns-2 c = 
+returns-2 c =
     let t = c .before in
     let k = t .before .before in
     (c .gain .ensures .0 ∙ ap gainOf (rw (w-back w64 (k .pre .1 .0 .0) (lit< tt)) at (t .total-of .ensures)), c .gain .ensures .1)

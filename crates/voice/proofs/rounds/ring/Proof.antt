@@ -60,7 +60,7 @@ more v s y m j h k q =
     (split j m)
 
 abbrev Inv-loop : tie.InvT-loop
-Inv-loop v s l g sides y w acc₀ k most stop p₀ c₀ cb₀ known₀ m₀ acc p c cb known m = 
+Inv-loop v s l g sides y w acc₀ k most stop p₀ c₀ cb₀ known₀ m₀ acc p c cb known m =
     (m ≤ most)
     × (p ≡ placeOn y (v .place) m)
     × ((j : ℕ) → j < m → Goes v s y j)
@@ -115,9 +115,10 @@ module _ (c : tie.Else1 Inv-loop μ-loop) where
   turning = c .before .before .loop-test .taken
 
   goes : Goes (start .args .v) (start .args .s) (start .args .y) (lp .loop .m)
-  goes =
-      (subst (λ (x : ℕ). x < start .args .y .limit) (lp .loop .inv .1) below,
-      subst (λ (x : ℕ). x < stopIn (start .args .v) (start .args .s)) at early)
+  goes = (
+    subst (λ (x : ℕ). x < start .args .y .limit) (lp .loop .inv .1) below,
+    subst (λ (x : ℕ). x < stopIn (start .args .v) (start .args .s)) at early,
+  )
 
   room : (2 * (start .args .k + lp .loop .m) + 1 < length (lp .loop .acc)) × (length (lp .loop .acc) < 9223372036854775808)
   room = (omega (arith, turning, lp .loop .inv .7, lp .loop .inv .8), omega (arith, lp .loop .inv .7, long start))
@@ -182,7 +183,7 @@ gain-requires c κs = search needs
 
 loop-holds : tie.Need-loop-holds Inv-loop μ-loop
 unfolding rings placeOn
-loop-holds c = 
+loop-holds c =
     let t = c .before in
     let p = t .before in
     let k = p .before .before in
@@ -206,7 +207,7 @@ same-length : tie.Need-same-length Inv-loop μ-loop
 same-length c = search needs
 
 returns : tie.Need-returns Inv-loop μ-loop
-returns c = 
+returns c =
     let l = c .before .before .before in
     let k = l .before .before .before .before .before in
     let b = w-back w64 (k .pre .1 .0) (lit< tt) in
@@ -216,24 +217,24 @@ cb-in-requires : tie.Need-cb-in-requires Inv-loop μ-loop
 cb-in-requires c κs = omega (arith, small c)
 
 regain-requires : tie.Need-regain-requires Inv-loop μ-loop
-regain-requires c κs = 
+regain-requires c κs =
     let t = c .before in
     let k = start t in
     let b = w-back w64 (k .pre .1 .0) (lit< tt) in
     (k .pre .0, ((rw b (k .pre .1 .0), c .cb-in .ensures .1), (lp t .loop .inv .4, lp t .loop .inv .5)))
 
 rung-at-requires : tie.Need-rung-at-requires Inv-loop μ-loop
-rung-at-requires c κs = 
+rung-at-requires c κs =
     let t = c .before .before in
     (c .regain .ensures .1, level-in (start t .args .v) (start t .args .s) (value t) (early t))
 
 part-of-requires : tie.Need-part-of-requires Inv-loop μ-loop
-part-of-requires c κs = 
+part-of-requires c κs =
     let t = c .before .before .before in
     (rw (w-back w64 (c .rung-at .ensures .1) (lit< tt)) (c .rung-at .ensures .1), start t .pre .1 .1 .0 .0)
 
 part-of-requires-2 : tie.Need-part-of-requires-2 Inv-loop μ-loop
-part-of-requires-2 c κs = 
+part-of-requires-2 c κs =
     let n = c .before in
     let t = n .before .before .before in
     (rw (w-back w64 (n .rung-at .ensures .1) (lit< tt)) (n .rung-at .ensures .1), start t .pre .1 .1 .0 .1)
@@ -242,7 +243,7 @@ add-add-pair : tie.Need-add-add-pair Inv-loop μ-loop
 add-add-pair c = let r = c .before in omega (arith, room (test r))
 
 add-pair-requires : tie.Need-add-pair-requires Inv-loop μ-loop
-add-pair-requires c κs = 
+add-pair-requires c κs =
     let r = c .before in
     let u = r .part-of2 .ensures .1 in
     let t = r .before .part-of .ensures .1 in (
@@ -251,13 +252,13 @@ add-pair-requires c κs =
     )
 
 next-place-requires : tie.Need-next-place-requires Inv-loop μ-loop
-next-place-requires c κs = 
+next-place-requires c κs =
     let t = test (c .before .before .before) in
     let k = start t .pre .1 .1 .1 .0 in
     (omega (arith, below t, k .0), k .1, k .2)
 
 next-pace-requires : tie.Need-next-pace-requires Inv-loop μ-loop
-next-pace-requires c κs = 
+next-pace-requires c κs =
     let t = test (c .before .before .before .before) in
     let i = lp t .loop .inv .3 in
     let whole = wholeIn (stage t) in
@@ -272,7 +273,7 @@ loop-less c = let t = test (c .before .before .before .before .before) in omega 
 
 loop-again : tie.Need-loop-again Inv-loop μ-loop
 unfolding placeOn
-loop-again c = 
+loop-again c =
     let r = c .before .before .before .before .before in
     let t = test r in
     let l = lp t in
@@ -303,7 +304,7 @@ same-length-2 : tie.Need-same-length-2 Inv-loop μ-loop
 same-length-2 c = search needs
 
 returns-2 : tie.Need-returns-2 Inv-loop μ-loop
-returns-2 c = 
+returns-2 c =
     let l = c .before in
     let k = l .before .before .before .before .before in
     let b = w-back w64 (k .pre .1 .0) (lit< tt) in

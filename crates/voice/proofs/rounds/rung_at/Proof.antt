@@ -30,7 +30,7 @@ at-level-requires c κs = search needs
 
 returns : tie.Need-returns
 unfolding rung
-returns c = 
+returns c =
     let n = c .before in
     let u = n .before in
     let r = u .before in

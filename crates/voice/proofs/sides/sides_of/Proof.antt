@@ -24,7 +24,7 @@ share-of-requires-2 : tie.Need-share-of-requires-2
 share-of-requires-2 c κs = search needs
 
 returns : tie.Need-returns
-returns c = 
+returns c =
     let b = c .before in
     let o = b .before in
     let p = o .before in

@@ -50,7 +50,7 @@ span : (most st : ℕ) → most ≤ 65536 → st ≤ 4294967295 → most * st �
 span most st h k = let z : most * st ≤ 65536 * 4294967295 = mul-le-mul h k in omega arith
 
 abbrev Inv-loop : tie.InvT-loop
-Inv-loop st gain sides limit w from acc₀ k most end p₀ m₀ acc p m = 
+Inv-loop st gain sides limit w from acc₀ k most end p₀ m₀ acc p m =
     (m ≤ most)
     × (p ≡ from + m * st)
     × ((j : ℕ) → j < m → from + j * st < limit)
@@ -128,13 +128,13 @@ least-requires c κs = search needs
 
 loop-holds : tie.Need-loop-holds Inv-loop μ-loop
 unfolding plains
-loop-holds c = 
+loop-holds c =
     let k = c .before in
     let a = k .args in
     (omega arith, here (a .from) (a .st), λ j h. absurd (no j h), sym (addAt-none (2 * a .k) (a .acc .now)), refl, k .pre .1 .1 .1 .0, small-none)
 
 read-on-requires : tie.Need-read-on-requires Inv-loop μ-loop
-read-on-requires c κs = 
+read-on-requires c κs =
     let l = c .before in
     let s = l .before .before in
     let a = s .args in
@@ -145,11 +145,11 @@ scaled-by-requires : tie.Need-scaled-by-requires Inv-loop μ-loop
 scaled-by-requires c κs = (rw (w-back w64 (c .read-on .ensures .1) (lit< tt)) (c .read-on .ensures .1), c .before .before .before .before .pre .0 .0)
 
 part-of-requires : tie.Need-part-of-requires Inv-loop μ-loop
-part-of-requires c κs = 
+part-of-requires c κs =
     (rw (w-back w64 (c .scaled-by .ensures .1) (lit< tt)) (w-le (c .scaled-by .ensures .1) (lit≤ tt)), c .before .before .before .before .before .pre .0 .1)
 
 part-of-requires-2 : tie.Need-part-of-requires-2 Inv-loop μ-loop
-part-of-requires-2 c κs = 
+part-of-requires-2 c κs =
     let s = c .before in
     (rw (w-back w64 (s .scaled-by .ensures .1) (lit< tt)) (w-le (s .scaled-by .ensures .1) (lit≤ tt)), s .before .before .before .before .before .pre .0 .2)
 
@@ -157,7 +157,7 @@ add-add-pair : tie.Need-add-add-pair Inv-loop μ-loop
 add-add-pair c = let r = c .before in omega (arith, room r)
 
 add-pair-requires : tie.Need-add-pair-requires Inv-loop μ-loop
-add-pair-requires c κs = 
+add-pair-requires c κs =
     let r = c .before in
     let u = r .part-of2 .ensures .1 in
     let t = r .before .part-of .ensures .1 in (
@@ -175,7 +175,7 @@ loop-less : tie.Need-loop-less Inv-loop μ-loop
 loop-less c = let r = c .before .before .before in omega (arith, early r, lp r .before .before .pre .1 .1 .0 .0)
 
 loop-again : tie.Need-loop-again Inv-loop μ-loop
-loop-again c = 
+loop-again c =
     let r = c .before .before .before in
     let l = lp r in
     let a = l .before .before .args in
@@ -199,7 +199,7 @@ same-length : tie.Need-same-length Inv-loop μ-loop
 same-length c = search needs
 
 returns : tie.Need-returns Inv-loop μ-loop
-returns c = 
+returns c =
     let l = c .before in
     (l .loop .inv .0, ((l .loop .inv .1, l .loop .inv .2), (l .loop .inv .3, l .loop .inv .6)))
 

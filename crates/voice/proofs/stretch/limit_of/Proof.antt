@@ -25,7 +25,7 @@ bound-requires : tie.Need-bound-requires
 bound-requires c κs = search needs
 
 returns-4 : tie.Need-returns-4
-returns-4 c = 
+returns-4 c =
     let n = c .before in
     let two = n .before .before .before in
     let one = two .before in

@@ -53,7 +53,7 @@ reading-of-requires : tie.Need-reading-of-requires
 reading-of-requires c κs = search needs
 
 returns : tie.Need-returns
-returns c = 
+returns c =
     let d = c .before in
     let x = d .before in
     let y = x .before in

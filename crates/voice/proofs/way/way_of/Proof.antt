@@ -25,7 +25,7 @@ straight-requires : tie.Need-straight-requires
 straight-requires c κs = search needs
 
 returns : tie.Need-returns
-returns c = 
+returns c =
     let n = c .before in
     let t = n .before in
     let f = t .before in
@@ -57,7 +57,7 @@ straight-requires-2 : tie.Need-straight-requires-2
 straight-requires-2 c κs = search needs
 
 returns-2 : tie.Need-returns-2
-returns-2 c = 
+returns-2 c =
     let g = c .before .before .before .before .before in
     let f = g .before in
     let a = f .before .args in
@@ -68,7 +68,7 @@ returns-2 c =
     )
 
 round-requires : tie.Need-round-requires
-round-requires c κs = 
+round-requires c κs =
     let g = c .before .before .before .before in
     let f = g .before in
     let a = f .before .args in
@@ -76,7 +76,7 @@ round-requires c κs =
     omega arith
 
 returns-3 : tie.Need-returns-3
-returns-3 c = 
+returns-3 c =
     let g = c .before .before .before .before .before in
     let f = g .before in
     let a = f .before .args in
