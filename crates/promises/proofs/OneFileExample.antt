@@ -56,7 +56,7 @@ bytes =
     ∷ 0 ∷ 0 ∷ 0 ∷ 0 ∷ 4 ∷ 0 ∷ 4 ∷ 0 ∷ 9 ∷ 0 ∷ 9 ∷ 0 ∷ []
 
 pub bell-file : WaveRecording.recordingOf (numbersOf whole struckBell) ≡ bytes
-unfolding CurvesLevels.gainOf CurvesLevels.cbOf CurvesLevels.above CurvesLevels.leastCb CurvesTimes.framesUp CurvesTimes.frames CurvesPitch.bendCents CurvesPitch.stepOf ArithFloors.modZ VoiceFrames.goOn VoiceFrames.loud VoiceFrames.readAndMoved VoiceFrames.living VoiceFrames.frameAt VoiceFrames.frame VoiceMotion.pitchTotal VoiceMotion.step VoiceMotion.folds VoiceMotion.fold VoiceMotion.settled VoiceMotion.ended VoiceFrames.after VoiceStages.levelAt VoiceStages.decayAt VoiceStages.releaseAt VoiceStages.fromDecay VoiceStages.fromHold VoiceStages.fromAttack VoiceStages.fromDelay VoiceSound.leftOf VoiceSound.rightOf VoiceSound.gained VoiceSound.loss VoiceReading.reading VoiceReading.behind StateSlots.paired EngineRendering.distance EngineRendering.window EngineRendering.lacking EngineRendering.renderNumber EngineRendering.played EngineRendering.render EngineRendering.rendered EngineRendering.output EngineMixer.unitOf numbersOf run framesRun WavePcm.kOf WavePcm.pcmOf WavePcm.pcmOfK WavePours.pouredOf WaveHeadings.headingOf WaveRecording.recordingOf Ieee.round Ieee.size Ieee.units Ieee.odd Ieee.span Ieee.climb Count.trailingZeros
+unfolding CurvesLevels.gainOf CurvesLevels.cbOf CurvesLevels.above CurvesLevels.leastCb CurvesTimes.framesUp CurvesTimes.frames CurvesPitch.bendCents CurvesPitch.stepOf ArithFloors.modZ VoiceFrames.goOn VoiceFrames.loud VoiceFrames.readAndMoved VoiceFrames.living VoiceFrames.frameAt VoiceFrames.frame VoiceMotion.pitchTotal VoiceMotion.step VoiceMotion.folds VoiceMotion.fold VoiceMotion.settled VoiceMotion.ended VoiceFrames.after VoiceStages.levelAt VoiceStages.decayAt VoiceStages.releaseAt VoiceStages.fromDecay VoiceStages.fromHold VoiceStages.fromAttack VoiceStages.fromDelay VoiceSound.leftOf VoiceSound.rightOf VoiceSound.gained VoiceSound.loss VoiceReading.reading VoiceReading.before VoiceReading.behind VoiceReading.interpolated StateSlots.paired EngineRendering.distance EngineRendering.window EngineRendering.lacking EngineRendering.renderNumber EngineRendering.played EngineRendering.render EngineRendering.rendered EngineRendering.output EngineMixer.unitOf numbersOf run framesRun WavePcm.kOf WavePcm.pcmOf WavePcm.pcmOfK WavePours.pouredOf WaveHeadings.headingOf WaveRecording.recordingOf Ieee.round Ieee.size Ieee.units Ieee.odd Ieee.span Ieee.climb Count.trailingZeros
 bell-file = refl
 
 -- so it is in two, with no more computing

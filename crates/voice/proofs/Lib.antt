@@ -17,4 +17,5 @@ pub mod SoundLaws
 pub mod StagesLaws
 pub mod StretchLaws
 pub mod SumsLaws
+pub mod WaitLaws
 pub mod WayLaws

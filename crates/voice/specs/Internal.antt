@@ -8,4 +8,5 @@ pub mod Sides
 pub mod Stages
 pub mod Stretch
 pub mod Sums
+pub mod Wait
 pub mod Way

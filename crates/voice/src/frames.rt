@@ -37,6 +37,7 @@ use crate::stretch::add_pair;
 use crate::stretch::glide;
 use crate::stretch::is_uneven;
 use crate::stretch::limit_of;
+use crate::wait::wait;
 use crate::way::way_of;
 use crate::with_moved;
 use arith::least;
@@ -194,8 +195,15 @@ fn go(
     let v = s.voice;
     let old = v.stage;
     let e = enter(v, old);
-    if is_waiting(e) {
-        return one(st, l, g, w, s, acc, k);
+    let m = wait(e, most);
+    if 0 < m {
+        return Went {
+            slot: Slot {
+                sounding: true,
+                voice: with_moved(v, age_by(e, m as u32), v.place, v.marked),
+            },
+            frames: m,
+        };
     }
     let r = onward(v, e, st, l, g, w, acc, k, most);
     if r.frames == 0 {

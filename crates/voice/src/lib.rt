@@ -12,6 +12,7 @@ mod sides;
 mod sound;
 mod stages;
 mod stretch;
+mod wait;
 mod way;
 
 pub use changes::no_voice;

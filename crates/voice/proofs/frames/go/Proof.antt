@@ -1,4 +1,4 @@
--- One frame in delay and where neither a stretch nor rounds may go, and else these.
+-- A delay at once, one frame where neither a stretch nor rounds may go, and else these.
 use mathlib.Core.Path.{_≡_, sym, ap, _∙_, subst}
 use Prim.Native.Nat.{ℕ, _+_, _*_, _<_}
 use mathlib.Core.Bool.{Bool, true}
@@ -15,6 +15,8 @@ use Rattle.voice.specs.Changes.{withMoved, sounds}
 use Rattle.voice.specs.Internal.Frames.{afterAt, heardAt}
 use Rattle.voice.specs.Internal.Sums.{Small, addAt}
 use Rattle.voice.proofs.SumsLaws.{addAt-none}
+use Rattle.voice.proofs.WaitLaws.{left-waits, wait-room, wait-slot, wait-sums, add-silence, silence-small}
+use Rattle.voice.specs.Internal.Wait.{silence}
 use borrow.Author.Needs.{needs}
 use Rattle.voice.proofs.frames.go.Statement.{statement}
 use Rattle.voice.proofs.frames.go.Tie as tie
@@ -43,31 +45,40 @@ module _ (f : tie.After-onward) where
 enter-requires : tie.Need-enter-requires
 enter-requires c κs = search needs
 
-is-waiting-requires : tie.Need-is-waiting-requires
-is-waiting-requires c κs = search needs
+wait-requires : tie.Need-wait-requires
+wait-requires c κs = search needs
 
-one-requires : tie.Need-one-requires
-one-requires c κs =
-    let s = c .before .before .before .before .before in
-    let p = s .pre .1 .1 .1 in
-    (s .pre .0, (rw (w-back w64 (s .pre .1 .0) (lit< tt)) (s .pre .1 .0), (omega (arith, p .0, p .1), p .2)))
+cast-age-by : tie.Need-cast-age-by
+cast-age-by c = search needs
 
-same-length : tie.Need-same-length
-same-length c = search needs
+age-by-requires : tie.Need-age-by-requires
+age-by-requires c κs = let n = c .before in wait-room (n .before .enter .result) (n .wait .result) (c .if1 .taken) (n .wait .ensures .0)
+
+with-moved-requires : tie.Need-with-moved-requires
+with-moved-requires c κs = search needs
 
 returns : tie.Need-returns
 returns c =
-    let o = c .before .one .ensures in
-    let s = c .before .before .before .before .before .before .before in
+    let g = c .before in
+    let t = g .before in
+    let n = t .before in
+    let e = n .before in
+    let s = e .before .before in
     let a = s .args in
-    let b = w-back w64 (s .pre .1 .0) (lit< tt) in
-    let f = o .0 in (
-      (omega (arith, f), omega (arith, f, s .pre .1 .1 .1 .0)),
+    let w = a .w .now in
+    let v = a .s .voice in
+    let m = n .wait .result in
+    let q = left-waits v (e .enter .result) m (n .wait .ensures .0) in
+    let enters = sym (e .enter .ensures .0) in
+    let quiet : heardAt (a .st) (a .l) w m (a .s) ≡ silence m = ap (heardAt (a .st) (a .l) w m) (on s) ∙ wait-sums (a .st) (a .l) w v (e .enter .result) enters m q in (
+      (t .if1 .taken, n .wait .ensures .1),
       (
-        rw b at (o .1 .0) ∙ ap (λ (m : ℕ). afterAt (a .st) (a .l) (a .w .now) m (a .s)) (sym f),
+        ap sounds (c .with-moved .ensures ∙ ap (λ (x : Stage). withMoved v x (v .place) (v .marked)) (g .age-by .ensures))
+            ∙ sym (wait-slot (a .st) (a .l) w v (e .enter .result) enters m (t .if1 .taken) q)
+            ∙ ap (afterAt (a .st) (a .l) w m) (sym (on s)),
         (
-          rw b at (o .1 .1 .0) ∙ ap (λ (m : ℕ). addAt (2 * a .k) (heardAt (a .st) (a .l) (a .w .now) m (a .s)) (a .acc .now)) (sym f),
-          subst (λ (m : ℕ). Small 1 (heardAt (a .st) (a .l) (a .w .now) m (a .s))) (sym f) (rw b at (o .1 .1 .1)),
+          sym (ap (λ (xs : List ℤ). addAt (2 * a .k) xs (a .acc .now)) quiet ∙ add-silence (2 * a .k) m (a .acc .now)),
+          subst (Small 1) (sym quiet) (silence-small m),
         ),
       ),
     )
@@ -79,19 +90,19 @@ onward-requires c κs =
     let p = s .pre .1 .1 .1 in
     (s .pre .0, (rw (w-back w64 (s .pre .1 .0) (lit< tt)) (s .pre .1 .0), (sym (e .enter .ensures .0), (p .1, p .2))))
 
-one-requires-2 : tie.Need-one-requires-2
-one-requires-2 c κs =
+one-requires : tie.Need-one-requires
+one-requires c κs =
     let f = c .before .before .before .before in
     let s = k f in
     let p = s .pre .1 .1 .1 in
     (s .pre .0, (rw (w-back w64 (s .pre .1 .0) (lit< tt)) (s .pre .1 .0), rw (none f (c .before .if2 .taken)) (omega (arith, p .0, p .1), p .2)))
 
-same-length-2 : tie.Need-same-length-2
-same-length-2 c = search needs
+same-length : tie.Need-same-length
+same-length c = search needs
 
 returns-2 : tie.Need-returns-2
 returns-2 c =
-    let o = c .before .one2 .ensures in
+    let o = c .before .one .ensures in
     let s = k (c .before .before .before .before .before .before) in
     let a = s .args in
     let b = w-back w64 (s .pre .1 .0) (lit< tt) in
@@ -108,20 +119,20 @@ returns-2 c =
       ),
     )
 
-cast-age-by : tie.Need-cast-age-by
-cast-age-by c = let f = c .before .before .before .before in omega (arith, f .onward .ensures .0 .1)
+cast-age-by-2 : tie.Need-cast-age-by-2
+cast-age-by-2 c = search needs
 
-age-by-requires : tie.Need-age-by-requires
-age-by-requires c κs =
+age-by-requires-2 : tie.Need-age-by-requires-2
+age-by-requires-2 c κs =
     let n = c .before in
     let f = n .before .before .before in
     f .onward .ensures .0 .2 (omega (arith, n .if2 .left))
 
-with-moved-requires : tie.Need-with-moved-requires
-with-moved-requires c κs = search needs
+with-moved-requires-2 : tie.Need-with-moved-requires-2
+with-moved-requires-2 c κs = search needs
 
-same-length-3 : tie.Need-same-length-3
-same-length-3 c = search needs
+same-length-2 : tie.Need-same-length-2
+same-length-2 c = search needs
 
 returns-3 : tie.Need-returns-3
 returns-3 c =
@@ -137,7 +148,7 @@ returns-3 c =
     let some : 0 < m = omega (arith, n .if2 .left) in (
       (some, f .onward .ensures .0 .0),
       (
-        ap sounds (c .with-moved .ensures ∙ ap (λ (x : Stage). withMoved v x (f .onward .result .place) (v .marked)) (g .age-by .ensures))
+        ap sounds (c .with-moved2 .ensures ∙ ap (λ (x : Stage). withMoved v x (f .onward .result .place) (v .marked)) (g .age-by2 .ensures))
             ∙ sym (rw b at (f .onward .ensures .1 .0 some))
             ∙ ap (afterAt (a .st) (a .l) w m) (sym (on s)),
         (
@@ -152,16 +163,17 @@ go-spec =
     tie.close
     (tie.spec
     enter-requires
-    is-waiting-requires
-    one-requires
-    same-length
-    returns
-    onward-requires
-    one-requires-2
-    same-length-2
-    returns-2
+    wait-requires
     cast-age-by
     age-by-requires
     with-moved-requires
-    same-length-3
+    returns
+    onward-requires
+    one-requires
+    same-length
+    returns-2
+    cast-age-by-2
+    age-by-requires-2
+    with-moved-requires-2
+    same-length-2
     returns-3)
