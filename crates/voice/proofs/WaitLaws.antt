@@ -1,7 +1,7 @@
 -- A delay's frames at once are what the definition of one frame, repeated, gives.
 use Prim.Native.Nat.{ℕ, zero, suc, _+_, _-_, _<_, _≤_}
 use mathlib.Core.Path.{_≡_, refl, ap, ap₂, sym, _∙_}
-use mathlib.Core.Bool.{Bool, cond}
+use mathlib.Core.Bool.{Bool, true, false, cond}
 use mathlib.Core.List.{List, [], _∷_, _++_}
 use native.Mathlib.Nat.{not-suc-le-zero}
 use native.Mathlib.Omega.{arith}
@@ -14,16 +14,31 @@ use Rattle.voice.specs.declared.Stage.the-variants.{Delay, Attack, Hold,
 use Rattle.voice.specs.declared.Voice.{Voice}
 use Rattle.voice.specs.Changes.{withMoved, sounds}
 use Rattle.voice.specs.Frames.{silent, living, frameAt}
-use Rattle.voice.specs.Stages.{entered, spent, spentBy, fromDelay, fromAttack}
+use Rattle.voice.specs.Stages.{entered, dead, waiting, spent, spentBy, fromDelay, fromAttack}
 use Rattle.voice.specs.Internal.Frames.{afterAt, heardAt}
 use Rattle.voice.specs.Internal.Stages.{RoomBy}
 use Rattle.voice.specs.Internal.Sums.{addAt, Small}
-use Rattle.voice.specs.Internal.Wait.{leftIn, Waits, Waiting, silence}
+use Rattle.voice.specs.Internal.Wait.{leftIn}
 use Rattle.voice.proofs.FramesLaws.{frame-on, living-waits}
 use Rattle.voice.proofs.StretchLaws.{entered-same, dead-same, spent-by, spent-none}
 use Rattle.voice.proofs.SumsLaws.{add-nothing, addAt-none, small-none, small-two}
 use Rattle.arith.proofs.WithinLaws.{w-nat}
 use lib.Dec.{lit≤}
+
+-- h is a delay that is not spent
+pub record Waits (v : Voice) (h : Stage) : Type 0 where
+  pub enters : entered v h ≡ h
+  pub waits : waiting h ≡ true
+  pub lives : dead v h ≡ false
+
+-- the next m frames are such
+abbrev pub Waiting : Voice → Stage → ℕ → Type 0
+Waiting v s m = (j : ℕ) → j < m → Waits v (spentBy j s)
+
+-- what m silent frames give
+unfoldable pub silence : ℕ → List ℤ
+silence zero = []
+silence (suc m) = silence m ++ (pos 0 ∷ pos 0 ∷ [])
 
 -- no frame is one of none
 none : (j m : ℕ) → j < m → m ≤ 0 → ⊥

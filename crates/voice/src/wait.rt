@@ -1,6 +1,6 @@
 // A delay: frames in which nothing is heard and the place stands, all in one.
 ghost use mathlib.Core.Path.{_≡_};
-ghost use Prim.Native.Nat.{_<_, _≤_};
+ghost use Prim.Native.Nat.{_<_, min};
 ghost use Rattle.voice.specs.Internal.Wait.{leftIn};
 use crate::Stage;
 use arith::least;
@@ -21,7 +21,7 @@ fn left_in(s: Stage) -> u32
 
 // How many of the next frames are frames of a delay.
 pub fn wait(s: Stage, most: usize) -> usize
-    ensures { λ r. ⌜ (r ≤ leftIn s) × (r ≤ most) × (r < 4294967296) ⌝ }
+    ensures { λ r. ⌜ (r ≡ min (leftIn s) most) × (r < 4294967296) ⌝ }
 {
     least(left_in(s) as u64, most as u64) as usize
 }

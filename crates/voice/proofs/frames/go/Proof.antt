@@ -15,8 +15,7 @@ use Rattle.voice.specs.Changes.{withMoved, sounds}
 use Rattle.voice.specs.Internal.Frames.{afterAt, heardAt}
 use Rattle.voice.specs.Internal.Sums.{Small, addAt}
 use Rattle.voice.proofs.SumsLaws.{addAt-none}
-use Rattle.voice.proofs.WaitLaws.{left-waits, wait-room, wait-slot, wait-sums, add-silence, silence-small}
-use Rattle.voice.specs.Internal.Wait.{silence}
+use Rattle.voice.proofs.WaitLaws.{silence, left-waits, wait-room, wait-slot, wait-sums, add-silence, silence-small}
 use borrow.Author.Needs.{needs}
 use Rattle.voice.proofs.frames.go.Statement.{statement}
 use Rattle.voice.proofs.frames.go.Tie as tie
@@ -52,7 +51,7 @@ cast-age-by : tie.Need-cast-age-by
 cast-age-by c = search needs
 
 age-by-requires : tie.Need-age-by-requires
-age-by-requires c κs = let n = c .before in wait-room (n .before .enter .result) (n .wait .result) (c .if1 .taken) (n .wait .ensures .0)
+age-by-requires c κs = let n = c .before in wait-room (n .before .enter .result) (n .wait .result) (c .if1 .taken) (omega (arith, n .wait .ensures .0))
 
 with-moved-requires : tie.Need-with-moved-requires
 with-moved-requires c κs = search needs
@@ -68,10 +67,10 @@ returns c =
     let w = a .w .now in
     let v = a .s .voice in
     let m = n .wait .result in
-    let q = left-waits v (e .enter .result) m (n .wait .ensures .0) in
+    let q = left-waits v (e .enter .result) m (omega (arith, n .wait .ensures .0)) in
     let enters = sym (e .enter .ensures .0) in
     let quiet : heardAt (a .st) (a .l) w m (a .s) ≡ silence m = ap (heardAt (a .st) (a .l) w m) (on s) ∙ wait-sums (a .st) (a .l) w v (e .enter .result) enters m q in (
-      (t .if1 .taken, n .wait .ensures .1),
+      (t .if1 .taken, omega (arith, n .wait .ensures .0)),
       (
         ap sounds (c .with-moved .ensures ∙ ap (λ (x : Stage). withMoved v x (v .place) (v .marked)) (g .age-by .ensures))
             ∙ sym (wait-slot (a .st) (a .l) w v (e .enter .result) enters m (t .if1 .taken) q)
