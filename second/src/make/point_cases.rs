@@ -18,6 +18,7 @@ pub fn write(s: &mut Script) {
     fades(s);
     bends_and_pans(s);
     loops_of_about_64_steps(s);
+    slow_fades(s);
     all_at_once(s);
 }
 
@@ -303,14 +304,15 @@ fn bends_and_pans(s: &mut Script) {
     }
 }
 
-/// Loops that take 62 to 66 steps or about 128, at several steps: in an attack of 136 frames, a decay of 109, at the
-/// sustain value, and released.
+/// Loops that take 62 to 66 steps or about 32 or 128, at several steps: in an attack of 136 frames, a decay of 109, at
+/// the sustain value, and released.
 fn loops_of_about_64_steps(s: &mut Script) {
     let stages: [Gen; 4] = [(34, -10_000), (36, -9_500), (37, 600), (38, -10_000)];
     let mut list = Vec::new();
     let mut keys = Vec::new();
     for (rate, mode) in [(44_099, 1), (44_100, 3), (44_101, 1)] {
-        let mut windows: Vec<_> = [62, 63, 64, 65, 66, 127, 128, 129].map(|n| (looped(5, n, 3), 60, 0, 0)).into();
+        let samples = [31, 32, 33, 62, 63, 64, 65, 66, 127, 128, 129];
+        let mut windows: Vec<_> = samples.map(|n| (looped(5, n, 3), 60, 0, 0)).into();
         windows.extend([31, 32, 33].map(|n| (looped(0, n, 3), 48, 0, 0)));
         windows.extend([1_008, 1_024, 1_040].map(|n| (looped(2, n, 0), 108, 0, 0)));
         let slow = [(1, -72, 0), (2, -60, 0), (3, -53, 2), (4, -48, 0)];
@@ -329,6 +331,24 @@ fn loops_of_about_64_steps(s: &mut Script) {
         cut_up(s, 320, chance);
         s.off(0, key);
         cut_up(s, 80, chance);
+        s.silence(0);
+    }
+}
+
+/// Decays and releases of 15,994 and 16,003 frames in loops of one sample, of 32 and of 90: a cB more after 16 frames, and
+/// now and then after 15 or 17.
+fn slow_fades(s: &mut Script) {
+    let mut list = Vec::new();
+    for time in [-1_756, -1_755] {
+        list.extend([1, 32, 90].map(|length| (looped(2, length, 2), vec![(36, time), (37, 400), (38, time), (54, 1)])));
+    }
+    begin(s, "slow decays and releases", &presets(list), &walled(&sounds(94, 1_022)));
+    let chance = &mut Chance::new(1_023);
+    for program in 0..6 {
+        strike(s, program, chance.pick(&[41, 60, 73]));
+        cut_up(s, 180, chance);
+        s.control(0, 123, 0);
+        cut_up(s, 180, chance);
         s.silence(0);
     }
 }
