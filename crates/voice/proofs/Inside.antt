@@ -1,6 +1,6 @@
 -- A voice never reads outside its window: it reads samples of the window, and the zeros that stand in front of its first and behind its last.
 use Prim.Native.Nat.{_*_, _≤_, _<_, ℕ, _/_, _+_, zero, suc}
-use mathlib.Core.Path.{_≡_, refl, _∙_}
+use mathlib.Core.Path.{_≡_, refl}
 use mathlib.Core.Bool.{true, Bool, false, cond, _&&_, not}
 use mathlib.Core.List.{List}
 use lib.IntN.{ℤ, pos}

@@ -1,10 +1,10 @@
 -- While a stage's value is before its stop, the stage is not spent, the voice lives, and envelope and level are those of the value.
-use Prim.Native.Nat.{ℕ, zero, suc, _+_, _*_, _-_, _/_, _%_, _<_, _≤_, min}
+use Prim.Native.Nat.{ℕ, zero, suc, _+_, _*_, _-_, _/_, _<_, _≤_, min}
 use mathlib.Core.Path.{_≡_, refl, ap, sym, _∙_, subst}
 use mathlib.Core.Bool.{Bool, true, false, cond}
 use native.Mathlib.Omega.{arith}
-use native.Mathlib.Nat.{add-zero, div-add-mod', mod-lt, mul-suc, mul-zero, add-mul, suc-mul, add-mul-div-right, div-eq-of-lt, div-lt-iff-lt-mul, lt-of-mul-lt-mul-left, mul-le-mul-left, le-of-lt, not-suc-le-zero}
-use borrow.Author.Tests.{lt-leb, eqb-true, eqb-false}
+use native.Mathlib.Nat.{add-mul-div-right, div-eq-of-lt, div-lt-iff-lt-mul, lt-of-mul-lt-mul-left, mul-le-mul-left, le-of-lt, not-suc-le-zero}
+use borrow.Author.Tests.{lt-leb}
 use lib.Dec.{eqb, leb, lit<, lit≤}
 use lib.IntN.{ℤ, pos, _*ℤ_, +ℤ-idr}
 use Rattle.arith.proofs.FloorsLaws.{floor-add}

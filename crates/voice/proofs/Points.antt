@@ -1,5 +1,5 @@
 -- What the four points promise.
-use Prim.Native.Nat.{ℕ, zero, suc, _+_, _*_, _-_, _/_, _<_, _≤_}
+use Prim.Native.Nat.{ℕ, suc, _+_, _*_, _-_, _/_, _<_, _≤_}
 use mathlib.Core.Path.{_≡_, refl, ap, ap₂, sym, _∙_, subst}
 use mathlib.Core.Bool.{Bool, true, false, cond, _&&_}
 use mathlib.Core.List.{[], _∷_}
@@ -7,18 +7,16 @@ use mathlib.Core.Logic.{⊎-elim}
 use native.Mathlib.Omega.{arith}
 use native.Mathlib.Nat.{le-of-lt, mul-comm, mul-le-mul, mul-le-mul-left}
 use borrow.Author.Tests.{leb-true, le-ltb}
-use lib.Dec.{T, leb, lit<, lit≤}
+use lib.Dec.{leb, lit≤}
 use lib.IntN.{ℤ, pos, negsuc, negℤ, subℕ, _+ℤ_, _-ℤ_, _*ℤ_, +ℤ-idr, +ℤ-idl, +ℤ-invr, *ℤ-comm, *ℤ-zero, zero-*ℤ}
-use lib.Signed.{ltZ, leZ}
 use Rattle.arith.specs.Floors.{floorZ}
 use Rattle.arith.specs.Holds.{heldTo, betweenZ}
-use Rattle.arith.specs.Within.{Within}
 use Rattle.arith.proofs.FloorsLaws.{sub-pos, sub-neg, neg-suc}
 use Rattle.arith.proofs.HoldsLaws.{clamp-in}
 use Rattle.arith.proofs.Linear.{var, add, sub, times, linear}
 use Rattle.arith.proofs.RingLaws.{mul-mul-nat}
 use Rattle.arith.proofs.WithinLaws.{w-nat, w-lit, w-le, w-add, w-sub, w-mul}
-use Rattle.voice.specs.Reading.{curve, interpolated}
+use Rattle.voice.specs.Reading.{interpolated}
 use Rattle.voice.specs.Points.{Sample16, ReadsPoint, ReadsLine, ReadsEqual, SumFits}
 use Rattle.voice.specs.Internal.Reading.{risen}
 use Rattle.voice.proofs.FramesLaws.{and-first}

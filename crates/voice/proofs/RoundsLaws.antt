@@ -1,7 +1,7 @@
 -- Rounds are what the definition of one frame, repeated, gives.
 use Prim.Native.Nat.{ℕ, zero, suc, _+_, _*_, _<_, _≤_}
 use mathlib.Core.Path.{_≡_, refl, ap, ap₂, sym, _∙_, subst}
-use mathlib.Core.Bool.{Bool, true, false, cond, not, _&&_}
+use mathlib.Core.Bool.{Bool, cond, not, _&&_}
 use mathlib.Core.List.{List, [], _∷_, _++_}
 use native.Mathlib.Numerals.{add-one}
 use native.Mathlib.Nat.{not-suc-le-zero}
@@ -23,13 +23,13 @@ use Rattle.voice.specs.Changes.{withMoved, sounds, free}
 use Rattle.voice.specs.Frames.{goOn, loud, readAndMoved, living, frameAt}
 use Rattle.voice.specs.Motion.{folds, folded, span, settled, ended}
 use Rattle.voice.specs.Reading.{reading}
-use Rattle.voice.specs.Sound.{leftOf, rightOf, shaped, wholeLoss, gained}
-use Rattle.voice.specs.Stages.{envelope, entered, spent, spentBy}
+use Rattle.voice.specs.Sound.{leftOf, rightOf, wholeLoss, gained}
+use Rattle.voice.specs.Stages.{entered, spent, spentBy}
 use Rattle.voice.specs.Internal.Frames.{afterAt, heardAt}
 use Rattle.voice.specs.Internal.Pace.{valueIn, stopIn, levelIn, cbIn}
 use Rattle.voice.specs.Internal.Rounds.{rung, rungIn, rings}
 use Rattle.voice.specs.Internal.Sides.{share, part, leftOut, rightOut}
-use Rattle.voice.specs.Internal.Way.{nextPlace, placeOn, Leads, OnWay}
+use Rattle.voice.specs.Internal.Way.{nextPlace, placeOn, OnWay}
 use Rattle.voice.proofs.FramesLaws.{frame-on, living-plays}
 use Rattle.voice.proofs.PaceLaws.{Lives, lives, stop-same, level-in, level-same, cb-same, released-same}
 use Rattle.voice.proofs.ReadingLaws.{reading-in}

@@ -4,14 +4,14 @@ use mathlib.Core.Path.{_≡_, refl, ap, sym, _∙_, subst}
 use mathlib.Core.Bool.{Bool, true, false, cond, not, _&&_}
 use mathlib.Core.Logic.{⊎-elim}
 use native.Mathlib.Omega.{arith}
-use native.Mathlib.Nat.{mod-eq-of-lt, mod-eq-sub-mod, mod-lt, mod-add-mod, add-comm}
+use native.Mathlib.Nat.{mod-eq-of-lt, mod-eq-sub-mod, mod-lt, mod-add-mod}
 use borrow.Author.Tests.{lt-ltb, le-ltb, lt-leb}
 use lib.Dec.{ltb, leb}
 use Rattle.voice.specs.declared.Stage.{Stage}
 use Rattle.voice.specs.declared.Voice.{Voice}
 use Rattle.voice.specs.declared.way.Way.{Way}
 use Rattle.voice.specs.Motion.{folds, fold, folded, span, settled, ended}
-use Rattle.voice.specs.Internal.Way.{nextPlace, placeOn, Leads, OnWay}
+use Rattle.voice.specs.Internal.Way.{nextPlace, placeOn, OnWay}
 use Rattle.voice.proofs.MotionLaws.{fold-in, fold-past, split}
 
 -- a step that stays before the end

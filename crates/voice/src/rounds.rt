@@ -3,7 +3,6 @@ ghost use mathlib.Core.Path.{_≡_};
 ghost use mathlib.Core.Bool.{_||_};
 ghost use Prim.Native.Nat.{ℕ, _+_, _*_, _<_, _≤_};
 ghost use lib.Dec.{leb};
-ghost use lib.IntN.{_*ℤ_};
 ghost use lib.ListN.{length};
 ghost use Rattle.arith.specs.Within.{Within};
 ghost use Rattle.curves.specs.Levels.{gains, gainOf};

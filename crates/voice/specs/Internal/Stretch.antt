@@ -1,5 +1,5 @@
 -- How a run goes on in stretches of calm frames.
-use Prim.Native.Nat.{ℕ, _+_, _*_, _/_, _<_, _≤_, _%_, zero, suc}
+use Prim.Native.Nat.{ℕ, _+_, _*_, _/_, _<_, _%_, zero, suc}
 use mathlib.Core.Bool.{cond}
 use mathlib.Core.List.{List, [], _∷_, _++_}
 use lib.IntN.{ℤ, pos, _*ℤ_}

@@ -9,8 +9,7 @@ use lib.IntN.{ℤ}
 use mathlib.Core.Path.{_≡_, sym, ap, ap₂, _∙_, subst}
 use Rattle.voice.specs.declared.Framed.{Framed}
 use Rattle.voice.specs.declared.Slot.{Slot}
-use Rattle.voice.specs.Sound.{leftOf, rightOf}
-use Rattle.voice.specs.Internal.Sides.{share, part, leftOut, rightOut}
+use Rattle.voice.specs.Internal.Sides.{part}
 use Rattle.voice.specs.Internal.Sums.{loudest}
 use Rattle.voice.proofs.SidesLaws.{part-left, part-right}
 use Rattle.voice.specs.Internal.Stages.{RoomBy}

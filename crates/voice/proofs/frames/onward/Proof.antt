@@ -1,6 +1,6 @@
 -- Rounds where no stretch may begin, and a stretch else.
 use mathlib.Core.Path.{_≡_, sym, ap, ap₂, _∙_, subst}
-use Prim.Native.Nat.{ℕ, zero, suc, _+_, _*_, _<_, _≤_}
+use Prim.Native.Nat.{ℕ, zero, suc, _+_, _*_, _<_}
 use mathlib.Core.Bool.{false}
 use mathlib.Core.List.{List}
 use native.Mathlib.Nat.{not-suc-le-zero}
@@ -15,12 +15,11 @@ use Rattle.arith.proofs.WithinLaws.{w-back}
 use Rattle.curves.specs.Levels.{gainOf}
 use Rattle.voice.specs.declared.Stage.{Stage}
 use Rattle.voice.specs.declared.Voice.{Voice}
-use Rattle.voice.specs.declared.way.Way.{Way}
 use Rattle.voice.specs.Changes.{withMoved, sounds}
 use Rattle.voice.specs.Sound.{wholeLoss}
 use Rattle.voice.specs.Stages.{envelope, dead, spentBy}
 use Rattle.voice.specs.Internal.Calm.{Calms}
-use Rattle.voice.specs.Internal.Frames.{afterAt, heardAt}
+use Rattle.voice.specs.Internal.Frames.{heardAt}
 use Rattle.voice.specs.Internal.Pace.{valueIn, stopIn}
 use Rattle.voice.specs.Internal.Rounds.{rings}
 use Rattle.voice.specs.Internal.Sides.{share, leftOut, rightOut}

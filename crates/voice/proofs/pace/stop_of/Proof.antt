@@ -1,5 +1,5 @@
 -- The stop, by the stage: each return by that case of `stopIn`.
-use mathlib.Core.Path.{sym, ap, ap₂, _∙_}
+use mathlib.Core.Path.{sym, ap, _∙_}
 use Prim.Native.Nat.{ℕ, min}
 use native.Mathlib.Omega.{arith}
 use Rattle.voice.specs.Internal.Pace.{stopIf, stopIn}

@@ -3,9 +3,9 @@ use lib.Dec.{lit<}
 use lib.IntN.{ℤ}
 use mir.Syntax.{w64, w16}
 use mir.Facts.{toZ-ofZ}
-use Prim.Native.Nat.{ℕ, _%_, _/_}
+use Prim.Native.Nat.{_%_, _/_}
 use native.Mathlib.Omega.{arith}
-use mathlib.Core.Path.{_≡_, ap₂, ap, _∙_}
+use mathlib.Core.Path.{ap₂, ap, _∙_}
 use Rattle.arith.proofs.WithinLaws.{w-back}
 use Rattle.voice.proofs.ReadingLaws.{behind-lt}
 use Rattle.voice.specs.Reading.{behind, before, interpolated, reading, sample}

@@ -1,6 +1,5 @@
 -- The reading of four samples, each widened to 64 bits.
 use mathlib.Core.Path.{_≡_, ap, _∙_}
-use Prim.Native.Nat.{_≤_}
 use native.Mathlib.Nat.{le-of-lt}
 use lib.Dec.{lit<}
 use lib.IntN.{ℤ, pos, negsuc}

@@ -1,5 +1,4 @@
 -- Both sides of the test.
-use mathlib.Core.Path.{sym}
 use borrow.Author.Tests.{le-leb, lt-leb}
 use Rattle.voice.proofs.rounds.is_over.Statement.{statement}
 use Rattle.voice.proofs.rounds.is_over.Tie as tie

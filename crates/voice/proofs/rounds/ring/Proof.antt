@@ -3,12 +3,12 @@ use mathlib.Core.Path.{_≡_, refl, sym, ap, ap₂, _∙_, subst}
 use mathlib.Core.Bool.{Bool, true, false, _||_}
 use mathlib.Core.List.{List, [], _∷_, _++_}
 use mathlib.Core.Logic.{⊎-elim}
-use Prim.Native.Nat.{ℕ, suc, _+_, _-_, _*_, _<_, _≤_}
+use Prim.Native.Nat.{ℕ, _+_, _-_, _*_, _<_, _≤_}
 use native.Mathlib.Numerals.{add-one}
 use native.Mathlib.Omega.{arith}
 use borrow.Author.Tests.{leb-false}
 use borrow.Author.Needs.{needs}
-use lib.Dec.{T, lit<, lit≤, leb}
+use lib.Dec.{T, lit<, leb}
 use lib.IntN.{ℤ, pos}
 use lib.ListN.{length, getD}
 use mir.Syntax.{w32, w64}
@@ -18,10 +18,9 @@ use Rattle.arith.proofs.WithinLaws.{w-back}
 use Rattle.curves.specs.Levels.{gainOf}
 use Rattle.voice.specs.declared.Stage.{Stage}
 use Rattle.voice.specs.declared.Voice.{Voice}
-use Rattle.voice.specs.declared.pace.Pace.{Pace}
 use Rattle.voice.specs.declared.way.Way.{Way}
 use Rattle.voice.specs.Sound.{wholeLoss}
-use Rattle.voice.specs.Stages.{spent, spentBy}
+use Rattle.voice.specs.Stages.{spentBy}
 use Rattle.voice.specs.Internal.Pace.{wholeIn, framesIn, spentIn, valueIn, stopIn, cbIn, PaceAt}
 use Rattle.voice.specs.Internal.Rounds.{rung, rungIn, rings}
 use Rattle.voice.specs.Internal.Sides.{part}

@@ -1,10 +1,8 @@
 -- Both are from 0 to 1,000.
-use Prim.Native.Nat.{_≤_}
 use native.Mathlib.Nat.{lt-of-le-of-lt}
 use mathlib.Core.Path.{refl}
-use lib.Dec.{T, lit<, lit≤}
+use lib.Dec.{lit<}
 use lib.IntN.{pos, _+ℤ_, _-ℤ_}
-use lib.Signed.{nonNeg}
 use mir.Facts.{toZ-ofZ}
 use mir.Syntax.{w64}
 use Rattle.arith.specs.Within.{Within}

@@ -1,10 +1,9 @@
 -- The shares of both sides' thousandths.
-use mathlib.Core.Path.{_≡_, ap, _∙_}
-use Prim.Native.Nat.{ℕ}
+use mathlib.Core.Path.{ap, _∙_}
 use lib.Dec.{lit<}
 use lib.IntN.{ℤ, pos, natAbs, _+ℤ_, _-ℤ_}
 use mir.Facts.{toZ-ofZ}
-use mir.Syntax.{w16, w64}
+use mir.Syntax.{w64}
 use Rattle.arith.proofs.WithinLaws.{w-back}
 use Rattle.voice.specs.Internal.Sides.{share}
 use borrow.Author.Needs.{needs}

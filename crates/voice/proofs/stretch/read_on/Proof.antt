@@ -1,5 +1,5 @@
 -- Four samples of the window.
-use mathlib.Core.Path.{_≡_, ap, _∙_}
+use mathlib.Core.Path.{ap, _∙_}
 use Prim.Native.Nat.{_/_, _%_, _+_}
 use native.Mathlib.Omega.{arith}
 use lib.Dec.{lit<}

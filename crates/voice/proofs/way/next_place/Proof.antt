@@ -1,7 +1,6 @@
 -- Both sides of the test.
 use Prim.Native.Nat.{_+_}
 use borrow.Author.Tests.{lt-ltb, le-ltb}
-use mathlib.Core.Path.{sym}
 use borrow.Author.Needs.{needs}
 use Rattle.voice.proofs.way.next_place.Statement.{statement}
 use Rattle.voice.proofs.way.next_place.Tie as tie

@@ -5,7 +5,7 @@ use Prim.Native.Nat.{ℕ, _+_, _*_, _-_, _<_}
 use native.Mathlib.Omega.{arith}
 use native.Mathlib.Nat.{mod-lt}
 use borrow.Author.Tests.{not-true, not-false}
-use Rattle.voice.specs.Motion.{folds, span}
+use Rattle.voice.specs.Motion.{folds}
 use Rattle.voice.proofs.FramesLaws.{folds-loop}
 use Rattle.voice.proofs.WayLaws.{straight-on, straight-in, round-on}
 use borrow.Author.Needs.{needs}
