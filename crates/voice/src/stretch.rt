@@ -50,12 +50,12 @@ fn end_of(v: Voice, s: Stage) -> u64
     span_of(v)
 }
 
-// A loop of less than 32 steps.
+// A loop of less than 16 steps.
 fn is_short(v: Voice, s: Stage, st: u32) -> bool {
     if !is_folding(v, s) {
         return false;
     }
-    (less(v.loopto, v.loopfrom) as u64) * 16777216 < 32 * (st as u64)
+    (less(v.loopto, v.loopfrom) as u64) * 16777216 < 16 * (st as u64)
 }
 
 // A stage in which the level rises, or the gain is another one after less than 16 frames.

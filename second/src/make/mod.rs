@@ -33,7 +33,7 @@
 //! - how many voices sound (u): count_cases
 //! - gains, the panel's levels and least attenuations at both sides of each 200 cB, and of 1,440 (M-105): gain_cases
 //! - the four points at both sides of each edge of a window and a loop, every q, both ends of the range, rounding below 0,
-//!   modes 1 and 3 before and after release, loops of one to four samples and of about 64 steps, at steps from low to the
+//!   modes 1 and 3 before and after release, loops of one to four samples and of 15 to 129 steps, at steps from low to the
 //!   highest, in attacks, decays, releases, bends and pans (M-100): point_cases
 //! - the numbers of each layer's voice (h): strike_cases; values of the tables: number_lines
 //! - what the prover computes by the definitions: proof_examples, over the voices and runs of drawn

@@ -17,7 +17,7 @@ pub fn write(s: &mut Script) {
     attacks(s);
     fades(s);
     bends_and_pans(s);
-    loops_of_about_64_steps(s);
+    loops_of_some_steps(s);
     slow_fades(s);
     all_at_once(s);
 }
@@ -304,14 +304,14 @@ fn bends_and_pans(s: &mut Script) {
     }
 }
 
-/// Loops that take 62 to 66 steps or about 32 or 128, at several steps: in an attack of 136 frames, a decay of 109, at
+/// Loops that take 62 to 66 steps or about 16, 32 or 128, at several steps: in an attack of 136 frames, a decay of 109, at
 /// the sustain value, and released.
-fn loops_of_about_64_steps(s: &mut Script) {
+fn loops_of_some_steps(s: &mut Script) {
     let stages: [Gen; 4] = [(34, -10_000), (36, -9_500), (37, 600), (38, -10_000)];
     let mut list = Vec::new();
     let mut keys = Vec::new();
     for (rate, mode) in [(44_099, 1), (44_100, 3), (44_101, 1)] {
-        let samples = [31, 32, 33, 62, 63, 64, 65, 66, 127, 128, 129];
+        let samples = [15, 16, 17, 31, 32, 33, 62, 63, 64, 65, 66, 127, 128, 129];
         let mut windows: Vec<_> = samples.map(|n| (looped(5, n, 3), 60, 0, 0)).into();
         windows.extend([31, 32, 33].map(|n| (looped(0, n, 3), 48, 0, 0)));
         windows.extend([1_008, 1_024, 1_040].map(|n| (looped(2, n, 0), 108, 0, 0)));
@@ -323,7 +323,7 @@ fn loops_of_about_64_steps(s: &mut Script) {
             keys.push(key);
         }
     }
-    begin(s, "loops of about 64 steps", &presets(list), &walled(&sounds(1_042, 1_018)));
+    begin(s, "loops of some steps", &presets(list), &walled(&sounds(1_042, 1_018)));
     let chance = &mut Chance::new(1_019);
     for (program, key) in keys.into_iter().enumerate() {
         s.bend(0, chance.pick(&[8_150, 8_192, 8_192, 8_240]));
