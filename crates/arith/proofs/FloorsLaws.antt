@@ -1,4 +1,4 @@
--- `floorZ x d` by an offset, where `/` rounds toward zero; and that it is the floor.
+-- `floorZ z d` is the floor, and a number of times d stands outside it; an offset that makes a number positive.
 use mathlib.Core.Path.{_≡_, ap, _∙_, sym, subst, refl}
 use mathlib.Core.Bool.{Bool, true, false, cond}
 use Prim.Native.Nat.{ℕ, suc, _-_, _≤_, _<_, _+_, _*_, _/_, _%_, zero}
@@ -6,10 +6,8 @@ use lib.IntN.{pos, negsuc, subℕ, ℤ, _+ℤ_, natAbs, _-ℤ_, +ℤ-negℤ-canc
 use borrow.Author.Tests.{le-ltb, lt-ltb, ltb-true, ltb-false}
 use lib.Signed.{nonNeg, _≤ℤ_, ltZ, _<ℤ_}
 use lib.Dec.{T, ltb, le→leb, lt→ltb}
-use native.Mathlib.Nat.{div-lt-iff-lt-mul, div-add-mod', mod-lt, suc-mul, add-mul, add-mul-div-right, div-mul-le-self, zero-mul, mul-pos, div-eq-of-lt}
+use native.Mathlib.Nat.{div-lt-iff-lt-mul, add-mul-div-right, div-mul-le-self, zero-mul, mul-pos, div-eq-of-lt}
 use native.Mathlib.Omega.{arith}
-use mathlib.Core.Logic.{_⊎_, inl, inr, ⊎-elim}
-use lib.Arith.{digits-div}
 use Rattle.arith.specs.Within.{Within}
 use Rattle.arith.specs.Floors.{floorZ, modZ}
 
@@ -20,46 +18,11 @@ sub-pos a b h = ap (λ (t : Bool). cond t (negsuc (b - suc a)) (pos (a - b))) (l
 pub sub-neg : (a b : ℕ) → a < b → subℕ a b ≡ negsuc (b - suc a)
 sub-neg a b h = ap (λ (t : Bool). cond t (negsuc (b - suc a)) (pos (a - b))) (lt-ltb a b h)
 
--- K * d more, which is not below 0, divided, and K less
+-- n more than a number within n is not below 0
 pub bias-nonneg : (x : ℤ) (n : ℕ) → Within x n → T (nonNeg (x +ℤ pos n))
 bias-nonneg (pos a) n h = tt
 bias-nonneg (negsuc a) n h = rw (sub-pos n (suc a) (h .within)) tt
 
--- (K * d - (a + 1)) / d is K - 1 - a / d
-below : (a K d : ℕ) → 0 < d → suc a ≤ K * d → (K * d - suc a) / d ≡ K - suc (a / d)
-below a K d p h =
-    let q = a / d in
-    let r = a % d in
-    let J = K - suc q in
-    let small : q < K = div-lt-iff-lt-mul p .1 h in
-    let whole : K * d ≡ J * d + q * d + d = ap (λ (k : ℕ). k * d) (split K q small) ∙ suc-mul (J + q) d ∙ ap (λ (k : ℕ). k + d) (add-mul J q d) in
-    let r-lt : r < d = mod-lt a p in
-    ap (λ (n : ℕ). n / d) (parts (K * d) (J * d) (q * d) d a r whole (div-add-mod' a d) r-lt) ∙ digits-div J (omega arith)
-  where
-    split : (K q : ℕ) → q < K → K ≡ suc (K - suc q + q)
-    split K q h = omega arith
-
-    parts : (kd jd qd d a r : ℕ) → kd ≡ jd + qd + d → qd + r ≡ a → r < d → kd - suc a ≡ jd + (d - suc r)
-    parts kd jd qd d a r e f h = omega arith
-
-pub floor-bias : (x : ℤ) (K d : ℕ) → 0 < d → Within x (K * d) → pos (natAbs (x +ℤ pos (K * d)) / d) -ℤ pos K ≡ floorZ x d
-floor-bias (pos a) K d p h = ap (λ (n : ℕ). pos n -ℤ pos K) (add-mul-div-right a K p) ∙ less (a / d) K
-  where
-    less : (q K : ℕ) → pos (q + K) -ℤ pos K ≡ pos q
-    less q K = +ℤ-negℤ-cancel (pos q) (pos K)
-floor-bias (negsuc a) K d p h =
-    ap (λ (z : ℤ). pos (natAbs z / d) -ℤ pos K) (sub-pos (K * d) (suc a) (h .within))
-    ∙ ap (λ (n : ℕ). pos n -ℤ pos K) (below a K d p (h .within))
-    ∙ less K (a / d) (div-lt-iff-lt-mul p .1 (h .within))
-  where
-    less : (K q : ℕ) → q < K → pos (K - suc q) -ℤ pos K ≡ negsuc q
-    less zero q l = absurd (no q l)
-      where
-        no : (q : ℕ) → q < 0 → ⊥
-        no q l = omega arith
-    less (suc K) q l = sub-neg (suc K - suc q) (suc K) (omega arith) ∙ ap negsuc (omega arith)
-
--- ---- `floorZ` is the floor: q = floorZ z d is the number with q * d <= z < (q + 1) * d
 -- -n where n is not 0
 pub neg-suc : (n : ℕ) → 0 < n → negℤ (pos n) ≡ negsuc (n - 1)
 neg-suc zero h = absurd (no h)
@@ -68,6 +31,11 @@ neg-suc zero h = absurd (no h)
     no h = omega arith
 neg-suc (suc n) h = ap negsuc (omega arith)
 
+-- one more, below 0
+up-one : (q : ℕ) → negsuc (suc q) +ℤ pos 1 ≡ negsuc q
+up-one q = sub-neg 1 (suc (suc q)) (omega arith) ∙ ap negsuc (omega arith)
+
+-- ---- `floorZ` is the floor: q = floorZ z d is the number with q * d <= z < (q + 1) * d
 pub floor-low : (z : ℤ) (d : ℕ) → 0 < d → (floorZ z d *ℤ pos d) ≤ℤ z
 floor-low (pos a) d p = record { le = le→leb (a / d * d) a (div-mul-le-self a d) }
 floor-low (negsuc a) d p =
@@ -83,7 +51,7 @@ floor-high (negsuc a) d p =
   where
     up : (q : ℕ) → negsuc q +ℤ pos 1 ≡ negℤ (pos q)
     up zero = refl
-    up (suc q) = sub-neg 1 (suc (suc q)) (omega arith) ∙ ap negsuc (omega arith)
+    up (suc q) = up-one q
 
     go : (q : ℕ) → q * d ≤ a → (negsuc a) <ℤ (negℤ (pos q) *ℤ pos d)
     go zero h = record { lt = subst (λ (n : ℕ). T (ltZ (negsuc a) (pos n))) (sym (zero-mul d)) tt }
@@ -98,24 +66,13 @@ mod-lift (pos a) h = omega arith
 mod-lift (negsuc a) h = rw (sub-pos 32768 (suc a) (h .within)) (omega (arith, h .within))
 
 -- ---- a whole number of times more
-up-one : (q : ℕ) → negsuc (suc q) +ℤ pos 1 ≡ negsuc q
-up-one q = sub-neg 1 (suc (suc q)) (omega arith) ∙ ap negsuc (omega arith)
-
--- below or not
-lt-or-le : (a b : ℕ) → (a < b) ⊎ (b ≤ a)
-lt-or-le a b = by (ltb a b) refl
-  where
-    by : (t : Bool) → ltb a b ≡ t → (a < b) ⊎ (b ≤ a)
-    by true e = inl (ltb-true a b e)
-    by false e = inr (ltb-false a b e)
-
 -- d more is one more
 floor-up : (s : ℤ) (d : ℕ) → 0 < d → floorZ (s +ℤ pos d) d ≡ floorZ s d +ℤ pos 1
 floor-up (pos a) d p = ap pos (ap (λ (n : ℕ). n / d) (one-d a d) ∙ add-mul-div-right a 1 p)
   where
     one-d : (a d : ℕ) → a + d ≡ a + 1 * d
     one-d a d = omega arith
-floor-up (negsuc a) d p = ⊎-elim (λ (l : a < d). near l) (λ (g : d ≤ a). far g) (lt-or-le a d)
+floor-up (negsuc a) d p = by (ltb a d) refl
   where
     near : a < d → floorZ (negsuc a +ℤ pos d) d ≡ negsuc (a / d) +ℤ pos 1
     near l =
@@ -140,6 +97,10 @@ floor-up (negsuc a) d p = ⊎-elim (λ (l : a < d). near l) (λ (g : d ≤ a). f
 
         plus-one : (q : ℕ) → q + 1 ≡ suc q
         plus-one q = omega arith
+
+    by : (t : Bool) → ltb a d ≡ t → floorZ (negsuc a +ℤ pos d) d ≡ negsuc (a / d) +ℤ pos 1
+    by true e = near (ltb-true a d e)
+    by false e = far (ltb-false a d e)
 
 -- a number of times d stands outside
 pub floor-add : (z r : ℤ) (d : ℕ) → 0 < d → floorZ (z *ℤ pos d +ℤ r) d ≡ z +ℤ floorZ r d
