@@ -139,7 +139,7 @@ pub fn glide(
     requires window { ⌜ (limit ≤ 72057594037927936) × ((p : ℕ) → p < limit → p / 16777216 + 2 < length (now w)) ⌝ }
     requires begins { ⌜ (0 < st) × (16777216 ≤ from) × (from < limit) × (most ≤ 65536) ⌝ }
     requires sums { ⌜ (2 * (k + most) ≤ length (now acc)) × From (2 * k) (now acc) ⌝ }
-    ensures count { λ r. ⌜ r .frames ≤ most ⌝ }
+    ensures count { λ r. ⌜ (r .frames ≤ most) × (0 < most → 0 < r .frames) ⌝ }
     ensures place { λ r. ⌜ (r .place ≡ from + r .frames * st) × ((j : ℕ) → j < r .frames → from + j * st < limit) ⌝ }
     ensures sums { λ r. ⌜ now (acc .exit) ≡ addAt (2 * k) (plains gain (sides .left) (sides .right) (now (w .entry)) st from (r .frames)) (now (acc .entry)) ⌝ }
     ensures small { λ r. ⌜ Small 1 (plains gain (sides .left) (sides .right) (now (w .entry)) st from (r .frames)) ⌝ }

@@ -109,7 +109,7 @@ module _ (c : tie.After-glide) where
   alive = ah .ahead .ensures .1 .1 some .0
 
   calm : Calms voice (begun .args .s) count
-  calm j h = ah .ahead .ensures .1 .0 j (omega (arith, c .glide .ensures .0))
+  calm j h = ah .ahead .ensures .1 .0 j (omega (arith, c .glide .ensures .0 .0))
 
   clear : (j : ℕ) → j < count → Clear (begun .args .w .now) voice (begun .args .s) (begun .args .st) (voice .place + j * begun .args .st)
   clear j h = lim .limit-of .ensures .0 (voice .place + j * begun .args .st) (c .glide .ensures .1 .0 .1 j h)
@@ -222,9 +222,9 @@ returns-2 c =
     let s = begun f in
     let a = s .args in (
       (
-        omega (arith, f .glide .ensures .0, ah f .ahead .ensures .0 .0),
-        omega (arith, f .glide .ensures .0, ah f .ahead .ensures .0 .1),
-        λ z. room-le (a .s) (ah f .ahead .result) (count f) (f .glide .ensures .0) (ah f .ahead .ensures .1 .1 (some f) .2),
+        omega (arith, f .glide .ensures .0 .0, ah f .ahead .ensures .0 .0),
+        omega (arith, f .glide .ensures .0 .0, ah f .ahead .ensures .0 .1),
+        λ z. room-le (a .s) (ah f .ahead .result) (count f) (f .glide .ensures .0 .0) (ah f .ahead .ensures .1 .1 (some f) .2),
       ),
       (
         λ z.

@@ -1,9 +1,9 @@
 -- A turn adds one plain frame behind those that are added.
 use mathlib.Core.Path.{_≡_, refl, sym, ap, ap₂, _∙_, subst}
-use Prim.Native.Nat.{ℕ, _+_, _-_, _*_, _/_, _%_, _<_, _≤_}
+use Prim.Native.Nat.{ℕ, zero, suc, _+_, _-_, _*_, _/_, _%_, _<_, _≤_, min}
 use mathlib.Core.List.{List, [], _∷_, _++_}
 use mathlib.Core.Logic.{⊎-elim}
-use native.Mathlib.Nat.{zero-mul, suc-mul, mul-le-mul, lt-of-mul-lt-mul-right}
+use native.Mathlib.Nat.{zero-mul, suc-mul, zero-lt-suc, mul-pos, mul-le-mul, lt-of-mul-lt-mul-right}
 use native.Mathlib.Numerals.{add-one}
 use native.Mathlib.Omega.{arith}
 use lib.Dec.{lit<, lit≤}
@@ -44,6 +44,14 @@ earlier from st limit m j p e h k q =
 -- a place before that of the last frame is that of an earlier one
 sooner : (from st most m p : ℕ) → p ≡ from + m * st → p < from + most * st → m < most
 sooner from st most m p e h = let k : m * st < most * st = omega arith in lt-of-mul-lt-mul-right st k
+
+-- where the end is reached, a frame went before
+first : (m most p from st limit end : ℕ) → p ≡ from + m * st → end ≡ min limit (from + most * st) → end ≤ p → from < limit → 0 < st → 0 < most → 0 < m
+first zero most p from st limit end e f h k s z = absurd (never (omega (arith, e, f, h, k, zero-mul st, mul-pos z s)))
+  where
+    never : from < from → ⊥
+    never q = omega arith
+first (suc m) most p from st limit end e f h k s z = zero-lt-suc m
 
 -- so many frames lead to a 64-bit place
 span : (most st : ℕ) → most ≤ 65536 → st ≤ 4294967295 → most * st ≤ 281474976645120
@@ -201,7 +209,11 @@ same-length c = search needs
 returns : tie.Need-returns Inv-loop μ-loop
 returns c =
     let l = c .before in
-    (l .loop .inv .0, ((l .loop .inv .1, l .loop .inv .2), (l .loop .inv .3, l .loop .inv .6)))
+    let k = l .before .before in
+    let a = k .args in (
+      (l .loop .inv .0, λ z. first (l .loop .m) (a .most) (l .loop .p) (a .from) (a .st) (a .limit) (l .before .least .result) (l .loop .inv .1) (l .before .least .ensures) (c .loop-test .left) (k .pre .1 .1 .0 .2) (k .pre .1 .1 .0 .0) z),
+      ((l .loop .inv .1, l .loop .inv .2), (l .loop .inv .3, l .loop .inv .6)),
+    )
 
 pub glide-spec : {M : Type 1} → statement M
 glide-spec =
