@@ -20,7 +20,7 @@ use state::slot_of;
 use voice::Slot;
 
 // The distance to the asked clock value, modulo 2^32.
-fn distance_to(e: Engine, to: u32) -> u32
+pub fn distance_to(e: Engine, to: u32) -> u32
     ensures { λ r. ⌜ r ≡ distance e to ⌝ }
 {
     std::num::wrapping_sub_u32(to, e.clock)
@@ -55,7 +55,7 @@ fn lacks<'a>(e: Engine, ram: &'a [i16], rom: &'a [i16]) -> bool
 }
 
 // The tests in order: 5, 6, 7, 8.
-fn render_number<'a>(e: Engine, to: u32, ram: &'a [i16], rom: &'a [i16], room: usize) -> u8
+pub fn render_number<'a>(e: Engine, to: u32, ram: &'a [i16], rom: &'a [i16], room: usize) -> u8
     ensures { λ r. ⌜ r ≡ renderNumber to (now (ram .entry)) (now (rom .entry)) room e ⌝ }
 {
     let n = distance_to(e, to);
@@ -75,7 +75,7 @@ fn render_number<'a>(e: Engine, to: u32, ram: &'a [i16], rom: &'a [i16], room: u
 }
 
 // n frames into the front of the output.
-fn play<'a>(e: Engine, ram: &'a [i16], rom: &'a [i16], out: &mut [f32], n: usize) -> Engine
+pub fn play<'a>(e: Engine, ram: &'a [i16], rom: &'a [i16], out: &mut [f32], n: usize) -> Engine
     requires { ⌜ (n ≤ 4096) × (2 * n ≤ length (now out)) ⌝ }
     ensures state { λ r. ⌜ r ≡ played (now (ram .entry)) (now (rom .entry)) n e ⌝ }
     ensures output { λ _. ⌜ now (out .exit) ≡ output (now (ram .entry)) (now (rom .entry)) e n ++ drop (2 * n) (now (out .entry)) ⌝ }

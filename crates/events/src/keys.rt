@@ -24,7 +24,7 @@ use voice::let_off;
 use voice::with_moved;
 
 // A held voice of the channel: neither released nor marked.
-fn is_held(s: Slot, channel: u8) -> bool
+pub fn is_held(s: Slot, channel: u8) -> bool
     ensures { λ r. ⌜ r ≡ held channel s ⌝ }
 {
     if !of_channel(s, channel) {

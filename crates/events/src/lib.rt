@@ -8,6 +8,7 @@ mod striking;
 
 pub use bends::pitch_bend;
 pub use controls::control_change;
+pub use keys::is_held;
 pub use keys::note_off;
 pub use programs::program_change;
 use state::Engine;
