@@ -27,7 +27,7 @@ use Rattle.state.specs.Answers.{done}
 use Rattle.state.proofs.AnswersLaws.{or-no}
 use Rattle.promises.specs.Calls.{run}
 use Rattle.promises.proofs.Banks.{came}
-use Rattle.promises.proofs.Cuts.{map-two}
+use Rattle.engine.proofs.CutLaws.{map-two}
 use Rattle.promises.proofs.Voices.{from-fresh}
 
 -- within its ranges each is done

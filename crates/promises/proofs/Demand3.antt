@@ -34,7 +34,7 @@ use Rattle.promises.specs.Calls.{voiceIn, Call, next, run, framesOf, fra
 use Rattle.promises.specs.Demand3.{centsIn, Keeps, KeepsAll, ReadAtThePlace, Moved, PlaceBetween, PlaceBetweenAlways, PlaceHolds, RatesHold, PlaceHoldsAlways}
 use Rattle.promises.specs.Moments.{Moment, moment, stateAt, inFront, startedAt, stageIn}
 use Rattle.promises.proofs.Moments.{no-frame, slot-at, part-keeps, ramOf, romOf, in-call, front-here, front-later, front-end, front-sounded, started-later, started-first, moment-later}
-use Rattle.promises.proofs.Cuts.{played-cut, after-channel, after-window}
+use Rattle.engine.proofs.CutLaws.{played-cut, after-channel, after-window}
 use Rattle.state.specs.Slots.{withVoice, slotAt}
 use Rattle.engine.specs.Rendering.{window, slotAfter, played}
 use Rattle.promises.proofs.EachSlot.{What, stands, pedalled, loosed, freed, started, goes, never, what}

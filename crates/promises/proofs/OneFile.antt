@@ -30,7 +30,8 @@ use Rattle.wave.proofs.StreamsLaws.{whole-of, any-append, file-is-stream, strea
 use Rattle.promises.specs.Calls.{Call, does, next, run, written, framesOf, framesRun}
 use Rattle.promises.specs.Cuts.{ahead, Pieces, none, asks, refuses, piece, AllDone, numbersOf}
 use Rattle.promises.specs.OneFile.{RenderedIsFit, RunIsRecorded, CutFile, Recut, at-end, alike, cut-anew, AnyLengths, Shared, no-share, passed-over, one-share, StreamedFile}
-use Rattle.promises.proofs.Cuts.{output-cut, played-cut, output-clock, played-clock, no-frames, done-frames, done-numbers, any-cut}
+use Rattle.engine.proofs.CutLaws.{output-cut, played-cut, output-clock, played-clock}
+use Rattle.promises.proofs.Cuts.{no-frames, done-frames, done-numbers, any-cut}
 use Rattle.promises.proofs.Demand1.{changes-nothing}
 use Rattle.promises.proofs.Output.{out-length, done-state, mixed-fraction}
 use Rattle.promises.specs.Calls as Calls

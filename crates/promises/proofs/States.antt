@@ -49,7 +49,7 @@ use Rattle.promises.proofs.AgeLaws.{order-slots, renewed-is}
 use Rattle.promises.proofs.EachSlot.{never, and-both, held-unreleased}
 use Rattle.promises.specs.Moments.{moment, inFront, stageIn}
 use Rattle.promises.proofs.Moments.{slot-at, part-sounded, part-keeps, passed, done-at}
-use Rattle.promises.proofs.Cuts.{after-window}
+use Rattle.engine.proofs.CutLaws.{after-window}
 use Rattle.promises.proofs.Kept.{layers}
 use Rattle.promises.proofs.Seats.{ordered-lasts, ordered-run, sized-run}
 use Rattle.promises.proofs.Voices.{Lasts, lasts-from-fresh}

@@ -28,7 +28,7 @@ abbrev gives : Event → Cursor → Handed
 gives e c = record { offer = Offer.Given e; cursor = c }
 
 -- what a next hands out of a song
-abbrev Hands : List ℕ → Handed → Song → Type 0
+abbrev pub Hands : List ℕ → Handed → Song → Type 0
 Hands b h (Refused number place) = Unit {0}
 Hands b h (Events []) = h ≡ nothing
 Hands b h (Events (e ∷ es)) = (h .offer ≡ Offer.Given e) × (songFrom (turns b) b (h .cursor) ≡ Events es)
@@ -57,7 +57,7 @@ hands (suc n) b c h = go (λ further. hands n b further) (meetAt b c) refl
         given (eventOf message further) further (songFrom n b further) (song-enough (turns b) n b further (omega arith) (omega arith))
 
 -- a next and the song
-hands-next : (b : List ℕ) (c : Cursor) → Hands b (handedOf b c) (songFrom (turns b) b c)
+pub hands-next : (b : List ℕ) (c : Cursor) → Hands b (handedOf b c) (songFrom (turns b) b c)
 unfolding handedOf
 hands-next b c = hands (turns b) b c (omega (arith, edge-in b c))
 
@@ -75,7 +75,7 @@ after-next b c zero = refl
 after-next b c (suc k) = ap (λ (x : Cursor). handedOf b x .cursor) (after-next b c k)
 
 -- where no event is left none comes
-over-next : (b : List ℕ) → handedOf b over ≡ nothing
+pub over-next : (b : List ℕ) → handedOf b over ≡ nothing
 unfolding handedOf
 over-next b = next-edge b over (min-le-left 0 (length b))
 
@@ -110,7 +110,7 @@ after-opening b zero = refl
 after-opening b (suc k) = ap (λ (x : Cursor). handedOf b x .cursor) (after-opening b k)
 
 -- a song of a file is that of its track
-track-song : (b : List ℕ) (es : List Event) → eventsOf b ≡ Events es → songFrom (turns b) b (trackCursor (headOf b) b) ≡ Events es
+pub track-song : (b : List ℕ) (es : List Event) → eventsOf b ≡ Events es → songFrom (turns b) b (trackCursor (headOf b) b) ≡ Events es
 track-song b es e =
     let t = has-track b es e in
     ap (λ (h : Header). songFrom (turns b) b (trackCursor h b)) (t .head) ∙ sym (events-is b (t .at) (t .end) (t .short) (t .head)) ∙ e
@@ -161,23 +161,23 @@ all-in-range b c e h = subst (λ (o : Offer). Fine o) h (fine (turns b) b c)
 -- ---- frames
 
 -- events at frames that never fall, none below a frame
-Rising : ℕ → List Event → Type 0
+pub Rising : ℕ → List Event → Type 0
 Rising low [] = Unit {0}
 Rising low (e ∷ es) = (low ≤ e .frame) × Rising (e .frame) es
 
 -- a smaller frame does as well
-rising-down : (low high : ℕ) (es : List Event) → low ≤ high → Rising high es → Rising low es
+pub rising-down : (low high : ℕ) (es : List Event) → low ≤ high → Rising high es → Rising low es
 unfolding Rising
 rising-down low high [] h r = tt
 rising-down low high (e ∷ es) h r = (le-trans h (r .0), r .1)
 
 -- the same of a song
-RisingSong : ℕ → Song → Type 0
+pub RisingSong : ℕ → Song → Type 0
 RisingSong low (Refused number place) = Unit {0}
 RisingSong low (Events es) = Rising low es
 
 -- the song from a cursor on rises from the frame of its U
-song-rises : (n : ℕ) (b : List ℕ) (c : Cursor) → RisingSong (frameOf (c .division) (c .sum)) (songFrom n b c)
+pub song-rises : (n : ℕ) (b : List ℕ) (c : Cursor) → RisingSong (frameOf (c .division) (c .sum)) (songFrom n b c)
 unfolding songFrom Rising RisingSong
 song-rises zero b c = tt
 song-rises (suc n) b c = go (λ further. song-rises n b further) (meetAt b c) refl

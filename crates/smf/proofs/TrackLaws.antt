@@ -20,14 +20,14 @@ use Rattle.smf.specs.Quantities.{quantityAt}
 use Rattle.smf.specs.Items.{isShort, itemAt}
 use Rattle.smf.specs.Ticks.{sumAfter, isLate}
 use Rattle.smf.specs.Track.{Song, Events, Refused, edgeOf, carried, eventOf, acted, obeyed, meetAt, behindEvent, songFrom, nextFrom, nothing}
-use Rattle.smf.specs.Songs.{turns}
+use Rattle.smf.specs.Songs.{turns, handedOf}
 use Rattle.smf.proofs.MeetingLaws.{meet-bad}
 use Rattle.smf.proofs.QuantitiesLaws.{quantity-behind, quantity-edge}
 use Rattle.smf.proofs.ItemsLaws.{Placed, item-placed}
 
--- the cursor behind an event: further on, in the same track, with no smaller U, which is not past an hour
+-- the cursor behind an event: two bytes or more further on, in the same track, with no smaller U, which is not past an hour
 pub record Further (b : List ℕ) (c further : Cursor) : Type 0 where
-  pub after : c .at < further .at
+  pub after : c .at + 2 ≤ further .at
   pub before : further .at ≤ edgeOf b c
   pub same-end : further .end ≡ c .end
   pub same-division : further .division ≡ c .division
@@ -244,3 +244,38 @@ module _ (b : List ℕ) (c : Cursor) where
   -- where no byte is left there is none
   pub next-edge : edgeOf b c ≤ c .at → nextFrom (turns b) b c ≡ nothing
   next-edge h = next-out b c (turns b) h
+
+-- the cursor behind what the next look finds leads further too, over all events that give none
+abbrev pub LedTo : List ℕ → Cursor → Cursor → Offer → Type 0
+LedTo b c behind Offer.End = Unit {0}
+LedTo b c behind (Offer.Given event) = Further b c behind
+
+-- over any number of turns
+next-led : (n : ℕ) (b : List ℕ) (c : Cursor) → LedTo b c (nextFrom n b c .cursor) (nextFrom n b c .offer)
+unfolding nextFrom
+next-led zero b c = tt
+next-led (suc n) b c = go (λ further. next-led n b further) (meetAt b c) refl
+  where
+    farther : (further behind : Cursor) (o : Offer) → Further b c further → LedTo b further behind o → LedTo b c behind o
+    farther further behind Offer.End f l = tt
+    farther further behind (Offer.Given event) f l =
+        let same = further-edge b c further f in
+        record {
+          after = omega (arith, f .after, l .after);
+          before = omega (arith, l .before);
+          same-end = l .same-end ∙ f .same-end;
+          same-division = l .same-division ∙ f .same-division;
+          rises = omega (arith, f .rises, l .rises);
+          early = subst (λ (d : ℕ). behind .sum ≤ 3600000000 * d) (f .same-division) (l .early);
+        }
+
+    go : ((further : Cursor) → LedTo b further (nextFrom n b further .cursor) (nextFrom n b further .offer)) → (m : Met) → meetAt b c ≡ m → LedTo b c (nextFrom (suc n) b c .cursor) (nextFrom (suc n) b c .offer)
+    go more (Fault number place) e = rw (look-fault b c n number place e) tt
+    go more End e = rw (look-end b c n e) tt
+    go more (Passed further) e = rw (look-passed b c n further e) (farther further (nextFrom n b further .cursor) (nextFrom n b further .offer) (meet-passed b c further e) (more further))
+    go more (Given message further) e = rw (look-given b c n message further e) (meet-given b c message further e .0)
+
+-- what is handed out leads further
+pub handed-led : (b : List ℕ) (c : Cursor) → LedTo b c (handedOf b c .cursor) (handedOf b c .offer)
+unfolding handedOf
+handed-led b c = next-led (turns b) b c
