@@ -43,8 +43,8 @@ impl Player {
         self.song.is_none()
     }
 
-    /// The file is tested as a whole, and a refused one changes nothing. What sounds is let go as by a stop, each channel
-    /// is as in a fresh engine, and the song begins now.
+    /// The file is tested as a whole, and a refused one changes nothing. What sounds is let go as by a stop, each
+    /// channel is as in a fresh engine, and the song begins now.
     pub fn start(&mut self, tables: &Tables, file: &[u8]) -> Result<(), Fault> {
         midi_file::read(file)?;
         let mut cursor = Cursor::at_start(file)?;

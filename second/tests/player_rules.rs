@@ -1,5 +1,5 @@
-//! The player's rules, each at both sides of its edge: what starts and stops do, which events are due before a frame, what
-//! a render answers, and how the cursor goes on in another file.
+//! The player's rules, each at both sides of its edge: what starts and stops do, which events are due before a frame,
+//! what a render answers, and how the cursor goes on in another file.
 
 mod common;
 
@@ -139,7 +139,7 @@ fn a_refused_start_changes_nothing() {
         assert_eq!(stand.start(), Err(Fault { number, place }));
         assert!(stand.player == before);
         stand.file = song.clone();
-        assert_eq!((stand.play(20), stand.player.over()), ((2, 0), true), "it plays on");
+        assert_eq!((stand.play(20), stand.player.over()), ((2, 2), true), "it plays on, where there is no preset");
     }
 }
 
@@ -215,10 +215,10 @@ fn an_event_acts_before_the_frame_it_is_named_for() {
 
 #[test]
 fn events_of_one_frame_act_in_their_order() {
-    let programs = (0..300).fold(in_frames().then(2, &ON), |piece, n| piece.then(0, &[0xc0, n as u8 % 128]));
+    let programs = (0..300).fold(in_frames().then(2, &ON), |piece, n| piece.then(0, &[0xc0, (n % 128) as u8]));
     let mut stand = Stand::playing(ended(programs));
     assert_eq!((stand.play(2), stand.play(1)), ((0, 0), (301, 0)));
-    assert_eq!(stand.player.engine.channels[0].program, 299 % 128);
+    assert_eq!(stand.player.engine.channels[0].program, 43, "299 modulo 128");
 }
 
 #[test]
@@ -420,8 +420,8 @@ fn keys(keys: &[u8]) -> Vec<u8> {
 
 const FIRST: usize = TRACK + 7;
 
-/// How many more events act where this file is lent before the first acts, and whether the song is then over. The first was
-/// read ahead, and is not counted.
+/// How many more events act where this file is lent before the first acts, and whether the song is then over. The first
+/// was read ahead, and is not counted.
 fn behind_the_first(file: Vec<u8>) -> (u32, bool) {
     let mut stand = Stand::playing(keys(&[60, 61, 62, 63]));
     stand.file = file;

@@ -130,37 +130,39 @@ fn plain_songs(s: &mut Script) {
     }
 }
 
-/// Every kind, key and channel pressure too, on the first channel, on the drums and on the last.
+/// An event of every kind, key and channel pressure too, on channel 0.
+const KINDS: [&[u8]; 19] = [
+    &[0xc0, 1],
+    &[0xb0, 7, 127],
+    &[0x90, 60, 90],
+    &[0xa0, 60, 127],
+    &[0xd0, 127],
+    &[0xe0, 0x7f, 0x7f],
+    &[0xe0, 1, 0x40],
+    &[0xc0, 0],
+    &[0x90, 62, 1],
+    &[0xb0, 11, 40],
+    &[0xb0, 64, 64],
+    &[0x80, 62, 0],
+    &[0x90, 60, 0],
+    &[0xe0, 0, 0],
+    &[0xb0, 64, 63],
+    &[0x90, 64, 127],
+    &[0xb0, 123, 0],
+    &[0x90, 65, 127],
+    &[0xb0, 120, 0],
+];
+
+/// Every kind on the first channel, on the drums and on the last; and strikes on all channels.
 fn kinds_of_events(s: &mut Script) {
     for channel in [0, 9, 15] {
-        let kinds = [
-            vec![0xc0, 1],
-            vec![0xb0, 7, 127],
-            vec![0x90, 60, 90],
-            vec![0xa0, 60, 127],
-            vec![0xd0, 127],
-            vec![0xe0, 0x7f, 0x7f],
-            vec![0xe0, 1, 0x40],
-            vec![0xc0, 0],
-            vec![0x90, 62, 1],
-            vec![0xb0, 11, 40],
-            vec![0xb0, 64, 64],
-            vec![0x80, 62, 0],
-            vec![0x90, 60, 0],
-            vec![0xe0, 0, 0],
-            vec![0xb0, 64, 63],
-            vec![0x90, 64, 127],
-            vec![0xb0, 123, 0],
-            vec![0x90, 65, 127],
-            vec![0xb0, 120, 0],
-        ];
-        let played = kinds.iter().fold(in_frames(), |piece, event| {
+        let played = KINDS.iter().fold(in_frames(), |piece, event| {
             let on_channel = [&[event[0] | channel], &event[1..]].concat();
             piece.then(2, &on_channel)
         });
         begin(s, &format!("player: every kind of event on channel {channel}"), &ended(played));
         s.start();
-        for _ in 0..kinds.len() + 1 {
+        for _ in 0..KINDS.len() + 1 {
             s.play(2);
         }
         s.over();
@@ -176,7 +178,7 @@ fn kinds_of_events(s: &mut Script) {
     s.over();
 }
 
-/// A status that runs over several kinds and is ended by meta and system exclusive events, which have no frame to wait for.
+/// A status that runs over several kinds, and is ended by meta and system exclusive events.
 fn running_status(s: &mut Script) {
     let played = in_frames()
         .then(1, &on(60))
@@ -239,7 +241,7 @@ fn many_on_one_frame(s: &mut Script) {
 fn edges_of_renders(s: &mut Script) {
     for n in [1, 2, 7, 64] {
         let last = in_frames().then(0, &on(60)).then(n - 1, &on(62)).then(1, &on(64)).then(1, &off(60));
-        begin(s, &format!("player: edges of a render of {n} frames"), &ended(last));
+        begin(s, &format!("player: edges of a render, {n} long"), &ended(last));
         s.start();
         s.play(0);
         s.play_into(n, 2 * n + 5);
@@ -597,7 +599,7 @@ fn direct_calls(s: &mut Script) {
 /// The engine's own render moves the clock to an event, past one, past all: they act before the player's next frame.
 fn missed_events(s: &mut Script) {
     for n in [1, 2, 3, 6, 7, 10, 11, 14, 15, 40] {
-        begin(s, &format!("player: the engine renders {n} frames by itself"), &ended(two_bells()));
+        begin(s, &format!("player: the engine's own render, {n} long"), &ended(two_bells()));
         s.start();
         s.go(n);
         s.over();

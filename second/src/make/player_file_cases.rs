@@ -19,8 +19,8 @@ pub fn write(s: &mut Script) {
     longest_files(s);
 }
 
-/// Strikes of these keys, each four frames behind the one before it and four bytes long: the first is in bytes 29 to 32 of
-/// the file, and the end of track in the four behind the last.
+/// Strikes of these keys, each four frames behind the one before it and four bytes long: the first is in bytes 29 to 32
+/// of the file, and the end of track in the four behind the last.
 fn strikes(keys: &[u8]) -> Vec<u8> {
     ended(keys.iter().fold(in_frames(), |piece, key| piece.then(4, &[0x90, *key, 100])))
 }
@@ -44,8 +44,8 @@ fn with(place: usize, bytes: &[u8]) -> Vec<u8> {
     file
 }
 
-/// The four strikes start; behind the first one another file is lent, and the player renders on to where all would be over.
-/// The second was read ahead, and acts.
+/// The four strikes start; behind the first one another file is lent, and the player renders on to where all would be
+/// over. The second was read ahead, and acts.
 fn lent_behind_the_first(s: &mut Script, file: &[u8]) {
     s.start();
     s.play(5);
@@ -190,8 +190,8 @@ fn other_heads(s: &mut Script) {
     lent(s, "a byte more in front of the track", &moved);
 }
 
-/// U at its limit in the file that is lent, and one above, for a strike, a text and the end of track. The next strike is
-/// an hour away where it is not too late. The song has a division of 1, and so 7,200 ticks of 500,000.
+/// U at its limit in the file that is lent, and one above, for a strike and for a text in front of one. Where it is not
+/// too late the next strike is an hour away. The song has a division of 1, and so 7,200 ticks of 500,000.
 fn too_late(s: &mut Script) {
     let song = |delta: u32, last: &[u8]| {
         let front = Piece::default().then(0, &tempo(500_000)).then(0, &NOTE).then(0, &[0x90, 62, 64]);
