@@ -131,12 +131,13 @@ fn plain_songs(s: &mut Script) {
 }
 
 /// An event of every kind, key and channel pressure too, on channel 0.
-const KINDS: [&[u8]; 19] = [
+const KINDS: [&[u8]; 20] = [
     &[0xc0, 1],
     &[0xb0, 7, 127],
     &[0x90, 60, 90],
     &[0xa0, 60, 127],
     &[0xd0, 127],
+    &[0x90, 61, 80],
     &[0xe0, 0x7f, 0x7f],
     &[0xe0, 1, 0x40],
     &[0xc0, 0],
