@@ -1,0 +1,2 @@
+pub mod ChunksLaws
+pub mod FormLaws
