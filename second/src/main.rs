@@ -1,7 +1,8 @@
 //! The second program's commands: play a case, record one, read songs, damage songs, write and read waves, make waves by
-//! chance, make the stored cases and their traces, make cases of real files, make the carillon and its piece.
+//! chance, find the parts of fonts, make the stored cases and their traces, make cases of real files, make the carillon
+//! and its piece.
 
-use second::{bells, case, make, real, record, songs, waves};
+use second::{bells, case, fonts, make, real, record, songs, waves};
 use std::fs;
 use std::io::{self, BufReader, BufWriter, Write};
 use std::path::Path;
@@ -11,6 +12,7 @@ const USAGE: &str = "usage: second play < CASE > TRACE
        second record < CASE > FILE.wav
        second songs < FILES > LINES
        second waves < COMMANDS > LINES
+       second fonts < FILES > LINES
        second damage SEED COUNT [FILE.mid ..] > FILES
        second noise SEED COUNT > COMMANDS
        second make DIR
@@ -30,6 +32,7 @@ fn main() -> ExitCode {
         ["record"] => return recorded(),
         ["songs"] => songs::play(BufReader::new(io::stdin().lock()), BufWriter::new(io::stdout().lock())),
         ["waves"] => waves::play(BufReader::new(io::stdin().lock()), BufWriter::new(io::stdout().lock())),
+        ["fonts"] => fonts::play(BufReader::new(io::stdin().lock()), BufWriter::new(io::stdout().lock())),
         ["damage", seed, count, files @ ..] => damaged_songs(seed, count, files),
         ["noise", seed, count] => noise(seed, count),
         ["make", directory] => make::write_all(Path::new(directory)),

@@ -10,7 +10,7 @@ pub fn play(input: impl Read, output: impl Write) -> io::Result<()> {
 }
 
 /// The next file, nothing at the end of the input. The length's first byte is where the input may end.
-fn next_file<R: Read>(commands: &mut Commands<R>) -> Result<Option<Vec<u8>>, Stop> {
+pub(crate) fn next_file<R: Read>(commands: &mut Commands<R>) -> Result<Option<Vec<u8>>, Stop> {
     let Some(low) = commands.letter()? else { return Ok(None) };
     let length = u32::from_le_bytes([low, commands.byte()?, commands.byte()?, commands.byte()?]);
     if length > SONG_ROOM {

@@ -87,6 +87,22 @@
 //! - what is written is read and written again: wave_read_cases::what_was_written
 //! - numbers, files and rooms by chance: wave_chance
 //! - inputs that are themselves damaged: wave_streams
+//!
+//! What the fonts must reach:
+//!
+//! - beginnings cut off at every byte and with each letter wrong, sizes of the form around what the file has, bytes behind
+//!   the form: font_cases (beginnings, sizes_of_forms, behind_the_form)
+//! - heads cut off at every byte, chunks and lists past the end of what holds them and just not, lists with no room for
+//!   their type, in the form, in the data list and in lists that are not walked: font_cases (chunks_cut_off,
+//!   sizes_of_chunks, sizes_of_lists, what_is_not_walked)
+//! - odd sizes with and without a pad byte, at the end of what holds them and not: font_cases::pad_bytes
+//! - parts in every order, other chunks and lists in every place, the right names in wrong places, several of a kind:
+//!   font_cases (orders, others_stepped_over, names_in_other_places, several_of_a_kind)
+//! - each part missing, and several faults together: font_cases (missing_parts, several_faults)
+//! - parts of no byte and of more than 65,536: font_cases::sizes_of_parts
+//! - a font cut off at every byte and changed at every byte: font_cases (cut_at_every_byte, one_byte_off); by chance:
+//!   font_chance
+//! - inputs that are themselves damaged: font_streams
 
 mod admission;
 pub mod bad_cases;
@@ -96,6 +112,10 @@ pub mod chance_cases;
 mod count_cases;
 mod drawn;
 mod fault_cases;
+pub mod font_builder;
+mod font_cases;
+pub mod font_chance;
+pub mod font_streams;
 mod gain_cases;
 mod key_cases;
 mod layer_cases;
@@ -126,13 +146,13 @@ mod wave_read_cases;
 pub mod wave_streams;
 mod wave_write_cases;
 
-use crate::{case, record, songs, waves};
+use crate::{case, fonts, record, songs, waves};
 use script::Script;
 use std::fs;
 use std::io;
 use std::path::Path;
 
-/// Writes drive/, record/, songs/, waves/, numbers/ and the examples of promises/ and voice/ into the directory.
+/// Writes drive/, record/, songs/, waves/, fonts/, numbers/ and the examples of promises/ and voice/ into the directory.
 pub fn write_all(directory: &Path) -> io::Result<()> {
     let damaged = [bad_cases::all(case::MEMORY_ROOM), bad_cases::of_player()].concat();
     write_program(&directory.join("drive"), |case, trace| case::play(case, trace), &all_cases().bytes, damaged)?;
@@ -153,6 +173,12 @@ pub fn write_all(directory: &Path) -> io::Result<()> {
         |commands, lines| waves::play(commands, lines),
         &wave_streams::stream(),
         wave_streams::damaged(),
+    )?;
+    write_program(
+        &directory.join("fonts"),
+        |files, lines| fonts::play(files, lines),
+        &font_streams::stream(),
+        font_streams::damaged(),
     )?;
     let numbers = number_lines::lines();
     write_file(&directory.join("numbers/stdout"), numbers.as_bytes())?;
