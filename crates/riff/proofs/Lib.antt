@@ -1,2 +1,4 @@
 pub mod ChunksLaws
 pub mod FormLaws
+pub mod WalkLaws
+pub mod FaultsLaws

@@ -1,2 +1,4 @@
 pub mod Chunks
 pub mod Form
+pub mod Faults
+pub mod Places
