@@ -56,7 +56,7 @@ same-first one two f g = omega (arith, f .first two (g .stands), g .first one (f
 
 -- the numbers and places in their order
 pub order : (n m p q : ℕ) → n ≤ m → (n ≡ m → p ≤ q) → (n < m) ⊎ ((n ≡ m) × (p ≤ q))
-order n m p q h k = ChunksLaws.by-test (eqb n m) (λ e. inr (eqb-true _ _ e, k (eqb-true _ _ e))) (λ e. inl (omega (arith, h, eqb-false _ _ e)))
+order n m p q h k = ChunksLaws.by-test (eqb n m) (λ e. inr (eqb-true _ _ e, k (eqb-true _ _ e))) (λ e. inl (omega (arith, h, eqb-false n m e)))
 
 module _ (b : List ℕ) (good : Good b) where
   -- the form has room for its type
@@ -170,3 +170,169 @@ from-41 b n p e f (in-data l q g m j) = omega arith
 from-41 b n p e f (no-bank g h) = omega arith
 from-41 b n p e f (no-data g h) = omega arith
 from-41 b n p e f (no-samples l g m h) = omega arith
+
+-- ---- what becomes of a file
+
+module _ (b : List ℕ) (good : Good b) where
+  -- the form, with a span for its sdta list
+  pub found-by : (s : Span) → dataSpan b (endOf b 0) ≡ s → findOf b ≡ foundIn b (endOf b 0) s
+  unfolding chunkEnd sizeAt
+  found-by s e =
+      FormLaws.find-form b (good .riff) (good .font) (good .formed .typed) (good .formed .body-in) ∙ ap (λ (x : Span). foundIn b (endOf b 0) x) e
+
+  -- there is no sdta list
+  pub without-data : dataAt b (endOf b 0) ≡ endOf b 0 → Outcome b
+  unfolding dataAt samplesAt
+  without-data e =
+      let end = endOf b 0 in
+      let s : Span = record { from = endOf b 0; end = endOf b 0 } in
+      let none : NoneOf b (endOf b 0) 12 (IsList b dataType) = WalkLaws.found-none b end listName dataType 12 (IsList b dataType) (WalkLaws.list-to b dataType) (WalkLaws.list-of b dataType) e in
+      let past = ChunksLaws.past-not-whole b end end (omega arith) in
+      let inner = ChunksLaws.stop-done b end end past in
+      let is = found-by s (FormLaws.span-none b end e) in
+      ChunksLaws.by-test (eqb (stopAt b end 12) end)
+      (λ o. let outer = eqb-true _ _ o in
+      dataless good (record { form = WalkLaws.end-unbroken b end 12 (form-long b good) outer; data-list = λ d at f k. none d (f .stands) }) none
+      (is ∙ FormLaws.in-silent b end s inner outer (ChunksLaws.first-none b end end samplesName 0 past)))
+      (λ o. let n = eqb-false (stopAt b end 12) end o in
+      broken-form good (λ d at f k. none d (f .stands)) (stopAt b end 12) (WalkLaws.stop-broken b end 12 (form-long b good) n)
+      (is ∙ FormLaws.in-form-broken b end s inner n))
+
+  module _ (d : ℕ) (at-d : dataAt b (endOf b 0) ≡ d) (some : dataAt b (endOf b 0) ≡ endOf b 0 → ⊥) (f : Data b d) where
+    -- the span of the sdta list
+    pub span-is : dataSpan b (endOf b 0) ≡ record { from = d + 12; end = endOf b d }
+    unfolding chunkEnd sizeAt
+    span-is = rw at-d at (FormLaws.span-some b (endOf b 0) some)
+
+    -- each chunk is whole
+    pub parts-of : Sound b → stopAt b (endOf b d) (d + 12) ≡ endOf b d → stopAt b (endOf b 0) 12 ≡ endOf b 0 → Outcome b
+    unfolding samplesAt bankAt
+    parts-of sound inner outer =
+        let end = endOf b 0 in
+        let edge = endOf b d in
+        let s : Span = record { from = d + 12; end = endOf b d } in
+        let is = found-by s span-is in
+        let p = firstAt b edge samplesName 0 (d + 12) in
+        let q = firstAt b end listName bankType 12 in
+        ChunksLaws.by-test (eqb p edge)
+        (λ o. let n = eqb-true p edge o in
+        silent good sound d f (WalkLaws.found-none b edge samplesName 0 (d + 12) (IsSamples b) (WalkLaws.samples-to b) (WalkLaws.samples-of b) n)
+        (is ∙ FormLaws.in-silent b end s inner outer n))
+        (λ o. let n = eqb-false p edge o in
+        let g = WalkLaws.found-first b edge samplesName 0 (d + 12) (IsSamples b) (WalkLaws.samples-to b) (WalkLaws.samples-of b) n in
+        ChunksLaws.by-test (eqb q end)
+        (λ u. let m = eqb-true q end u in
+        bankless good sound d p f g (WalkLaws.found-none b end listName bankType 12 (IsList b bankType) (WalkLaws.list-to b bankType) (WalkLaws.list-of b bankType) m)
+        (is ∙ FormLaws.in-bankless b end s inner outer n m))
+        (λ u. let m = eqb-false q end u in
+        found good sound d p q f g (WalkLaws.found-first b end listName bankType 12 (IsList b bankType) (WalkLaws.list-to b bankType) (WalkLaws.list-of b bankType) m)
+        (is ∙ FormLaws.in-found b end s inner outer n m)))
+
+    -- there is an sdta list
+    pub with-data : Outcome b
+    with-data =
+        let end = endOf b 0 in
+        let edge = endOf b d in
+        let s : Span = record { from = d + 12; end = endOf b d } in
+        let is = found-by s span-is in
+        let room = list-in b good dataType d f .0 in
+        ChunksLaws.by-test (eqb (stopAt b edge (d + 12)) edge)
+        (λ i. let inner = eqb-true (stopAt b edge (d + 12)) edge i in
+        let fine : ((l at : ℕ) → Data b l → Broken b (endOf b l) (l + 12) at → ⊥) = λ l at m k. let e = same-first l d m f in WalkLaws.end-unbroken b edge (d + 12) room inner at (rw e at k) in
+        ChunksLaws.by-test (eqb (stopAt b end 12) end)
+        (λ o. let outer = eqb-true (stopAt b end 12) end o in
+        parts-of (record { form = WalkLaws.end-unbroken b end 12 (form-long b good) outer; data-list = fine }) inner outer)
+        (λ o. let n = eqb-false (stopAt b end 12) end o in
+        broken-form good fine (stopAt b end 12) (WalkLaws.stop-broken b end 12 (form-long b good) n) (is ∙ FormLaws.in-form-broken b end s inner n)))
+        (λ i. let n = eqb-false (stopAt b edge (d + 12)) edge i in
+        broken-data good d (stopAt b edge (d + 12)) f (WalkLaws.stop-broken b edge (d + 12) room n) (is ∙ FormLaws.in-broken b end s n))
+
+  -- a good form
+  pub in-good : Outcome b
+  unfolding dataAt
+  in-good =
+      let end = endOf b 0 in
+      ChunksLaws.by-test (eqb (dataAt b end) end) (λ e. without-data (eqb-true _ _ e))
+      (λ e. let n = eqb-false (dataAt b end) end e in
+      with-data (dataAt b end) refl n (WalkLaws.found-first b end listName dataType 12 (IsList b dataType) (WalkLaws.list-to b dataType) (WalkLaws.list-of b dataType) n))
+
+-- the right name and type
+pub named-outcome : (b : List ℕ) → u32At b 0 ≡ riffName → u32At b 8 ≡ fontType → Outcome b
+unfolding chunkEnd sizeAt
+named-outcome b e f =
+    ChunksLaws.by-test (leb 4 (u32At b 4))
+    (λ h. let typed = leb-true _ _ h in
+    ChunksLaws.by-test (leb (endOf b 0) (length b)) (λ k. in-good b (record { riff = e; font = f; formed = record { body-in = leb-true _ _ k; typed = typed } }))
+    (λ k. let past = leb-false (endOf b 0) (length b) k in
+    unformed e f (λ g. omega (arith, past, g .body-in)) (FormLaws.find-long b e f typed past)))
+    (λ h. let short = leb-false 4 (u32At b 4) h in unformed e f (λ g. omega (arith, short, g .typed)) (FormLaws.find-untyped b e f short))
+
+-- every file
+pub outcome : (b : List ℕ) → Outcome b
+outcome b =
+    ChunksLaws.by-test (eqb (u32At b 0) riffName)
+    (λ h. let e = eqb-true (u32At b 0) riffName h in
+    ChunksLaws.by-test (eqb (u32At b 8) fontType) (λ k. named-outcome b e (eqb-true (u32At b 8) fontType k))
+    (λ k. let n = eqb-false (u32At b 8) fontType k in other-type e n (FormLaws.find-other-type b e n)))
+    (λ h. let n = eqb-false (u32At b 0) riffName h in other n (FormLaws.find-other b n))
+
+-- ---- the first fault
+
+-- what is refused by a number and a place
+pub by : {b : List ℕ} {n p : ℕ} → findOf b ≡ refusedBy n p → First b n p → First b (findOf b .number) (findOf b .place)
+unfolding refusedBy
+by e f = rw e f
+
+pub refused-first : RefusedFirst
+refused-first b h = go (outcome b)
+  where
+    go : Outcome b → First b (findOf b .number) (findOf b .place)
+    go (other n e) =
+        by e (record { wrong = no-riff n; before = λ m p w. order 40 m 0 p (from-40 b m p w) (λ z. omega arith) })
+    go (other-type r n e) = by e (record { wrong = no-font n; before = λ m p w. type-first b m p r w })
+    go (unformed r f n e) =
+        by e (record { wrong = no-form n; before = λ m p w. order 41 m 0 p (from-41 b m p r f w) (λ z. omega arith) })
+    go (broken-data g d at f k e) =
+        by e (record { wrong = in-data d at (g .formed) f k; before = λ m p w. data-first b g d at m p f k w })
+    go (broken-form g s at k e) =
+        by e (record { wrong = in-form at (g .formed) k; before = λ m p w. form-first b g at m p s k w })
+    go (silent g s d f n e) =
+        by e (record { wrong = no-samples d (g .formed) f n; before = λ m p w. silent-first b g d m p s f w })
+    go (dataless g s n e) =
+        by e (record { wrong = no-data (g .formed) n; before = λ m p w. missing-first b g m p s (λ d f t. n d (f .stands)) w })
+    go (bankless g s d k f i n e) =
+        by e (record { wrong = no-bank (g .formed) n; before = λ m p w. missing-first b g m p s (not-silent b g d k f i) w })
+    go (found g s d k q f i j e) = absurd (h (ap (λ (x : Found). x .number) e))
+
+pub found-not-wrong : FoundNotWrong
+unfolding refusedBy
+found-not-wrong b n p z w = go (outcome b)
+  where
+    no : (m q : ℕ) → 40 ≤ m → findOf b ≡ refusedBy m q → ⊥
+    no m q h e = omega (arith, z, ap (λ (x : Found). x .number) e)
+
+    go : Outcome b → ⊥
+    go (other n e) = no 40 0 (omega arith) e
+    go (other-type r n e) = no 40 8 (omega arith) e
+    go (unformed r f n e) = no 41 0 (omega arith) e
+    go (broken-data g d at f k e) = no 41 at (omega arith) e
+    go (broken-form g s at k e) = no 41 at (omega arith) e
+    go (silent g s d f n e) = no 42 (endOf b d) (omega arith) e
+    go (dataless g s n e) = no 42 (endOf b 0) (omega arith) e
+    go (bankless g s d k f i n e) = no 42 (endOf b 0) (omega arith) e
+    go (found g s d k q f i j e) = found-fine b g d k q n p s f i j w
+
+pub not-wrong-found : NotWrongFound
+not-wrong-found b h =
+    ChunksLaws.by-test (eqb (findOf b .number) 0) (λ e. eqb-true _ _ e)
+    (λ e. absurd (h _ _ (refused-first b (eqb-false (findOf b .number) 0 e) .wrong)))
+
+pub first-refused : FirstRefused
+first-refused b n p f =
+    let k = refused-first b (λ z. found-not-wrong b n p z (f .wrong)) in
+    ⊎-elim (λ l. absurd (other-way (f .before _ _ (k .wrong)) l)) (λ e. ⊎-elim (λ l. absurd (omega (arith, e .0, l))) (λ g. (e .0, omega (arith, e .1, g .1))) (f .before _ _ (k .wrong)))
+    (k .before n p (f .wrong))
+  where
+    other-way : {m q : ℕ} → (n < m) ⊎ ((n ≡ m) × (p ≤ q)) → m < n → ⊥
+    other-way (inl l) h = omega (arith, l, h)
+    other-way (inr e) h = omega (arith, e .0, h)

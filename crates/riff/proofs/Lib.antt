@@ -2,3 +2,4 @@ pub mod ChunksLaws
 pub mod FormLaws
 pub mod WalkLaws
 pub mod FaultsLaws
+pub mod PlacesLaws
