@@ -25,7 +25,7 @@ pub record Good (b : List ℕ) : Type 0 where
   pub formed : Formed b
 
 -- the first sdta list
-abbrev Data : List ℕ → ℕ → Type 0
+abbrev pub Data : List ℕ → ℕ → Type 0
 Data b d = FirstOf b (endOf b 0) 12 (IsList b dataType) d
 
 -- each chunk that is walked is whole
