@@ -3,3 +3,4 @@ pub mod FormLaws
 pub mod WalkLaws
 pub mod FaultsLaws
 pub mod PlacesLaws
+pub mod WrittenLaws
