@@ -4,3 +4,4 @@ pub mod WalkLaws
 pub mod FaultsLaws
 pub mod PlacesLaws
 pub mod WrittenLaws
+pub mod Examples
