@@ -77,11 +77,11 @@ pub fn stop(b: &[u8], end: usize, from: usize) -> usize
     requires { ⌜ (from ≤ end) × (end ≤ 4294967303) ⌝ }
     ensures { λ r. ⌜ r ≡ stopAt (now (b .entry)) end from ⌝ }
 {
-    let mut at = from;
-    while is_whole(b, end, at) {
-        at = next_at(b, end, at);
+    let mut place = from;
+    while is_whole(b, end, place) {
+        place = next_at(b, end, place);
     }
-    at
+    place
 }
 
 // The first chunk of a name and a type; the end where there is none.

@@ -9,10 +9,10 @@ use Rattle.riff.proofs.chunks.stop.Statement.{statement}
 use Rattle.riff.proofs.chunks.stop.Tie as tie
 
 abbrev Inv-loop : tie.InvT-loop
-Inv-loop b end from at₀ at = (stopAt b end from ≡ stopAt b end at) × (at ≤ end)
+Inv-loop b end from place₀ place = (stopAt b end from ≡ stopAt b end place) × (place ≤ end)
 
 abbrev μ-loop : tie.MeasureT-loop
-μ-loop b end from at₀ at = end - at
+μ-loop b end from place₀ place = end - place
 
 loop-holds : tie.Need-loop-holds Inv-loop μ-loop
 loop-holds c = (refl, c .before .pre .0)
@@ -29,7 +29,7 @@ loop-less c =
     let l = k .before in
     let a = l .before .before .args in
     let whole = sym (k .is-whole .ensures) ∙ c .before .if1 .taken in
-    omega (arith, c .next-at .ensures, next-in (a .b .now) (a .end) (l .loop .at) whole)
+    omega (arith, c .next-at .ensures, next-in (a .b .now) (a .end) (l .loop .place) whole)
 
 loop-again : tie.Need-loop-again Inv-loop μ-loop
 loop-again c =
@@ -37,13 +37,13 @@ loop-again c =
     let l = k .before in
     let a = l .before .before .args in
     let whole = sym (k .is-whole .ensures) ∙ c .before .if1 .taken in
-    rw (c .next-at .ensures) (l .loop .inv .0 ∙ stop-further (a .b .now) (a .end) (l .loop .at) whole, next-in (a .b .now) (a .end) (l .loop .at) whole .1)
+    rw (c .next-at .ensures) (l .loop .inv .0 ∙ stop-further (a .b .now) (a .end) (l .loop .place) whole, next-in (a .b .now) (a .end) (l .loop .place) whole .1)
 
 returns : tie.Need-returns Inv-loop μ-loop
 returns c =
     let l = c .before .before in
     let a = l .before .before .args in
-    sym (l .loop .inv .0 ∙ stop-done (a .b .now) (a .end) (l .loop .at) (sym (c .before .is-whole .ensures) ∙ c .if1 .left))
+    sym (l .loop .inv .0 ∙ stop-done (a .b .now) (a .end) (l .loop .place) (sym (c .before .is-whole .ensures) ∙ c .if1 .left))
 
 pub stop-spec : {M : Type 1} → statement M
 stop-spec =
