@@ -59,7 +59,7 @@ pub fn body(length: usize) -> Vec<u8> {
     (0..length).map(|n| (n * 7 + 128) as u8 | 0x80).collect()
 }
 
-/// A small file that is right, of 110 bytes.
+/// A small file that is right.
 pub fn font() -> Vec<u8> {
     form(&[info(), data(6), bank(10)])
 }
