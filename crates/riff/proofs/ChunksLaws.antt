@@ -7,7 +7,7 @@ use native.Mathlib.Omega.{arith}
 use borrow.Author.Tests.{leb-true, lt-leb, eqb-true, eq-eqb}
 use lib.Dec.{eqb, leb}
 use Rattle.arith.specs.Bytes.{u32At}
-use Rattle.riff.specs.Chunks.{listName, typeAt, sizeAt, chunkEnd, leastSize, isWhole, isNamed, nextAt, stopFrom, firstFrom, stopAt, firstAt}
+use Rattle.riff.specs.Chunks.{listName, typeAt, sizeAt, bodyEnd, leastSize, isWhole, isNamed, nextAt, stopFrom, firstFrom, stopAt, firstAt}
 
 -- both tests of a conjunction
 pub both : (p q : Bool) → p && q ≡ true → (p ≡ true) × (q ≡ true)
@@ -20,22 +20,22 @@ both false q e = absurd (never e)
 module _ (b : List ℕ) (end at : ℕ) where
   -- a whole chunk lies in front of the end
   pub whole-in : isWhole b end at ≡ true → at + 8 + sizeAt b at ≤ end
-  unfolding isWhole chunkEnd
+  unfolding isWhole
   whole-in h = leb-true _ _ (both (leb (at + 8 + sizeAt b at) end) (leb (leastSize b at) (sizeAt b at)) h .0)
 
   -- .. and has its least size
   pub whole-least : isWhole b end at ≡ true → leastSize b at ≤ sizeAt b at
-  unfolding isWhole chunkEnd
+  unfolding isWhole
   whole-least h = leb-true _ _ (both (leb (at + 8 + sizeAt b at) end) (leb (leastSize b at) (sizeAt b at)) h .1)
 
   -- the next chunk begins behind it, and not behind the end
   pub next-in : isWhole b end at ≡ true → (at + 8 ≤ nextAt b end at) × (nextAt b end at ≤ end)
-  unfolding nextAt chunkEnd
+  unfolding nextAt
   next-in h = (omega (arith, whole-in h), omega arith)
 
   -- no chunk is whole at the end or behind it
   pub past-not-whole : end ≤ at → isWhole b end at ≡ false
-  unfolding isWhole chunkEnd
+  unfolding isWhole
   past-not-whole h = rw (lt-leb (at + 8 + sizeAt b at) end (omega arith)) refl
 
   -- a turn of the walk

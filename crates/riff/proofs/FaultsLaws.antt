@@ -11,9 +11,9 @@ use lib.ListN.{length}
 use Rattle.arith.specs.Bytes.{u32At}
 use Rattle.riff.specs.declared.Found.{Found}
 use Rattle.riff.specs.declared.form.Span.{Span}
-use Rattle.riff.specs.Chunks.{listName, sizeAt, chunkEnd, stopAt, firstAt}
+use Rattle.riff.specs.Chunks.{listName, sizeAt, bodyEnd, stopAt, firstAt}
 use Rattle.riff.specs.Form.{riffName, fontType, bankType, dataType, samplesName, refusedBy, listBody, chunkBody, bankAt, dataAt, dataSpan, samplesAt, foundIn, findOf}
-use Rattle.riff.specs.Faults.{endOf, Whole, Broken, Stands, FirstOf, NoneOf, IsList, IsSamples, Formed, Wrong, no-riff, no-font, no-form, in-form, in-data, no-bank, no-data, no-samples, First, RefusedFirst, FirstRefused, FoundNotWrong, NotWrongFound}
+use Rattle.riff.specs.Faults.{WholeChunk, Broken, Stands, FirstOf, NoneOf, IsList, IsSamples, Formed, Amiss, no-riff, no-font, no-form, in-form, in-data, no-bank, no-data, no-samples, FirstFault, RefusalIsFirst, FirstIsRefused, FoundNotAmiss, NotAmissFound}
 use Rattle.riff.proofs.ChunksLaws
 use Rattle.riff.proofs.FormLaws
 use Rattle.riff.proofs.WalkLaws
@@ -26,28 +26,28 @@ pub record Good (b : List ℕ) : Type 0 where
 
 -- the first sdta list
 abbrev pub Data : List ℕ → ℕ → Type 0
-Data b d = FirstOf b (endOf b 0) 12 (IsList b dataType) d
+Data b d = FirstOf b (bodyEnd b 0) 12 (IsList b dataType) d
 
 -- each chunk that is walked is whole
 pub record Sound (b : List ℕ) : Type 0 where
-  pub form : (at : ℕ) → Broken b (endOf b 0) 12 at → ⊥
-  pub data-list : (d at : ℕ) → Data b d → Broken b (endOf b d) (d + 12) at → ⊥
+  pub form : (at : ℕ) → Broken b (bodyEnd b 0) 12 at → ⊥
+  pub data-list : (d at : ℕ) → Data b d → Broken b (bodyEnd b d) (d + 12) at → ⊥
 
 -- what became of a file, and why
 pub data Outcome (b : List ℕ) : Type 0 where
   other : (u32At b 0 ≡ riffName → ⊥) → findOf b ≡ refusedBy 40 0 → Outcome b
   other-type : u32At b 0 ≡ riffName → (u32At b 8 ≡ fontType → ⊥) → findOf b ≡ refusedBy 40 8 → Outcome b
   unformed : u32At b 0 ≡ riffName → u32At b 8 ≡ fontType → (Formed b → ⊥) → findOf b ≡ refusedBy 41 0 → Outcome b
-  broken-data : Good b → (d at : ℕ) → Data b d → Broken b (endOf b d) (d + 12) at → findOf b ≡ refusedBy 41 at → Outcome b
+  broken-data : Good b → (d at : ℕ) → Data b d → Broken b (bodyEnd b d) (d + 12) at → findOf b ≡ refusedBy 41 at → Outcome b
   broken-form :
-      Good b → ((d at : ℕ) → Data b d → Broken b (endOf b d) (d + 12) at → ⊥) → (at : ℕ) → Broken b (endOf b 0) 12 at → findOf b ≡ refusedBy 41 at → Outcome b
-  silent : Good b → Sound b → (d : ℕ) → Data b d → NoneOf b (endOf b d) (d + 12) (IsSamples b) → findOf b ≡ refusedBy 42 (endOf b d) → Outcome b
-  dataless : Good b → Sound b → NoneOf b (endOf b 0) 12 (IsList b dataType) → findOf b ≡ refusedBy 42 (endOf b 0) → Outcome b
+      Good b → ((d at : ℕ) → Data b d → Broken b (bodyEnd b d) (d + 12) at → ⊥) → (at : ℕ) → Broken b (bodyEnd b 0) 12 at → findOf b ≡ refusedBy 41 at → Outcome b
+  silent : Good b → Sound b → (d : ℕ) → Data b d → NoneOf b (bodyEnd b d) (d + 12) (IsSamples b) → findOf b ≡ refusedBy 42 (bodyEnd b d) → Outcome b
+  dataless : Good b → Sound b → NoneOf b (bodyEnd b 0) 12 (IsList b dataType) → findOf b ≡ refusedBy 42 (bodyEnd b 0) → Outcome b
   bankless :
-      Good b → Sound b → (d s : ℕ) → Data b d → FirstOf b (endOf b d) (d + 12) (IsSamples b) s → NoneOf b (endOf b 0) 12 (IsList b bankType)
-      → findOf b ≡ refusedBy 42 (endOf b 0) → Outcome b
+      Good b → Sound b → (d s : ℕ) → Data b d → FirstOf b (bodyEnd b d) (d + 12) (IsSamples b) s → NoneOf b (bodyEnd b 0) 12 (IsList b bankType)
+      → findOf b ≡ refusedBy 42 (bodyEnd b 0) → Outcome b
   found :
-      Good b → Sound b → (d s p : ℕ) → Data b d → FirstOf b (endOf b d) (d + 12) (IsSamples b) s → FirstOf b (endOf b 0) 12 (IsList b bankType) p
+      Good b → Sound b → (d s p : ℕ) → Data b d → FirstOf b (bodyEnd b d) (d + 12) (IsSamples b) s → FirstOf b (bodyEnd b 0) 12 (IsList b bankType) p
       → findOf b ≡ record { number = 0; place = 0; bank = listBody b p; samples = chunkBody b s } → Outcome b
 
 -- there is one first of a kind
@@ -60,27 +60,27 @@ order n m p q h k = ChunksLaws.by-test (eqb n m) (λ e. inr (eqb-true _ _ e, k (
 
 module _ (b : List ℕ) (good : Good b) where
   -- the form has room for its type
-  pub form-long : 12 ≤ endOf b 0
+  pub form-long : 12 ≤ bodyEnd b 0
   form-long = omega (arith, good .formed .typed)
 
   -- a list of the form has room for its type and ends in the form
-  pub list-in : (kind d : ℕ) → FirstOf b (endOf b 0) 12 (IsList b kind) d → (d + 12 ≤ endOf b d) × (endOf b d ≤ endOf b 0)
+  pub list-in : (kind d : ℕ) → FirstOf b (bodyEnd b 0) 12 (IsList b kind) d → (d + 12 ≤ bodyEnd b d) × (bodyEnd b d ≤ bodyEnd b 0)
   list-in kind d f = (omega (arith, f .stands .whole .typed (f .stands .is .0)), f .stands .whole .body-in)
 
   -- what is wrong beside a list with a broken chunk is not in front of that
-  pub data-first : (d at n p : ℕ) → Data b d → Broken b (endOf b d) (d + 12) at → Wrong b n p → (41 < n) ⊎ ((41 ≡ n) × (at ≤ p))
+  pub data-first : (d at n p : ℕ) → Data b d → Broken b (bodyEnd b d) (d + 12) at → Amiss b n p → (41 < n) ⊎ ((41 ≡ n) × (at ≤ p))
   data-first d at n p f k (no-riff h) = absurd (h (good .riff))
   data-first d at n p f k (no-font h) = absurd (h (good .font))
   data-first d at n p f k (no-form h) = absurd (h (good .formed))
   data-first d at n p f k (in-form q g j) =
-      let e = WalkLaws.broken-stop b (endOf b 0) 12 form-long q j in
-      let i = WalkLaws.stop-behind b (endOf b 0) 12 d (f .stands .reached) (f .stands .whole) in
+      let e = WalkLaws.broken-stop b (bodyEnd b 0) 12 form-long q j in
+      let i = WalkLaws.stop-behind b (bodyEnd b 0) 12 d (f .stands .reached) (f .stands .whole) in
       inr (refl, omega (arith, e, i, k .more))
   data-first d at n p f k (in-data l q g m j) =
       let e = same-first l d m f in
       let i = list-in dataType d f .0 in
-      let one = WalkLaws.broken-stop b (endOf b d) (d + 12) i at k in
-      let two = WalkLaws.broken-stop b (endOf b d) (d + 12) i q (rw e at j) in
+      let one = WalkLaws.broken-stop b (bodyEnd b d) (d + 12) i at k in
+      let two = WalkLaws.broken-stop b (bodyEnd b d) (d + 12) i q (rw e at j) in
       inr (refl, omega (arith, one, two))
   data-first d at n p f k (no-bank g h) = inl (omega arith)
   data-first d at n p f k (no-data g h) = inl (omega arith)
@@ -88,20 +88,20 @@ module _ (b : List ℕ) (good : Good b) where
 
   -- nor beside a broken chunk of the form
   pub form-first :
-      (at n p : ℕ) → ((d at : ℕ) → Data b d → Broken b (endOf b d) (d + 12) at → ⊥) → Broken b (endOf b 0) 12 at → Wrong b n p
+      (at n p : ℕ) → ((d at : ℕ) → Data b d → Broken b (bodyEnd b d) (d + 12) at → ⊥) → Broken b (bodyEnd b 0) 12 at → Amiss b n p
       → (41 < n) ⊎ ((41 ≡ n) × (at ≤ p))
   form-first at n p s k (no-riff h) = absurd (h (good .riff))
   form-first at n p s k (no-font h) = absurd (h (good .font))
   form-first at n p s k (no-form h) = absurd (h (good .formed))
   form-first at n p s k (in-form q g j) =
-      inr (refl, omega (arith, WalkLaws.broken-stop b (endOf b 0) 12 form-long q j, WalkLaws.broken-stop b (endOf b 0) 12 form-long at k))
+      inr (refl, omega (arith, WalkLaws.broken-stop b (bodyEnd b 0) 12 form-long q j, WalkLaws.broken-stop b (bodyEnd b 0) 12 form-long at k))
   form-first at n p s k (in-data l q g m j) = absurd (s l q m j)
   form-first at n p s k (no-bank g h) = inl (omega arith)
   form-first at n p s k (no-data g h) = inl (omega arith)
   form-first at n p s k (no-samples l g m h) = inl (omega arith)
 
   -- nor beside a list with no samples
-  pub silent-first : (d n p : ℕ) → Sound b → Data b d → Wrong b n p → (42 < n) ⊎ ((42 ≡ n) × (endOf b d ≤ p))
+  pub silent-first : (d n p : ℕ) → Sound b → Data b d → Amiss b n p → (42 < n) ⊎ ((42 ≡ n) × (bodyEnd b d ≤ p))
   silent-first d n p s f (no-riff h) = absurd (h (good .riff))
   silent-first d n p s f (no-font h) = absurd (h (good .font))
   silent-first d n p s f (no-form h) = absurd (h (good .formed))
@@ -112,7 +112,7 @@ module _ (b : List ℕ) (good : Good b) where
   silent-first d n p s f (no-samples l g m h) = let e = same-first d l f m in inr (refl, rw e (omega arith))
 
   -- nor beside a list that is missing
-  pub missing-first : (n p : ℕ) → Sound b → ((d : ℕ) → Data b d → NoneOf b (endOf b d) (d + 12) (IsSamples b) → ⊥) → Wrong b n p → (42 < n) ⊎ ((42 ≡ n) × (endOf b 0 ≤ p))
+  pub missing-first : (n p : ℕ) → Sound b → ((d : ℕ) → Data b d → NoneOf b (bodyEnd b d) (d + 12) (IsSamples b) → ⊥) → Amiss b n p → (42 < n) ⊎ ((42 ≡ n) × (bodyEnd b 0 ≤ p))
   missing-first n p s t (no-riff h) = absurd (h (good .riff))
   missing-first n p s t (no-font h) = absurd (h (good .font))
   missing-first n p s t (no-form h) = absurd (h (good .formed))
@@ -124,7 +124,7 @@ module _ (b : List ℕ) (good : Good b) where
 
   -- nothing is wrong with a file that is found
   pub found-fine :
-      (d s a n p : ℕ) → Sound b → Data b d → FirstOf b (endOf b d) (d + 12) (IsSamples b) s → FirstOf b (endOf b 0) 12 (IsList b bankType) a → Wrong b n p → ⊥
+      (d s a n p : ℕ) → Sound b → Data b d → FirstOf b (bodyEnd b d) (d + 12) (IsSamples b) s → FirstOf b (bodyEnd b 0) 12 (IsList b bankType) a → Amiss b n p → ⊥
   found-fine d s a n p o f g k (no-riff h) = h (good .riff)
   found-fine d s a n p o f g k (no-font h) = h (good .font)
   found-fine d s a n p o f g k (no-form h) = h (good .formed)
@@ -135,11 +135,11 @@ module _ (b : List ℕ) (good : Good b) where
   found-fine d s a n p o f g k (no-samples l i m h) = let e = same-first d l f m in rw (← e) at h s (g .stands)
 
   -- in a list that has samples they are not missing
-  pub not-silent : (d s : ℕ) → Data b d → FirstOf b (endOf b d) (d + 12) (IsSamples b) s → (l : ℕ) → Data b l → NoneOf b (endOf b l) (l + 12) (IsSamples b) → ⊥
+  pub not-silent : (d s : ℕ) → Data b d → FirstOf b (bodyEnd b d) (d + 12) (IsSamples b) s → (l : ℕ) → Data b l → NoneOf b (bodyEnd b l) (l + 12) (IsSamples b) → ⊥
   not-silent d s f g l m h = let e = same-first d l f m in rw (← e) at h s (g .stands)
 
 -- no number is below 40
-pub from-40 : (b : List ℕ) (n p : ℕ) → Wrong b n p → 40 ≤ n
+pub from-40 : (b : List ℕ) (n p : ℕ) → Amiss b n p → 40 ≤ n
 from-40 b n p (no-riff h) = omega arith
 from-40 b n p (no-font h) = omega arith
 from-40 b n p (no-form h) = omega arith
@@ -150,7 +150,7 @@ from-40 b n p (no-data g h) = omega arith
 from-40 b n p (no-samples l g m h) = omega arith
 
 -- another type, behind the right name
-pub type-first : (b : List ℕ) (n p : ℕ) → u32At b 0 ≡ riffName → Wrong b n p → (40 < n) ⊎ ((40 ≡ n) × (8 ≤ p))
+pub type-first : (b : List ℕ) (n p : ℕ) → u32At b 0 ≡ riffName → Amiss b n p → (40 < n) ⊎ ((40 ≡ n) × (8 ≤ p))
 type-first b n p e (no-riff h) = absurd (h e)
 type-first b n p e (no-font h) = inr (refl, omega arith)
 type-first b n p e (no-form h) = inl (omega arith)
@@ -161,7 +161,7 @@ type-first b n p e (no-data g h) = inl (omega arith)
 type-first b n p e (no-samples l g m h) = inl (omega arith)
 
 -- behind the right name and type
-pub from-41 : (b : List ℕ) (n p : ℕ) → u32At b 0 ≡ riffName → u32At b 8 ≡ fontType → Wrong b n p → 41 ≤ n
+pub from-41 : (b : List ℕ) (n p : ℕ) → u32At b 0 ≡ riffName → u32At b 8 ≡ fontType → Amiss b n p → 41 ≤ n
 from-41 b n p e f (no-riff h) = absurd (h e)
 from-41 b n p e f (no-font h) = absurd (h f)
 from-41 b n p e f (no-form h) = omega arith
@@ -175,18 +175,17 @@ from-41 b n p e f (no-samples l g m h) = omega arith
 
 module _ (b : List ℕ) (good : Good b) where
   -- the form, with a span for its sdta list
-  pub found-by : (s : Span) → dataSpan b (endOf b 0) ≡ s → findOf b ≡ foundIn b (endOf b 0) s
-  unfolding chunkEnd sizeAt
+  pub found-by : (s : Span) → dataSpan b (bodyEnd b 0) ≡ s → findOf b ≡ foundIn b (bodyEnd b 0) s
   found-by s e =
-      FormLaws.find-form b (good .riff) (good .font) (good .formed .typed) (good .formed .body-in) ∙ ap (λ (x : Span). foundIn b (endOf b 0) x) e
+      FormLaws.find-form b (good .riff) (good .font) (good .formed .typed) (good .formed .body-in) ∙ ap (λ (x : Span). foundIn b (bodyEnd b 0) x) e
 
   -- there is no sdta list
-  pub without-data : dataAt b (endOf b 0) ≡ endOf b 0 → Outcome b
+  pub without-data : dataAt b (bodyEnd b 0) ≡ bodyEnd b 0 → Outcome b
   unfolding dataAt samplesAt
   without-data e =
-      let end = endOf b 0 in
-      let s : Span = record { from = endOf b 0; end = endOf b 0 } in
-      let none : NoneOf b (endOf b 0) 12 (IsList b dataType) = WalkLaws.found-none b end listName dataType 12 (IsList b dataType) (WalkLaws.list-to b dataType) (WalkLaws.list-of b dataType) e in
+      let end = bodyEnd b 0 in
+      let s : Span = record { from = bodyEnd b 0; end = bodyEnd b 0 } in
+      let none : NoneOf b (bodyEnd b 0) 12 (IsList b dataType) = WalkLaws.found-none b end listName dataType 12 (IsList b dataType) (WalkLaws.list-to b dataType) (WalkLaws.list-of b dataType) e in
       let past = ChunksLaws.past-not-whole b end end (omega arith) in
       let inner = ChunksLaws.stop-done b end end past in
       let is = found-by s (FormLaws.span-none b end e) in
@@ -198,19 +197,18 @@ module _ (b : List ℕ) (good : Good b) where
       broken-form good (λ d at f k. none d (f .stands)) (stopAt b end 12) (WalkLaws.stop-broken b end 12 (form-long b good) n)
       (is ∙ FormLaws.in-form-broken b end s inner n))
 
-  module _ (d : ℕ) (at-d : dataAt b (endOf b 0) ≡ d) (some : dataAt b (endOf b 0) ≡ endOf b 0 → ⊥) (f : Data b d) where
+  module _ (d : ℕ) (at-d : dataAt b (bodyEnd b 0) ≡ d) (some : dataAt b (bodyEnd b 0) ≡ bodyEnd b 0 → ⊥) (f : Data b d) where
     -- the span of the sdta list
-    pub span-is : dataSpan b (endOf b 0) ≡ record { from = d + 12; end = endOf b d }
-    unfolding chunkEnd sizeAt
-    span-is = rw at-d at (FormLaws.span-some b (endOf b 0) some)
+    pub span-is : dataSpan b (bodyEnd b 0) ≡ record { from = d + 12; end = bodyEnd b d }
+    span-is = rw at-d at (FormLaws.span-some b (bodyEnd b 0) some)
 
     -- each chunk is whole
-    pub parts-of : Sound b → stopAt b (endOf b d) (d + 12) ≡ endOf b d → stopAt b (endOf b 0) 12 ≡ endOf b 0 → Outcome b
+    pub parts-of : Sound b → stopAt b (bodyEnd b d) (d + 12) ≡ bodyEnd b d → stopAt b (bodyEnd b 0) 12 ≡ bodyEnd b 0 → Outcome b
     unfolding samplesAt bankAt
     parts-of sound inner outer =
-        let end = endOf b 0 in
-        let edge = endOf b d in
-        let s : Span = record { from = d + 12; end = endOf b d } in
+        let end = bodyEnd b 0 in
+        let edge = bodyEnd b d in
+        let s : Span = record { from = d + 12; end = bodyEnd b d } in
         let is = found-by s span-is in
         let p = firstAt b edge samplesName 0 (d + 12) in
         let q = firstAt b end listName bankType 12 in
@@ -231,14 +229,14 @@ module _ (b : List ℕ) (good : Good b) where
     -- there is an sdta list
     pub with-data : Outcome b
     with-data =
-        let end = endOf b 0 in
-        let edge = endOf b d in
-        let s : Span = record { from = d + 12; end = endOf b d } in
+        let end = bodyEnd b 0 in
+        let edge = bodyEnd b d in
+        let s : Span = record { from = d + 12; end = bodyEnd b d } in
         let is = found-by s span-is in
         let room = list-in b good dataType d f .0 in
         ChunksLaws.by-test (eqb (stopAt b edge (d + 12)) edge)
         (λ i. let inner = eqb-true (stopAt b edge (d + 12)) edge i in
-        let fine : ((l at : ℕ) → Data b l → Broken b (endOf b l) (l + 12) at → ⊥) = λ l at m k. let e = same-first l d m f in WalkLaws.end-unbroken b edge (d + 12) room inner at (rw e at k) in
+        let fine : ((l at : ℕ) → Data b l → Broken b (bodyEnd b l) (l + 12) at → ⊥) = λ l at m k. let e = same-first l d m f in WalkLaws.end-unbroken b edge (d + 12) room inner at (rw e at k) in
         ChunksLaws.by-test (eqb (stopAt b end 12) end)
         (λ o. let outer = eqb-true (stopAt b end 12) end o in
         parts-of (record { form = WalkLaws.end-unbroken b end 12 (form-long b good) outer; data-list = fine }) inner outer)
@@ -251,19 +249,18 @@ module _ (b : List ℕ) (good : Good b) where
   pub in-good : Outcome b
   unfolding dataAt
   in-good =
-      let end = endOf b 0 in
+      let end = bodyEnd b 0 in
       ChunksLaws.by-test (eqb (dataAt b end) end) (λ e. without-data (eqb-true _ _ e))
       (λ e. let n = eqb-false (dataAt b end) end e in
       with-data (dataAt b end) refl n (WalkLaws.found-first b end listName dataType 12 (IsList b dataType) (WalkLaws.list-to b dataType) (WalkLaws.list-of b dataType) n))
 
 -- the right name and type
 pub named-outcome : (b : List ℕ) → u32At b 0 ≡ riffName → u32At b 8 ≡ fontType → Outcome b
-unfolding chunkEnd sizeAt
 named-outcome b e f =
     ChunksLaws.by-test (leb 4 (u32At b 4))
     (λ h. let typed = leb-true _ _ h in
-    ChunksLaws.by-test (leb (endOf b 0) (length b)) (λ k. in-good b (record { riff = e; font = f; formed = record { body-in = leb-true _ _ k; typed = typed } }))
-    (λ k. let past = leb-false (endOf b 0) (length b) k in
+    ChunksLaws.by-test (leb (bodyEnd b 0) (length b)) (λ k. in-good b (record { riff = e; font = f; formed = record { body-in = leb-true _ _ k; typed = typed } }))
+    (λ k. let past = leb-false (bodyEnd b 0) (length b) k in
     unformed e f (λ g. omega (arith, past, g .body-in)) (FormLaws.find-long b e f typed past)))
     (λ h. let short = leb-false 4 (u32At b 4) h in unformed e f (λ g. omega (arith, short, g .typed)) (FormLaws.find-untyped b e f short))
 
@@ -279,14 +276,14 @@ outcome b =
 -- ---- the first fault
 
 -- what is refused by a number and a place
-pub by : {b : List ℕ} {n p : ℕ} → findOf b ≡ refusedBy n p → First b n p → First b (findOf b .number) (findOf b .place)
+pub by : {b : List ℕ} {n p : ℕ} → findOf b ≡ refusedBy n p → FirstFault b n p → FirstFault b (findOf b .number) (findOf b .place)
 unfolding refusedBy
 by e f = rw e f
 
-pub refused-first : RefusedFirst
-refused-first b h = go (outcome b)
+pub refusal-is-first : RefusalIsFirst
+refusal-is-first b h = go (outcome b)
   where
-    go : Outcome b → First b (findOf b .number) (findOf b .place)
+    go : Outcome b → FirstFault b (findOf b .number) (findOf b .place)
     go (other n e) =
         by e (record { wrong = no-riff n; before = λ m p w. order 40 m 0 p (from-40 b m p w) (λ z. omega arith) })
     go (other-type r n e) = by e (record { wrong = no-font n; before = λ m p w. type-first b m p r w })
@@ -304,9 +301,9 @@ refused-first b h = go (outcome b)
         by e (record { wrong = no-bank (g .formed) n; before = λ m p w. missing-first b g m p s (not-silent b g d k f i) w })
     go (found g s d k q f i j e) = absurd (h (ap (λ (x : Found). x .number) e))
 
-pub found-not-wrong : FoundNotWrong
+pub found-not-amiss : FoundNotAmiss
 unfolding refusedBy
-found-not-wrong b n p z w = go (outcome b)
+found-not-amiss b n p z w = go (outcome b)
   where
     no : (m q : ℕ) → 40 ≤ m → findOf b ≡ refusedBy m q → ⊥
     no m q h e = omega (arith, z, ap (λ (x : Found). x .number) e)
@@ -317,19 +314,19 @@ found-not-wrong b n p z w = go (outcome b)
     go (unformed r f n e) = no 41 0 (omega arith) e
     go (broken-data g d at f k e) = no 41 at (omega arith) e
     go (broken-form g s at k e) = no 41 at (omega arith) e
-    go (silent g s d f n e) = no 42 (endOf b d) (omega arith) e
-    go (dataless g s n e) = no 42 (endOf b 0) (omega arith) e
-    go (bankless g s d k f i n e) = no 42 (endOf b 0) (omega arith) e
+    go (silent g s d f n e) = no 42 (bodyEnd b d) (omega arith) e
+    go (dataless g s n e) = no 42 (bodyEnd b 0) (omega arith) e
+    go (bankless g s d k f i n e) = no 42 (bodyEnd b 0) (omega arith) e
     go (found g s d k q f i j e) = found-fine b g d k q n p s f i j w
 
-pub not-wrong-found : NotWrongFound
-not-wrong-found b h =
+pub not-amiss-found : NotAmissFound
+not-amiss-found b h =
     ChunksLaws.by-test (eqb (findOf b .number) 0) (λ e. eqb-true _ _ e)
-    (λ e. absurd (h _ _ (refused-first b (eqb-false (findOf b .number) 0 e) .wrong)))
+    (λ e. absurd (h _ _ (refusal-is-first b (eqb-false (findOf b .number) 0 e) .wrong)))
 
-pub first-refused : FirstRefused
-first-refused b n p f =
-    let k = refused-first b (λ z. found-not-wrong b n p z (f .wrong)) in
+pub first-is-refused : FirstIsRefused
+first-is-refused b n p f =
+    let k = refusal-is-first b (λ z. found-not-amiss b n p z (f .wrong)) in
     ⊎-elim (λ l. absurd (other-way (f .before _ _ (k .wrong)) l)) (λ e. ⊎-elim (λ l. absurd (omega (arith, e .0, l))) (λ g. (e .0, omega (arith, e .1, g .1))) (f .before _ _ (k .wrong)))
     (k .before n p (f .wrong))
   where

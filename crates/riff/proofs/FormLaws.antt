@@ -10,7 +10,7 @@ use lib.ListN.{length}
 use Rattle.arith.specs.Bytes.{u32At}
 use Rattle.riff.specs.declared.Found.{Found}
 use Rattle.riff.specs.declared.form.Span.{Span}
-use Rattle.riff.specs.Chunks.{listName, sizeAt, chunkEnd, stopAt, firstAt}
+use Rattle.riff.specs.Chunks.{listName, sizeAt, bodyEnd, stopAt, firstAt}
 use Rattle.riff.specs.Form.{riffName, fontType, bankType, dataType, samplesName, refusedBy, listBody, chunkBody, bankAt, dataAt, dataSpan, samplesAt, foundIn, findOf}
 use Rattle.riff.proofs.ChunksLaws.{whole-in, by-test, Hit, hit, list-typed}
 
@@ -21,7 +21,7 @@ module _ (b : List ℕ) (end : ℕ) where
   span-none e = rw (eq-eqb _ _ e) refl
 
   -- an sdta list
-  pub span-some : (dataAt b end ≡ end → ⊥) → dataSpan b end ≡ record { from = dataAt b end + 12; end = chunkEnd b (dataAt b end) }
+  pub span-some : (dataAt b end ≡ end → ⊥) → dataSpan b end ≡ record { from = dataAt b end + 12; end = bodyEnd b (dataAt b end) }
   unfolding dataSpan
   span-some h = rw (ne-eqb _ _ h) refl
 
@@ -32,7 +32,6 @@ module _ (b : List ℕ) (end : ℕ) where
 
   -- the span of the sdta list lies in the form
   pub span-in : (dataSpan b end .from ≤ dataSpan b end .end) × (dataSpan b end .end ≤ end)
-  unfolding chunkEnd
   span-in = by-test (eqb (dataAt b end) end) (λ e. none (eqb-true _ _ e)) (λ e. some (eqb-false _ _ e))
     where
       none : dataAt b end ≡ end → (dataSpan b end .from ≤ dataSpan b end .end) × (dataSpan b end .end ≤ end)
@@ -94,12 +93,12 @@ module _ (b : List ℕ) where
   find-untyped e f h = rw (eq-eqb _ _ e, eq-eqb _ _ f, lt-ltb _ _ h) refl
 
   -- past the file
-  pub find-long : u32At b 0 ≡ riffName → u32At b 8 ≡ fontType → 4 ≤ sizeAt b 0 → length b < chunkEnd b 0 → findOf b ≡ refusedBy 41 0
+  pub find-long : u32At b 0 ≡ riffName → u32At b 8 ≡ fontType → 4 ≤ sizeAt b 0 → length b < bodyEnd b 0 → findOf b ≡ refusedBy 41 0
   unfolding findOf
   find-long e f h k = rw (eq-eqb _ _ e, eq-eqb _ _ f, le-ltb _ _ h, lt-ltb _ _ k) refl
 
   -- a form
-  pub find-form : u32At b 0 ≡ riffName → u32At b 8 ≡ fontType → 4 ≤ sizeAt b 0 → chunkEnd b 0 ≤ length b
-      → findOf b ≡ foundIn b (chunkEnd b 0) (dataSpan b (chunkEnd b 0))
+  pub find-form : u32At b 0 ≡ riffName → u32At b 8 ≡ fontType → 4 ≤ sizeAt b 0 → bodyEnd b 0 ≤ length b
+      → findOf b ≡ foundIn b (bodyEnd b 0) (dataSpan b (bodyEnd b 0))
   unfolding findOf
   find-form e f h k = rw (eq-eqb _ _ e, eq-eqb _ _ f, le-ltb _ _ h, le-ltb _ _ k) refl

@@ -4,21 +4,21 @@ use mathlib.Core.Path.{_≡_, refl, sym, _∙_, ap}
 use Prim.Native.Nat.{ℕ, _+_, _≤_}
 use native.Mathlib.Omega.{arith}
 use Rattle.riff.specs.declared.Found.{Found}
-use Rattle.riff.specs.Chunks.{sizeAt}
+use Rattle.riff.specs.Chunks.{sizeAt, bodyEnd}
 use Rattle.riff.specs.Form.{bankType, dataType, refusedBy, listBody, chunkBody, findOf}
-use Rattle.riff.specs.Faults.{endOf, IsList, IsSamples, FirstOf}
+use Rattle.riff.specs.Faults.{IsList, IsSamples, FirstOf}
 use Rattle.riff.specs.Places.{IsBank, AreSamples, PartsStand, PartsWithin}
 use Rattle.riff.proofs.FaultsLaws.{Good, Data, Outcome, other, other-type, unformed, broken-data, broken-form, silent, dataless, bankless, found, outcome, list-in}
 
 module _ (b : List ℕ) where
   -- a list's body
-  pub bank-is : Good b → (p : ℕ) → FirstOf b (endOf b 0) 12 (IsList b bankType) p → IsBank b (listBody b p)
-  unfolding listBody sizeAt
+  pub bank-is : Good b → (p : ℕ) → FirstOf b (bodyEnd b 0) 12 (IsList b bankType) p → IsBank b (listBody b p)
+  unfolding listBody
   bank-is g p f = record { list = p; first = f; begins = refl; ends = omega (arith, list-in b g bankType p f .0) }
 
   -- a chunk's body
-  pub samples-are : (d s : ℕ) → Data b d → FirstOf b (endOf b d) (d + 12) (IsSamples b) s → AreSamples b (chunkBody b s)
-  unfolding chunkBody sizeAt
+  pub samples-are : (d s : ℕ) → Data b d → FirstOf b (bodyEnd b d) (d + 12) (IsSamples b) s → AreSamples b (chunkBody b s)
+  unfolding chunkBody
   samples-are d s f g = record { list = d; chunk = s; first-list = f; first = g; begins = refl; ends = refl }
 
 pub parts-stand : PartsStand
@@ -34,9 +34,9 @@ parts-stand b z = go (outcome b)
     go (unformed r f n e) = absurd (no 41 0 (omega arith) e)
     go (broken-data g d at f k e) = absurd (no 41 at (omega arith) e)
     go (broken-form g s at k e) = absurd (no 41 at (omega arith) e)
-    go (silent g s d f n e) = absurd (no 42 (endOf b d) (omega arith) e)
-    go (dataless g s n e) = absurd (no 42 (endOf b 0) (omega arith) e)
-    go (bankless g s d k f i n e) = absurd (no 42 (endOf b 0) (omega arith) e)
+    go (silent g s d f n e) = absurd (no 42 (bodyEnd b d) (omega arith) e)
+    go (dataless g s n e) = absurd (no 42 (bodyEnd b 0) (omega arith) e)
+    go (bankless g s d k f i n e) = absurd (no 42 (bodyEnd b 0) (omega arith) e)
     go (found g s d k q f i j e) = rw e (bank-is b g q j, samples-are b d k f i)
 
 -- the form of a file that is found lies in the file

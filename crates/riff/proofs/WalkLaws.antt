@@ -8,15 +8,15 @@ use native.Mathlib.Omega.{arith}
 use borrow.Author.Tests.{le-leb, eq-eqb, ne-eqb, eqb-true, eqb-false}
 use lib.Dec.{eqb, leb}
 use Rattle.arith.specs.Bytes.{u32At}
-use Rattle.riff.specs.Chunks.{listName, sizeAt, chunkEnd, leastSize, typeAt, isWhole, isNamed, nextAt, stopFrom, stopAt, firstFrom, firstAt}
+use Rattle.riff.specs.Chunks.{listName, sizeAt, bodyEnd, leastSize, typeAt, isWhole, isNamed, nextAt, stopFrom, stopAt, firstFrom, firstAt}
 use Rattle.riff.specs.Form.{samplesName}
-use Rattle.riff.specs.Faults.{Whole, Reached, begins, behind, Broken, Stands, FirstOf, IsList, IsSamples}
+use Rattle.riff.specs.Faults.{WholeChunk, Walked, at-start, behind-whole, Broken, Stands, FirstOf, IsList, IsSamples}
 use Rattle.riff.proofs.ChunksLaws
 
 module _ (b : List ℕ) (end at : ℕ) where
   -- what the test of a chunk says
-  pub whole-of : isWhole b end at ≡ true → Whole b end at
-  unfolding sizeAt leastSize
+  pub whole-of : isWhole b end at ≡ true → WholeChunk b end at
+  unfolding leastSize
   whole-of h =
       record {
         body-in = ChunksLaws.whole-in b end at h;
@@ -24,57 +24,57 @@ module _ (b : List ℕ) (end at : ℕ) where
       }
 
   -- .. and the other way round
-  pub of-whole : Whole b end at → isWhole b end at ≡ true
-  unfolding isWhole sizeAt chunkEnd leastSize
+  pub of-whole : WholeChunk b end at → isWhole b end at ≡ true
+  unfolding isWhole leastSize
   of-whole w =
       ChunksLaws.by-test (eqb (u32At b at) listName)
       (λ e. rw (le-leb _ _ (w .body-in), e, le-leb _ _ (w .typed (eqb-true _ _ e))) refl)
       (λ e. rw (le-leb _ _ (w .body-in), e, le-leb 0 (u32At b (at + 4)) (omega arith)) refl)
 
   -- a chunk that is not whole is not tested to be
-  pub not-whole : (Whole b end at → ⊥) → isWhole b end at ≡ false
+  pub not-whole : (WholeChunk b end at → ⊥) → isWhole b end at ≡ false
   not-whole h = ChunksLaws.by-test (isWhole b end at) (λ e. absurd (h (whole-of e))) (λ e. e)
 
   -- .. and the other way round
-  pub whole-not : isWhole b end at ≡ false → Whole b end at → ⊥
+  pub whole-not : isWhole b end at ≡ false → WholeChunk b end at → ⊥
   whole-not e w = let z = sym e ∙ of-whole w in let n : _≡_ {A = ℕ} 0 1 = cc in omega arith
 
   -- the next place is behind the chunk
-  pub next-behind : Whole b end at → at + 8 + u32At b (at + 4) ≤ nextAt b end at
-  unfolding nextAt sizeAt chunkEnd
+  pub next-behind : WholeChunk b end at → at + 8 + u32At b (at + 4) ≤ nextAt b end at
+  unfolding nextAt
   next-behind w = omega (arith, w .body-in)
 
 -- a walk from a place that was reached stops at the same place
-pub stop-same : (b : List ℕ) (end from at : ℕ) → Reached b end from at → stopAt b end from ≡ stopAt b end at
-stop-same b end from at begins = refl
-stop-same b end from at (behind p r w) = stop-same b end from p r ∙ ChunksLaws.stop-further b end p (of-whole b end p w)
+pub stop-same : (b : List ℕ) (end from at : ℕ) → Walked b end from at → stopAt b end from ≡ stopAt b end at
+stop-same b end from at at-start = refl
+stop-same b end from at (behind-whole p r w) = stop-same b end from p r ∙ ChunksLaws.stop-further b end p (of-whole b end p w)
 
 -- a walk goes on, and not past the end
-pub reached-in : (b : List ℕ) (end from at : ℕ) → from ≤ end → Reached b end from at → (from ≤ at) × (at ≤ end)
-reached-in b end from at h begins = (omega arith, h)
-reached-in b end from at h (behind p r w) =
+pub reached-in : (b : List ℕ) (end from at : ℕ) → from ≤ end → Walked b end from at → (from ≤ at) × (at ≤ end)
+reached-in b end from at h at-start = (omega arith, h)
+reached-in b end from at h (behind-whole p r w) =
     let k = reached-in b end from p h r in
     let n = ChunksLaws.next-in b end p (of-whole b end p w) in
     (omega (arith, k .0, n .0), n .1)
 
 -- one more chunk in front
-pub reach-on : (b : List ℕ) (end from at : ℕ) → Whole b end from → Reached b end (nextAt b end from) at → Reached b end from at
-reach-on b end from at w begins = behind from begins w
-reach-on b end from at w (behind p r v) = behind p (reach-on b end from p w r) v
+pub reach-on : (b : List ℕ) (end from at : ℕ) → WholeChunk b end from → Walked b end (nextAt b end from) at → Walked b end from at
+reach-on b end from at w at-start = behind-whole from at-start w
+reach-on b end from at w (behind-whole p r v) = behind-whole p (reach-on b end from p w r) v
 
 -- where a walk of so many turns stops, no whole chunk is, if there were turns enough
-pub stop-from-reached : (n : ℕ) (b : List ℕ) (end from : ℕ) → end ≤ from + n → Reached b end from (stopFrom n b end from) × (isWhole b end (stopFrom n b end from) ≡ false)
+pub stop-from-reached : (n : ℕ) (b : List ℕ) (end from : ℕ) → end ≤ from + n → Walked b end from (stopFrom n b end from) × (isWhole b end (stopFrom n b end from) ≡ false)
 unfolding stopFrom
-stop-from-reached zero b end from h = (begins, ChunksLaws.past-not-whole b end from (omega arith))
+stop-from-reached zero b end from h = (at-start, ChunksLaws.past-not-whole b end from (omega arith))
 stop-from-reached (suc n) b end from h =
     ChunksLaws.by-test (isWhole b end from)
     (λ e. let k = stop-from-reached n b end (nextAt b end from) (omega (arith, ChunksLaws.next-in b end from e)) in
     rw (ChunksLaws.stop-turn b end from n e) (reach-on b end from _ (whole-of b end from e) (k .0), k .1))
-    (λ e. rw (ChunksLaws.stop-here b end from (suc n) e) (begins, e))
+    (λ e. rw (ChunksLaws.stop-here b end from (suc n) e) (at-start, e))
 
 module _ (b : List ℕ) (end from : ℕ) where
   -- the place where it stops is reached
-  pub stop-reached : Reached b end from (stopAt b end from)
+  pub stop-reached : Walked b end from (stopAt b end from)
   unfolding stopAt
   stop-reached = stop-from-reached end b end from (omega arith) .0
 
@@ -99,18 +99,18 @@ module _ (b : List ℕ) (end from : ℕ) where
     end-unbroken e at k = omega (arith, sym e ∙ broken-stop at k, k .more)
 
 -- a walk stops behind every whole chunk that it reaches
-pub stop-behind : (b : List ℕ) (end from at : ℕ) → Reached b end from at → Whole b end at → at + 8 + u32At b (at + 4) ≤ stopAt b end from
+pub stop-behind : (b : List ℕ) (end from at : ℕ) → Walked b end from at → WholeChunk b end at → at + 8 + u32At b (at + 4) ≤ stopAt b end from
 stop-behind b end from at r w =
-    let e = stop-same b end from (nextAt b end at) (behind at r w) in
+    let e = stop-same b end from (nextAt b end at) (behind-whole at r w) in
     let n = ChunksLaws.next-in b end at (of-whole b end at w) in
     let i = reached-in b end (nextAt b end at) (stopAt b end (nextAt b end at)) (n .1) (stop-reached b end (nextAt b end at)) in
     omega (arith, e, i .0, next-behind b end at w)
 
 -- a search that goes past a place has found something in front of it
-pub first-past : (b : List ℕ) (end name kind from at : ℕ) → Reached b end from at
+pub first-past : (b : List ℕ) (end name kind from at : ℕ) → Walked b end from at
     → (firstAt b end name kind from ≡ firstAt b end name kind at) ⊎ (firstAt b end name kind from < at)
-first-past b end name kind from at begins = inl refl
-first-past b end name kind from at (behind p r w) =
+first-past b end name kind from at at-start = inl refl
+first-past b end name kind from at (behind-whole p r w) =
     let n = ChunksLaws.next-in b end p (of-whole b end p w) in
     ⊎-elim
     (λ e. ChunksLaws.by-test (isNamed b name kind p)
@@ -120,13 +120,13 @@ first-past b end name kind from at (behind p r w) =
     (first-past b end name kind from p r)
 
 -- what a search of so many turns finds is reached
-pub hit-reached : (n : ℕ) (b : List ℕ) (end name kind from : ℕ) → (firstFrom n b end name kind from ≡ end → ⊥) → Reached b end from (firstFrom n b end name kind from)
+pub hit-reached : (n : ℕ) (b : List ℕ) (end name kind from : ℕ) → (firstFrom n b end name kind from ≡ end → ⊥) → Walked b end from (firstFrom n b end name kind from)
 unfolding firstFrom
 hit-reached zero b end name kind from h = absurd (h refl)
 hit-reached (suc n) b end name kind from h =
     ChunksLaws.by-test (isWhole b end from)
     (λ e. ChunksLaws.by-test (isNamed b name kind from)
-    (λ o. rw (ChunksLaws.first-found b end from n name kind e o) begins)
+    (λ o. rw (ChunksLaws.first-found b end from n name kind e o) at-start)
     (λ o. let t = ChunksLaws.first-turn b end from n name kind e o in
     rw t (reach-on b end from _ (whole-of b end from e) (hit-reached n b end name kind (nextAt b end from) (λ z. h (t ∙ z))))))
     (λ e. absurd (h (ChunksLaws.first-lost b end from (suc n) name kind e)))

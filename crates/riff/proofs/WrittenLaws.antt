@@ -10,11 +10,11 @@ use lib.Dec.{eqb, lit<}
 use lib.ListN.{length, take, drop, getD, length-append, List·getD-append}
 use lib.Seq.{getD-append-add, take-at, drop-at}
 use Rattle.arith.specs.Bytes.{u8At, u32At}
-use Rattle.riff.specs.Chunks.{listName, sizeAt, chunkEnd, isWhole, isNamed, nextAt, stopAt, firstAt}
+use Rattle.riff.specs.Chunks.{listName, sizeAt, bodyEnd, isWhole, isNamed, nextAt, stopAt, firstAt}
 use Rattle.riff.specs.declared.form.Span.{Span}
 use Rattle.riff.specs.Form.{riffName, fontType, bankType, dataType, samplesName, listBody, chunkBody, bankAt, dataAt, dataSpan, samplesAt, foundIn, findOf}
-use Rattle.riff.specs.Faults.{Whole}
-use Rattle.riff.specs.Written.{fourBytes, Chunk, padOf, chunkBytes, chunksBytes, listOf, fileOf, GoodChunks, NoneIs, OfType, Sampled, Among, Written, bankPart, samplesPart, WrittenIsFound, PartsAsWritten}
+use Rattle.riff.specs.Faults.{WholeChunk}
+use Rattle.riff.specs.Written.{fourLowFirst, Chunk, padOf, chunkBytes, chunksBytes, listOf, fileOf, GoodChunks, NoneIs, OfType, Sampled, Among, Written, bankPart, samplesPart, WrittenIsFound, PartsAsWritten}
 use Rattle.riff.proofs.ChunksLaws
 use Rattle.riff.proofs.FormLaws
 use Rattle.riff.proofs.WalkLaws
@@ -52,13 +52,13 @@ front xs ys h =
     rw (List·getD-append xs ys 0 0 (omega arith), List·getD-append xs ys 0 1 (omega arith), List·getD-append xs ys 0 2 (omega arith), List·getD-append xs ys 0 3 (omega arith)) refl
 
 -- four bytes in front of others
-pub read-four : (n : ℕ) (xs : List ℕ) → n < 4294967296 → u32At (fourBytes n ++ xs) 0 ≡ n
-unfolding fourBytes u32At u8At
+pub read-four : (n : ℕ) (xs : List ℕ) → n < 4294967296 → u32At (fourLowFirst n ++ xs) 0 ≡ n
+unfolding fourLowFirst u32At u8At
 read-four n xs h = from-four n h
 
 -- their length
-pub four-long : (n : ℕ) → length (fourBytes n) ≡ 4
-unfolding fourBytes
+pub four-long : (n : ℕ) → length (fourLowFirst n) ≡ 4
+unfolding fourLowFirst
 four-long n = refl
 
 -- the pad byte's
@@ -84,8 +84,8 @@ pub headed : (pre rest : List ℕ) (c : Chunk) → c .name < 4294967296 → leng
 unfolding chunkBytes
 headed pre rest c n s =
     let pad = padOf (length (c .body)) in
-    let one = fourBytes (c .name) in
-    let two = fourBytes (length (c .body)) in
+    let one = fourLowFirst (c .name) in
+    let two = fourLowFirst (length (c .body)) in
     let all = one ++ (two ++ (c .body ++ pad)) ++ rest in
     let cut : all ≡ one ++ (two ++ (c .body ++ (pad ++ rest))) = simp append-assoc in
     let at : (i k : ℕ) → i ≡ length pre + k → u32At (pre ++ all) i ≡ u32At (one ++ (two ++ (c .body ++ (pad ++ rest)))) k = λ i k e. shift-to pre all i k e ∙ ap (λ (l : List ℕ). u32At l k) cut in
@@ -110,7 +110,7 @@ module _ (b : List ℕ) (end at : ℕ) (c : Chunk) (h : Headed b at c) where
 
   -- the next chunk begins behind it
   pub headed-next : at + length (chunkBytes c) ≤ end → nextAt b end at ≡ at + length (chunkBytes c)
-  unfolding nextAt chunkEnd sizeAt
+  unfolding nextAt
   headed-next room = rw (h .size) (omega (arith, chunk-long c))
 
   -- it is a list of a type
@@ -235,17 +235,17 @@ module _ (b : List ℕ) (at : ℕ) (front : List Chunk) (c : Chunk) (behind : Li
   unfolding chunkBytes
   held-body =
       record {
-        pre = held-one .pre ++ (fourBytes (c .name) ++ fourBytes (length (c .body)));
+        pre = held-one .pre ++ (fourLowFirst (c .name) ++ fourLowFirst (length (c .body)));
         post = padOf (length (c .body)) ++ held-one .post;
         cut = held-one .cut ∙ simp append-assoc;
         place = simp (length-append, four-long) (omega (arith, held-one .place));
       }
 
 -- behind a type
-pub held-rest : (b : List ℕ) (at kind : ℕ) (xs : List ℕ) → Held b at (fourBytes kind ++ xs) → Held b (at + 4) xs
+pub held-rest : (b : List ℕ) (at kind : ℕ) (xs : List ℕ) → Held b at (fourLowFirst kind ++ xs) → Held b (at + 4) xs
 held-rest b at kind xs h =
     record {
-      pre = h .pre ++ fourBytes kind;
+      pre = h .pre ++ fourLowFirst kind;
       post = h .post;
       cut = h .cut ∙ simp append-assoc;
       place = simp (length-append, four-long) (omega (arith, h .place));
@@ -261,7 +261,7 @@ pub file-held : (cs : List Chunk) → Held (fileOf cs) 12 (chunksBytes cs)
 unfolding fileOf
 file-held cs =
     record {
-      pre = fourBytes riffName ++ (fourBytes (4 + length (chunksBytes cs)) ++ fourBytes fontType);
+      pre = fourLowFirst riffName ++ (fourLowFirst (4 + length (chunksBytes cs)) ++ fourLowFirst fontType);
       post = [];
       cut = simp (append-assoc, append-nil);
       place = simp (length-append, four-long) refl;
@@ -276,16 +276,16 @@ pub record FileHead (cs : List Chunk) : Type 0 where
 
 -- they are read back
 pub file-head : (cs : List Chunk) → 4 + length (chunksBytes cs) < 4294967296 → FileHead cs
-unfolding fileOf sizeAt
+unfolding fileOf
 file-head cs h =
     let n = 4 + length (chunksBytes cs) in
     let one-long = four-long riffName in
     let two-long = four-long n in
-    let rest = fourBytes fontType ++ chunksBytes cs in
+    let rest = fourLowFirst fontType ++ chunksBytes cs in
     record {
-      riff = read-four riffName (fourBytes n ++ rest) (lit< tt);
-      size = shift-to (fourBytes riffName) (fourBytes n ++ rest) 4 0 (omega arith) ∙ read-four n rest h;
-      font = shift-to (fourBytes riffName) (fourBytes n ++ rest) 8 4 (omega arith) ∙ shift-to (fourBytes n) rest 4 0 (omega arith) ∙ read-four fontType (chunksBytes cs) (lit< tt);
+      riff = read-four riffName (fourLowFirst n ++ rest) (lit< tt);
+      size = shift-to (fourLowFirst riffName) (fourLowFirst n ++ rest) 4 0 (omega arith) ∙ read-four n rest h;
+      font = shift-to (fourLowFirst riffName) (fourLowFirst n ++ rest) 8 4 (omega arith) ∙ shift-to (fourLowFirst n) rest 4 0 (omega arith) ∙ read-four fontType (chunksBytes cs) (lit< tt);
       long = simp (length-append, four-long) (omega arith);
     }
 
@@ -316,13 +316,12 @@ module _ (b : List ℕ) (at end : ℕ) (cs : List Chunk) (h : Held b at (chunksB
 
   -- a list of a type is found, and stands there
   pub held-list : (kind : ℕ) (front : List Chunk) (body : List ℕ) → kind < 4294967296 → Among cs (OfType kind) front (listOf kind body) → ListFound b at end kind front body
-  unfolding sizeAt
   held-list kind front body k a =
       let c = listOf kind body in
       let l = split-long front c (a .behind) in
       let e = ap (λ (x : List Chunk). length (chunksBytes x)) (a .cut) in
-      let long : length (fourBytes kind ++ body) ≡ 4 + length body = simp (length-append, four-long) in
-      let w : length (chunkBytes c) ≡ 8 + length (fourBytes kind ++ body) + length (fourBytes kind ++ body) % 2 = chunk-long c in
+      let long : length (fourLowFirst kind ++ body) ≡ 4 + length body = simp (length-append, four-long) in
+      let w : length (chunkBytes c) ≡ 8 + length (fourLowFirst kind ++ body) + length (fourLowFirst kind ++ body) % 2 = chunk-long c in
       let held : Held b at (chunksBytes (front ++ (c ∷ a .behind))) = rw (a .cut) at h in
       let good : GoodChunks (front ++ (c ∷ a .behind)) = rw (a .cut) at g in
       let is : OfType kind c = (refl, read-four kind body k) in
@@ -339,7 +338,6 @@ module _ (b : List ℕ) (at end : ℕ) (cs : List Chunk) (h : Held b at (chunksB
 
   -- a chunk of samples is found, and stands there
   pub held-samples : (front : List Chunk) (body : List ℕ) → Among cs Sampled front (record { name = samplesName; body = body }) → SamplesFound b at end front body
-  unfolding sizeAt
   held-samples front body a =
       let c : Chunk = record { name = samplesName; body = body } in
       let l = split-long front c (a .behind) in
@@ -398,7 +396,7 @@ module _ (cs inner bank-front data-front samples-front : List Chunk) (bank sampl
 
   -- the span of the sdta list
   span-written : dataSpan b end ≡ record { from = d + 12; end = edge }
-  unfolding dataAt chunkEnd
+  unfolding dataAt
   span-written =
       let e = the-data .first in
       let z : d + 8 + sizeAt b d ≡ edge = omega (arith, the-data .size) in
@@ -406,7 +404,6 @@ module _ (cs inner bank-front data-front samples-front : List Chunk) (bank sampl
 
   -- the form
   form-written : findOf b ≡ foundIn b end (dataSpan b end)
-  unfolding chunkEnd
   form-written =
       let k = file-head cs (w .small) in
       let e : 8 + sizeAt b 0 ≡ end = omega (arith, k .size) in

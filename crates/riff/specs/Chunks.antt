@@ -11,12 +11,12 @@ abbrev pub listName : ℕ
 listName = 1414744396
 
 -- the size that a chunk says
-unfoldable pub sizeAt : List ℕ → ℕ → ℕ
+abbrev pub sizeAt : List ℕ → ℕ → ℕ
 sizeAt b at = u32At b (at + 4)
 
 -- the place behind its body
-unfoldable pub chunkEnd : List ℕ → ℕ → ℕ
-chunkEnd b at = at + 8 + sizeAt b at
+abbrev pub bodyEnd : List ℕ → ℕ → ℕ
+bodyEnd b at = at + 8 + sizeAt b at
 
 -- the least size that it may have: a list has a type
 unfoldable pub leastSize : List ℕ → ℕ → ℕ
@@ -28,7 +28,7 @@ typeAt b at = cond (eqb (u32At b at) listName) (u32At b (at + 8)) 0
 
 -- whether a chunk lies in front of the end, with its name, its size, its type and its body
 unfoldable pub isWhole : List ℕ → ℕ → ℕ → Bool
-isWhole b end at = leb (chunkEnd b at) end && leb (leastSize b at) (sizeAt b at)
+isWhole b end at = leb (bodyEnd b at) end && leb (leastSize b at) (sizeAt b at)
 
 -- whether it has a name and, as a list, a type
 unfoldable pub isNamed : List ℕ → ℕ → ℕ → ℕ → Bool
@@ -36,7 +36,7 @@ isNamed b name kind at = eqb (u32At b at) name && eqb (typeAt b at) kind
 
 -- where the next chunk begins: behind the pad byte of an odd size. One that is missing at the end is forgiven
 unfoldable pub nextAt : List ℕ → ℕ → ℕ → ℕ
-nextAt b end at = min end (chunkEnd b at + sizeAt b at % 2)
+nextAt b end at = min end (bodyEnd b at + sizeAt b at % 2)
 
 -- where a walk over at most n chunks stops: at the first place where no whole chunk is
 unfoldable pub stopFrom : ℕ → List ℕ → ℕ → ℕ → ℕ

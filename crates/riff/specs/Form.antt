@@ -9,7 +9,7 @@ use Rattle.arith.specs.Bytes.{u32At}
 use Rattle.riff.specs.declared.Found.{Found}
 use Rattle.riff.specs.declared.Part.{Part}
 use Rattle.riff.specs.declared.form.Span.{Span}
-use Rattle.riff.specs.Chunks.{listName, sizeAt, chunkEnd, stopAt, firstAt}
+use Rattle.riff.specs.Chunks.{listName, sizeAt, bodyEnd, stopAt, firstAt}
 
 -- RIFF, 52 49 46 46
 abbrev pub riffName : ℕ
@@ -56,7 +56,7 @@ dataAt b end = firstAt b end listName dataType 12
 unfoldable pub dataSpan : List ℕ → ℕ → Span
 dataSpan b end =
     cond (eqb (dataAt b end) end) (record { from = end; end = end })
-    (record { from = dataAt b end + 12; end = chunkEnd b (dataAt b end) })
+    (record { from = dataAt b end + 12; end = bodyEnd b (dataAt b end) })
 
 -- the place of the first smpl chunk in a span; its end where there is none
 unfoldable pub samplesAt : List ℕ → Span → ℕ
@@ -78,5 +78,5 @@ unfoldable pub findOf : List ℕ → Found
 findOf b =
     cond (not (eqb (u32At b 0) riffName)) (refusedBy 40 0)
     (cond (not (eqb (u32At b 8) fontType)) (refusedBy 40 8)
-    (cond (ltb (sizeAt b 0) 4 || ltb (length b) (chunkEnd b 0)) (refusedBy 41 0)
-    (foundIn b (chunkEnd b 0) (dataSpan b (chunkEnd b 0)))))
+    (cond (ltb (sizeAt b 0) 4 || ltb (length b) (bodyEnd b 0)) (refusedBy 41 0)
+    (foundIn b (bodyEnd b 0) (dataSpan b (bodyEnd b 0)))))

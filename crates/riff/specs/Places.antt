@@ -6,23 +6,24 @@ use lib.ListN.{length}
 use Rattle.arith.specs.Bytes.{u32At}
 use Rattle.riff.specs.declared.Part.{Part}
 use Rattle.riff.specs.Form.{bankType, dataType, findOf}
-use Rattle.riff.specs.Faults.{endOf, IsList, IsSamples, FirstOf}
+use Rattle.riff.specs.Chunks.{bodyEnd}
+use Rattle.riff.specs.Faults.{IsList, IsSamples, FirstOf}
 
 -- the body of the form's first pdta list, behind its name, its size and its type
 pub record IsBank (b : List ℕ) (part : Part) : Type 0 where
   pub list : ℕ
-  pub first : FirstOf b (endOf b 0) 12 (IsList b bankType) list
+  pub first : FirstOf b (bodyEnd b 0) 12 (IsList b bankType) list
   pub begins : part .at ≡ list + 12
-  pub ends : part .at + part .size ≡ endOf b list
+  pub ends : part .at + part .size ≡ bodyEnd b list
 
 -- the body of the first smpl chunk of the form's first sdta list, behind its name and its size
 pub record AreSamples (b : List ℕ) (part : Part) : Type 0 where
   pub list : ℕ
   pub chunk : ℕ
-  pub first-list : FirstOf b (endOf b 0) 12 (IsList b dataType) list
-  pub first : FirstOf b (endOf b list) (list + 12) (IsSamples b) chunk
+  pub first-list : FirstOf b (bodyEnd b 0) 12 (IsList b dataType) list
+  pub first : FirstOf b (bodyEnd b list) (list + 12) (IsSamples b) chunk
   pub begins : part .at ≡ chunk + 8
-  pub ends : part .at + part .size ≡ endOf b chunk
+  pub ends : part .at + part .size ≡ bodyEnd b chunk
 
 -- both parts are what they are called
 abbrev pub PartsStand : Type 0

@@ -11,8 +11,8 @@ use Rattle.riff.specs.Chunks.{listName}
 use Rattle.riff.specs.Form.{riffName, fontType, bankType, dataType, samplesName, findOf}
 
 -- a number in four bytes, the lowest first
-unfoldable pub fourBytes : ℕ → List ℕ
-fourBytes n = n % 256 ∷ n / 256 % 256 ∷ n / 65536 % 256 ∷ n / 16777216 % 256 ∷ []
+unfoldable pub fourLowFirst : ℕ → List ℕ
+fourLowFirst n = n % 256 ∷ n / 256 % 256 ∷ n / 65536 % 256 ∷ n / 16777216 % 256 ∷ []
 
 -- a chunk: its name as a number, and its body
 pub record Chunk : Type 0 where
@@ -25,7 +25,7 @@ padOf size = cond (eqb (size % 2) 1) (0 ∷ []) []
 
 -- a chunk as bytes
 unfoldable pub chunkBytes : Chunk → List ℕ
-chunkBytes c = fourBytes (c .name) ++ (fourBytes (length (c .body)) ++ (c .body ++ padOf (length (c .body))))
+chunkBytes c = fourLowFirst (c .name) ++ (fourLowFirst (length (c .body)) ++ (c .body ++ padOf (length (c .body))))
 
 -- chunks one behind the other
 unfoldable pub chunksBytes : List Chunk → List ℕ
@@ -34,11 +34,11 @@ chunksBytes (c ∷ cs) = chunkBytes c ++ chunksBytes cs
 
 -- a list of a type
 abbrev pub listOf : ℕ → List ℕ → Chunk
-listOf kind body = record { name = listName; body = fourBytes kind ++ body }
+listOf kind body = record { name = listName; body = fourLowFirst kind ++ body }
 
 -- a file: RIFF, its size, sfbk, and its chunks
 unfoldable pub fileOf : List Chunk → List ℕ
-fileOf cs = fourBytes riffName ++ (fourBytes (4 + length (chunksBytes cs)) ++ (fourBytes fontType ++ chunksBytes cs))
+fileOf cs = fourLowFirst riffName ++ (fourLowFirst (4 + length (chunksBytes cs)) ++ (fourLowFirst fontType ++ chunksBytes cs))
 
 -- each of some chunks has a name of four bytes, and a type where it is a list
 abbrev pub GoodChunks : List Chunk → Type 0
@@ -82,8 +82,8 @@ abbrev pub samplesPart : List Chunk → List Chunk → List ℕ → Part
 samplesPart front inner samples = record { at = 12 + length (chunksBytes front) + 12 + length (chunksBytes inner) + 8; size = length samples }
 
 -- the bytes of a part
-abbrev pub partOf : List ℕ → Part → List ℕ
-partOf b part = take (part .size) (drop (part .at) b)
+abbrev pub bytesAt : List ℕ → Part → List ℕ
+bytesAt b part = take (part .size) (drop (part .at) b)
 
 -- exactly these parts are found
 abbrev pub WrittenIsFound : Type 0
@@ -95,4 +95,4 @@ WrittenIsFound =
 abbrev pub PartsAsWritten : Type 0
 PartsAsWritten =
     (cs inner bank-front data-front samples-front : List Chunk) (bank samples : List ℕ) → Written cs inner bank-front data-front samples-front bank samples
-    → (partOf (fileOf cs) (bankPart bank-front bank) ≡ bank) × (partOf (fileOf cs) (samplesPart data-front samples-front samples) ≡ samples)
+    → (bytesAt (fileOf cs) (bankPart bank-front bank) ≡ bank) × (bytesAt (fileOf cs) (samplesPart data-front samples-front samples) ≡ samples)

@@ -1,7 +1,7 @@
 -- `is_whole` meets its contract.
 use mathlib.Core.Path.{_≡_, refl, sym, _∙_}
 use borrow.Author.Tests.{lt-ltb, le-ltb, le-leb, lt-leb, eq-eqb, ne-eqb}
-use Rattle.riff.specs.Chunks.{isWhole, chunkEnd}
+use Rattle.riff.specs.Chunks.{isWhole, bodyEnd}
 use borrow.Author.Needs.{needs}
 use Rattle.riff.proofs.chunks.is_whole.Statement.{statement}
 use Rattle.riff.proofs.chunks.is_whole.Tie as tie
@@ -16,14 +16,14 @@ add-if1-2 : tie.Need-add-if1-2
 add-if1-2 c = search needs
 
 returns : tie.Need-returns
-unfolding isWhole chunkEnd
+unfolding isWhole
 returns c = let past = rw (c .before .size-at .ensures .0) at (c .if1 .taken) in rw (lt-leb _ _ past) refl
 
 least-size-requires : tie.Need-least-size-requires
 least-size-requires c κs = search needs
 
 returns-2 : tie.Need-returns-2
-unfolding isWhole chunkEnd
+unfolding isWhole
 returns-2 c =
     let k = c .before .before in
     let room = rw (k .size-at .ensures .0) at (c .before .if1 .left) in

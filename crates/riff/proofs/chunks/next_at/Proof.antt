@@ -1,6 +1,6 @@
 -- `next_at` meets its contract.
 use native.Mathlib.Omega.{arith}
-use Rattle.riff.specs.Chunks.{nextAt, chunkEnd}
+use Rattle.riff.specs.Chunks.{nextAt, bodyEnd}
 use borrow.Author.Needs.{needs}
 use Rattle.riff.proofs.chunks.next_at.Statement.{statement}
 use Rattle.riff.proofs.chunks.next_at.Tie as tie
@@ -18,11 +18,11 @@ add-behind-3 : tie.Need-add-behind-3
 add-behind-3 c = search needs
 
 returns : tie.Need-returns
-unfolding nextAt chunkEnd
+unfolding nextAt
 returns c = omega (arith, c .before .size-at .ensures .0)
 
 returns-2 : tie.Need-returns-2
-unfolding nextAt chunkEnd
+unfolding nextAt
 returns-2 c = omega (arith, c .before .size-at .ensures .0)
 
 pub next-at-spec : {M : Type 1} → statement M

@@ -14,7 +14,6 @@ cast-result : tie.Need-cast-result
 cast-result c = search needs
 
 returns : tie.Need-returns
-unfolding sizeAt
 returns c = search needs
 
 pub size-at-spec : {M : Type 1} → statement M

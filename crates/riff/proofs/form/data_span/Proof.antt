@@ -1,7 +1,7 @@
 -- `data_span` meets its contract.
 use mathlib.Core.Path.{_≡_, refl, sym, _∙_}
 use Rattle.riff.specs.Form.{dataAt}
-use Rattle.riff.specs.Chunks.{chunkEnd}
+use Rattle.riff.specs.Chunks.{bodyEnd}
 use Rattle.riff.proofs.FormLaws.{span-none, span-some}
 use borrow.Author.Needs.{needs}
 use Rattle.riff.proofs.form.data_span.Statement.{statement}
@@ -29,7 +29,7 @@ add-t8 : tie.Need-add-t8
 add-t8 c = search needs
 
 returns-2 : tie.Need-returns-2
-unfolding dataAt chunkEnd
+unfolding dataAt
 returns-2 c =
     let k = c .before .before in
     let a = k .before .before .args in

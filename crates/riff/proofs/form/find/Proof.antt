@@ -1,7 +1,7 @@
 -- `find` meets its contract.
 use mathlib.Core.Path.{_≡_, refl, sym, _∙_}
 use native.Mathlib.Omega.{arith}
-use Rattle.riff.specs.Chunks.{chunkEnd}
+use Rattle.riff.specs.Chunks.{bodyEnd}
 use Rattle.riff.proofs.FormLaws.{find-other, find-other-type, find-untyped, find-long, find-form}
 use borrow.Author.Needs.{needs}
 use Rattle.riff.proofs.form.find.Statement.{statement}
@@ -43,7 +43,6 @@ refused-requires-4 : tie.Need-refused-requires-4
 refused-requires-4 c κs = search needs
 
 returns-4 : tie.Need-returns-4
-unfolding chunkEnd
 returns-4 c =
     let e = c .before .before .before .size-at .ensures .0 in
     let typed = rw e at (c .before .before .if3 .left) in
@@ -54,7 +53,6 @@ found-in-requires : tie.Need-found-in-requires
 found-in-requires c κs = search needs
 
 returns-5 : tie.Need-returns-5
-unfolding chunkEnd
 returns-5 c =
     let e = c .before .before .before .size-at .ensures .0 in
     let typed = rw e at (c .before .before .if3 .left) in
