@@ -1,5 +1,5 @@
--- Where the parts of a file lie that is not refused.
-use mathlib.Core.List.{List}
+-- Where the parts of a file lie that is not refused, and what has no part in that.
+use mathlib.Core.List.{List, _++_}
 use mathlib.Core.Path.{_≡_}
 use Prim.Native.Nat.{ℕ, _+_, _≤_}
 use lib.ListN.{length}
@@ -34,3 +34,7 @@ abbrev pub PartsWithin : Type 0
 PartsWithin =
     (b : List ℕ) → findOf b .number ≡ 0
     → (findOf b .bank .at + findOf b .bank .size ≤ length b) × (findOf b .samples .at + findOf b .samples .size ≤ length b)
+
+-- what stands behind the form has no part in it
+abbrev pub TailIgnored : Type 0
+TailIgnored = (b more : List ℕ) → 12 ≤ length b → bodyEnd b 0 ≤ length b → findOf (b ++ more) ≡ findOf b
