@@ -1,13 +1,13 @@
 -- The walk over chunks, one turn at a time.
-use mathlib.Core.Bool.{Bool, true, false, cond, _&&_}
+use mathlib.Core.Bool.{Bool, true, false, _&&_}
 use mathlib.Core.List.{List}
 use mathlib.Core.Path.{_≡_, refl, sym, _∙_}
-use Prim.Native.Nat.{ℕ, zero, suc, _+_, _%_, _<_, _≤_, min}
+use Prim.Native.Nat.{ℕ, zero, suc, _+_, _≤_}
 use native.Mathlib.Omega.{arith}
 use borrow.Author.Tests.{leb-true, lt-leb, eqb-true, eq-eqb}
 use lib.Dec.{eqb, leb}
 use Rattle.arith.specs.Bytes.{u32At}
-use Rattle.riff.specs.Chunks.{listName, typeAt, sizeAt, bodyEnd, leastSize, isWhole, isNamed, nextAt, stopFrom, firstFrom, stopAt, firstAt}
+use Rattle.riff.specs.Chunks.{listName, typeAt, sizeAt, leastSize, isWhole, isNamed, nextAt, stopFrom, firstFrom, stopAt, firstAt}
 
 -- both tests of a conjunction
 pub both : (p q : Bool) → p && q ≡ true → (p ≡ true) × (q ≡ true)

@@ -1,13 +1,12 @@
 -- Files computed by the definition, and a file that was written from its parts.
-use mathlib.Core.List.{List, [], _∷_, _++_}
+use mathlib.Core.List.{List, [], _∷_}
 use mathlib.Core.Path.{_≡_, refl}
-use Prim.Native.Nat.{ℕ}
 use native.Mathlib.Omega.{arith}
 use lib.Dec.{lit<}
 use Rattle.arith.specs.Bytes.{u8At, u32At}
-use Rattle.riff.specs.Chunks.{sizeAt, bodyEnd, leastSize, typeAt, isWhole, isNamed, nextAt, stopFrom, firstFrom, stopAt, firstAt}
+use Rattle.riff.specs.Chunks.{leastSize, typeAt, isWhole, isNamed, nextAt, stopFrom, firstFrom, stopAt, firstAt}
 use Rattle.riff.specs.Form.{bankType, dataType, samplesName, refusedBy, listBody, chunkBody, bankAt, dataAt, dataSpan, samplesAt, foundIn, findOf}
-use Rattle.riff.specs.Written.{fourLowFirst, Chunk, padOf, chunkBytes, chunksBytes, listOf, fileOf, Written}
+use Rattle.riff.specs.Written.{fourLowFirst, Chunk, padOf, chunkBytes, chunksBytes, listOf, Written}
 
 -- INFO, sdta with three bytes of samples, pdta with three bytes and no pad byte at the form's end
 pub sound : findOf (82 ∷ 73 ∷ 70 ∷ 70 ∷ 55 ∷ 0 ∷ 0 ∷ 0 ∷ 115 ∷ 102 ∷ 98 ∷ 107 ∷ 76 ∷ 73 ∷ 83 ∷ 84 ∷ 4 ∷ 0 ∷ 0 ∷ 0 ∷ 73 ∷ 78 ∷ 70 ∷ 79 ∷ 76 ∷ 73 ∷ 83 ∷ 84 ∷ 16 ∷ 0 ∷ 0 ∷ 0 ∷ 115 ∷ 100 ∷ 116 ∷ 97 ∷ 115 ∷ 109 ∷ 112 ∷ 108 ∷ 3 ∷ 0 ∷ 0 ∷ 0 ∷ 1 ∷ 2 ∷ 3 ∷ 0 ∷ 76 ∷ 73 ∷ 83 ∷ 84 ∷ 7 ∷ 0 ∷ 0 ∷ 0 ∷ 112 ∷ 100 ∷ 116 ∷ 97 ∷ 9 ∷ 8 ∷ 7 ∷ []) ≡ record { number = 0; place = 0; bank = record { at = 60; size = 3 }; samples = record { at = 44; size = 3 } }

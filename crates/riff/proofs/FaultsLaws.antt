@@ -1,8 +1,7 @@
 -- Each refusal is of the first fault, and each first fault is refused.
-use mathlib.Core.Bool.{Bool, true, false}
 use mathlib.Core.List.{List}
 use mathlib.Core.Logic.{_⊎_, inl, inr, ⊎-elim}
-use mathlib.Core.Path.{_≡_, refl, sym, _∙_, ap}
+use mathlib.Core.Path.{_≡_, refl, _∙_, ap}
 use Prim.Native.Nat.{ℕ, _+_, _<_, _≤_}
 use native.Mathlib.Omega.{arith}
 use borrow.Author.Tests.{eqb-true, eqb-false, leb-true, leb-false}
@@ -11,9 +10,9 @@ use lib.ListN.{length}
 use Rattle.arith.specs.Bytes.{u32At}
 use Rattle.riff.specs.declared.Found.{Found}
 use Rattle.riff.specs.declared.form.Span.{Span}
-use Rattle.riff.specs.Chunks.{listName, sizeAt, bodyEnd, stopAt, firstAt}
+use Rattle.riff.specs.Chunks.{listName, bodyEnd, stopAt, firstAt}
 use Rattle.riff.specs.Form.{riffName, fontType, bankType, dataType, samplesName, refusedBy, listBody, chunkBody, bankAt, dataAt, dataSpan, samplesAt, foundIn, findOf}
-use Rattle.riff.specs.Faults.{WholeChunk, Broken, Stands, FirstOf, NoneOf, IsList, IsSamples, Formed, Amiss, no-riff, no-font, no-form, in-form, in-data, no-bank, no-data, no-samples, FirstFault, RefusalIsFirst, FirstIsRefused, FoundNotAmiss, NotAmissFound}
+use Rattle.riff.specs.Faults.{Broken, FirstOf, NoneOf, IsList, IsSamples, Formed, Amiss, no-riff, no-font, no-form, in-form, in-data, no-bank, no-data, no-samples, FirstFault, RefusalIsFirst, FirstIsRefused, FoundNotAmiss, NotAmissFound}
 use Rattle.riff.proofs.ChunksLaws
 use Rattle.riff.proofs.FormLaws
 use Rattle.riff.proofs.WalkLaws
@@ -33,6 +32,18 @@ pub record Sound (b : List ℕ) : Type 0 where
   pub form : (at : ℕ) → Broken b (bodyEnd b 0) 12 at → ⊥
   pub data-list : (d at : ℕ) → Data b d → Broken b (bodyEnd b d) (d + 12) at → ⊥
 
+-- why a file is found, and with which parts: its sdta list d, the samples s in it, its pdta list p
+pub record Facts (b : List ℕ) : Type 0 where
+  pub good : Good b
+  pub sound : Sound b
+  pub d : ℕ
+  pub s : ℕ
+  pub p : ℕ
+  pub data-is : Data b d
+  pub samples-are : FirstOf b (bodyEnd b d) (d + 12) (IsSamples b) s
+  pub bank-is : FirstOf b (bodyEnd b 0) 12 (IsList b bankType) p
+  pub is : findOf b ≡ record { number = 0; place = 0; bank = listBody b p; samples = chunkBody b s }
+
 -- what became of a file, and why
 pub data Outcome (b : List ℕ) : Type 0 where
   other : (u32At b 0 ≡ riffName → ⊥) → findOf b ≡ refusedBy 40 0 → Outcome b
@@ -46,9 +57,7 @@ pub data Outcome (b : List ℕ) : Type 0 where
   bankless :
       Good b → Sound b → (d s : ℕ) → Data b d → FirstOf b (bodyEnd b d) (d + 12) (IsSamples b) s → NoneOf b (bodyEnd b 0) 12 (IsList b bankType)
       → findOf b ≡ refusedBy 42 (bodyEnd b 0) → Outcome b
-  found :
-      Good b → Sound b → (d s p : ℕ) → Data b d → FirstOf b (bodyEnd b d) (d + 12) (IsSamples b) s → FirstOf b (bodyEnd b 0) 12 (IsList b bankType) p
-      → findOf b ≡ record { number = 0; place = 0; bank = listBody b p; samples = chunkBody b s } → Outcome b
+  found : Facts b → Outcome b
 
 -- there is one first of a kind
 pub same-first : {b : List ℕ} {end from : ℕ} {Is : ℕ → Type 0} (one two : ℕ) → FirstOf b end from Is one → FirstOf b end from Is two → one ≡ two
@@ -223,8 +232,17 @@ module _ (b : List ℕ) (good : Good b) where
         bankless good sound d p f g (WalkLaws.found-none b end listName bankType 12 (IsList b bankType) (WalkLaws.list-to b bankType) (WalkLaws.list-of b bankType) m)
         (is ∙ FormLaws.in-bankless b end s inner outer n m))
         (λ u. let m = eqb-false q end u in
-        found good sound d p q f g (WalkLaws.found-first b end listName bankType 12 (IsList b bankType) (WalkLaws.list-to b bankType) (WalkLaws.list-of b bankType) m)
-        (is ∙ FormLaws.in-found b end s inner outer n m)))
+        found (record {
+          good = good;
+          sound = sound;
+          d = d;
+          s = p;
+          p = q;
+          data-is = f;
+          samples-are = g;
+          bank-is = WalkLaws.found-first b end listName bankType 12 (IsList b bankType) (WalkLaws.list-to b bankType) (WalkLaws.list-of b bankType) m;
+          is = is ∙ FormLaws.in-found b end s inner outer n m;
+        })))
 
     -- there is an sdta list
     pub with-data : Outcome b
@@ -299,25 +317,31 @@ refusal-is-first b h = go (outcome b)
         by e (record { wrong = no-data (g .formed) n; before = λ m p w. missing-first b g m p s (λ d f t. n d (f .stands)) w })
     go (bankless g s d k f i n e) =
         by e (record { wrong = no-bank (g .formed) n; before = λ m p w. missing-first b g m p s (not-silent b g d k f i) w })
-    go (found g s d k q f i j e) = absurd (h (ap (λ (x : Found). x .number) e))
+    go (found f) = absurd (h (ap (λ (x : Found). x .number) (f .is)))
 
-pub found-not-amiss : FoundNotAmiss
+-- a file with the number 0
+pub found-facts : (b : List ℕ) → findOf b .number ≡ 0 → Facts b
 unfolding refusedBy
-found-not-amiss b n p z w = go (outcome b)
+found-facts b z = go (outcome b)
   where
     no : (m q : ℕ) → 40 ≤ m → findOf b ≡ refusedBy m q → ⊥
     no m q h e = omega (arith, z, ap (λ (x : Found). x .number) e)
 
-    go : Outcome b → ⊥
-    go (other n e) = no 40 0 (omega arith) e
-    go (other-type r n e) = no 40 8 (omega arith) e
-    go (unformed r f n e) = no 41 0 (omega arith) e
-    go (broken-data g d at f k e) = no 41 at (omega arith) e
-    go (broken-form g s at k e) = no 41 at (omega arith) e
-    go (silent g s d f n e) = no 42 (bodyEnd b d) (omega arith) e
-    go (dataless g s n e) = no 42 (bodyEnd b 0) (omega arith) e
-    go (bankless g s d k f i n e) = no 42 (bodyEnd b 0) (omega arith) e
-    go (found g s d k q f i j e) = found-fine b g d k q n p s f i j w
+    go : Outcome b → Facts b
+    go (other n e) = absurd (no 40 0 (omega arith) e)
+    go (other-type r n e) = absurd (no 40 8 (omega arith) e)
+    go (unformed r f n e) = absurd (no 41 0 (omega arith) e)
+    go (broken-data g d at f k e) = absurd (no 41 at (omega arith) e)
+    go (broken-form g s at k e) = absurd (no 41 at (omega arith) e)
+    go (silent g s d f n e) = absurd (no 42 (bodyEnd b d) (omega arith) e)
+    go (dataless g s n e) = absurd (no 42 (bodyEnd b 0) (omega arith) e)
+    go (bankless g s d k f i n e) = absurd (no 42 (bodyEnd b 0) (omega arith) e)
+    go (found f) = f
+
+pub found-not-amiss : FoundNotAmiss
+found-not-amiss b n p z w =
+    let f = found-facts b z in
+    found-fine b (f .good) (f .d) (f .s) (f .p) n p (f .sound) (f .data-is) (f .samples-are) (f .bank-is) w
 
 pub not-amiss-found : NotAmissFound
 not-amiss-found b h =

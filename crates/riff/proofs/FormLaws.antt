@@ -1,17 +1,15 @@
 -- The form, test by test.
-use mathlib.Core.Bool.{Bool, true, false, cond}
 use mathlib.Core.List.{List}
-use mathlib.Core.Path.{_≡_, refl, sym, _∙_}
+use mathlib.Core.Path.{_≡_, refl}
 use Prim.Native.Nat.{ℕ, _+_, _<_, _≤_}
 use native.Mathlib.Omega.{arith}
 use borrow.Author.Tests.{lt-ltb, le-ltb, eq-eqb, ne-eqb, eqb-true, eqb-false}
-use lib.Dec.{eqb, ltb}
+use lib.Dec.{eqb}
 use lib.ListN.{length}
 use Rattle.arith.specs.Bytes.{u32At}
-use Rattle.riff.specs.declared.Found.{Found}
 use Rattle.riff.specs.declared.form.Span.{Span}
-use Rattle.riff.specs.Chunks.{listName, sizeAt, bodyEnd, stopAt, firstAt}
-use Rattle.riff.specs.Form.{riffName, fontType, bankType, dataType, samplesName, refusedBy, listBody, chunkBody, bankAt, dataAt, dataSpan, samplesAt, foundIn, findOf}
+use Rattle.riff.specs.Chunks.{listName, sizeAt, bodyEnd, stopAt}
+use Rattle.riff.specs.Form.{riffName, fontType, bankType, dataType, refusedBy, listBody, chunkBody, bankAt, dataAt, dataSpan, samplesAt, foundIn, findOf}
 use Rattle.riff.proofs.ChunksLaws.{whole-in, by-test, Hit, hit, list-typed}
 
 module _ (b : List ℕ) (end : ℕ) where

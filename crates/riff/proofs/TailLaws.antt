@@ -1,14 +1,13 @@
 -- Bytes behind the form change nothing.
-use mathlib.Core.Bool.{Bool, true, false, cond}
+use mathlib.Core.Bool.{true}
 use mathlib.Core.List.{List, _++_}
-use mathlib.Core.Path.{_≡_, refl, sym, _∙_, ap}
-use Prim.Native.Nat.{ℕ, zero, suc, _+_, _<_, _≤_}
+use mathlib.Core.Path.{_≡_, refl}
+use Prim.Native.Nat.{ℕ, zero, suc, _+_, _≤_}
 use native.Mathlib.Omega.{arith}
-use borrow.Author.Tests.{leb-true, leb-false, lt-leb, le-ltb, eqb-true, eqb-false}
-use lib.Dec.{eqb, leb, ltb}
+use borrow.Author.Tests.{leb-true, leb-false, lt-leb, le-ltb, eqb-false}
+use lib.Dec.{eqb, leb}
 use lib.ListN.{length, length-append, List·getD-append}
 use Rattle.arith.specs.Bytes.{u8At, u32At}
-use Rattle.riff.specs.declared.Found.{Found}
 use Rattle.riff.specs.declared.form.Span.{Span}
 use Rattle.riff.specs.Chunks.{listName, sizeAt, bodyEnd, leastSize, typeAt, isWhole, isNamed, nextAt, stopFrom, firstFrom, stopAt, firstAt}
 use Rattle.riff.specs.Form.{listBody, chunkBody, bankType, dataType, samplesName, bankAt, dataAt, dataSpan, samplesAt, foundIn, findOf}

@@ -1,14 +1,14 @@
 -- Walks: the places that a walk reaches, where it stops, and what a search finds among them.
-use mathlib.Core.Bool.{Bool, true, false}
+use mathlib.Core.Bool.{true, false}
 use mathlib.Core.List.{List}
 use mathlib.Core.Logic.{_⊎_, inl, inr, ⊎-elim}
 use mathlib.Core.Path.{_≡_, refl, sym, _∙_}
 use Prim.Native.Nat.{ℕ, zero, suc, _+_, _<_, _≤_}
 use native.Mathlib.Omega.{arith}
-use borrow.Author.Tests.{le-leb, eq-eqb, ne-eqb, eqb-true, eqb-false}
-use lib.Dec.{eqb, leb}
+use borrow.Author.Tests.{le-leb, eq-eqb, eqb-true, eqb-false}
+use lib.Dec.{eqb}
 use Rattle.arith.specs.Bytes.{u32At}
-use Rattle.riff.specs.Chunks.{listName, sizeAt, bodyEnd, leastSize, typeAt, isWhole, isNamed, nextAt, stopFrom, stopAt, firstFrom, firstAt}
+use Rattle.riff.specs.Chunks.{listName, leastSize, typeAt, isWhole, isNamed, nextAt, stopFrom, stopAt, firstFrom, firstAt}
 use Rattle.riff.specs.Form.{samplesName}
 use Rattle.riff.specs.Faults.{WholeChunk, Walked, at-start, behind-whole, Broken, Stands, FirstOf, IsList, IsSamples}
 use Rattle.riff.proofs.ChunksLaws

@@ -1,19 +1,18 @@
 -- A file that was written from its parts is found with them.
-use mathlib.Core.Bool.{Bool, true, false, cond}
+use mathlib.Core.Bool.{true, false}
 use mathlib.Core.List.{List, [], _∷_, _++_, append-assoc, append-nil}
 use mathlib.Core.Path.{_≡_, refl, sym, _∙_, ap}
-use Prim.Native.Nat.{ℕ, zero, suc, _+_, _-_, _*_, _/_, _%_, _<_, _≤_}
+use Prim.Native.Nat.{ℕ, _+_, _-_, _*_, _/_, _%_, _<_, _≤_}
 use native.Mathlib.Nat.{div-add-mod', div-div-eq-div-mul, mod-eq-of-lt}
 use native.Mathlib.Omega.{arith}
-use borrow.Author.Tests.{le-leb, eq-eqb, ne-eqb, eqb-true, eqb-false}
+use borrow.Author.Tests.{eqb-true, eqb-false}
 use lib.Dec.{eqb, lit<}
 use lib.ListN.{length, take, drop, getD, length-append, List·getD-append}
 use lib.Seq.{getD-append-add, take-at, drop-at}
 use Rattle.arith.specs.Bytes.{u8At, u32At}
-use Rattle.riff.specs.Chunks.{listName, sizeAt, bodyEnd, isWhole, isNamed, nextAt, stopAt, firstAt}
+use Rattle.riff.specs.Chunks.{listName, sizeAt, isWhole, isNamed, nextAt, stopAt, firstAt}
 use Rattle.riff.specs.declared.form.Span.{Span}
 use Rattle.riff.specs.Form.{riffName, fontType, bankType, dataType, samplesName, listBody, chunkBody, bankAt, dataAt, dataSpan, samplesAt, foundIn, findOf}
-use Rattle.riff.specs.Faults.{WholeChunk}
 use Rattle.riff.specs.Written.{fourLowFirst, Chunk, padOf, chunkBytes, chunksBytes, listOf, fileOf, GoodChunks, NoneIs, OfType, Sampled, Among, Written, bankPart, samplesPart, WrittenIsFound, PartsAsWritten}
 use Rattle.riff.proofs.ChunksLaws
 use Rattle.riff.proofs.FormLaws

@@ -3,7 +3,6 @@ use mathlib.Core.List.{List, _++_}
 use mathlib.Core.Path.{_≡_}
 use Prim.Native.Nat.{ℕ, _+_, _≤_}
 use lib.ListN.{length}
-use Rattle.arith.specs.Bytes.{u32At}
 use Rattle.riff.specs.declared.Part.{Part}
 use Rattle.riff.specs.Form.{bankType, dataType, findOf}
 use Rattle.riff.specs.Chunks.{bodyEnd}

@@ -1,7 +1,7 @@
 -- `is_whole` meets its contract.
-use mathlib.Core.Path.{_≡_, refl, sym, _∙_}
-use borrow.Author.Tests.{lt-ltb, le-ltb, le-leb, lt-leb, eq-eqb, ne-eqb}
-use Rattle.riff.specs.Chunks.{isWhole, bodyEnd}
+use mathlib.Core.Path.{refl}
+use borrow.Author.Tests.{le-leb, lt-leb}
+use Rattle.riff.specs.Chunks.{isWhole}
 use borrow.Author.Needs.{needs}
 use Rattle.riff.proofs.chunks.is_whole.Statement.{statement}
 use Rattle.riff.proofs.chunks.is_whole.Tie as tie

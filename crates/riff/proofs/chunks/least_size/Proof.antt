@@ -1,6 +1,6 @@
 -- `least_size` meets its contract.
-use mathlib.Core.Path.{_≡_, refl, sym, _∙_}
-use borrow.Author.Tests.{lt-ltb, le-ltb, le-leb, lt-leb, eq-eqb, ne-eqb}
+use mathlib.Core.Path.{refl, sym, _∙_}
+use borrow.Author.Tests.{eq-eqb, ne-eqb}
 use Rattle.riff.specs.Chunks.{leastSize}
 use borrow.Author.Needs.{needs}
 use Rattle.riff.proofs.chunks.least_size.Statement.{statement}

@@ -1,6 +1,6 @@
 -- `next_at` meets its contract.
 use native.Mathlib.Omega.{arith}
-use Rattle.riff.specs.Chunks.{nextAt, bodyEnd}
+use Rattle.riff.specs.Chunks.{nextAt}
 use borrow.Author.Needs.{needs}
 use Rattle.riff.proofs.chunks.next_at.Statement.{statement}
 use Rattle.riff.proofs.chunks.next_at.Tie as tie

@@ -1,7 +1,6 @@
 -- `data_span` meets its contract.
-use mathlib.Core.Path.{_≡_, refl, sym, _∙_}
+use mathlib.Core.Path.{refl, sym, _∙_}
 use Rattle.riff.specs.Form.{dataAt}
-use Rattle.riff.specs.Chunks.{bodyEnd}
 use Rattle.riff.proofs.FormLaws.{span-none, span-some}
 use borrow.Author.Needs.{needs}
 use Rattle.riff.proofs.form.data_span.Statement.{statement}

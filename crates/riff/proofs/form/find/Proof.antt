@@ -1,7 +1,5 @@
 -- `find` meets its contract.
-use mathlib.Core.Path.{_≡_, refl, sym, _∙_}
-use native.Mathlib.Omega.{arith}
-use Rattle.riff.specs.Chunks.{bodyEnd}
+use mathlib.Core.Path.{sym, _∙_}
 use Rattle.riff.proofs.FormLaws.{find-other, find-other-type, find-untyped, find-long, find-form}
 use borrow.Author.Needs.{needs}
 use Rattle.riff.proofs.form.find.Statement.{statement}

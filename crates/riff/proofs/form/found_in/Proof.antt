@@ -1,8 +1,7 @@
 -- `found_in` meets its contract.
-use mathlib.Core.Path.{_≡_, refl, sym, _∙_}
+use mathlib.Core.Path.{sym, _∙_}
 use native.Mathlib.Omega.{arith}
 use Rattle.riff.specs.Form.{bankAt, samplesAt, bankType}
-use Rattle.riff.specs.Chunks.{listName}
 use Rattle.riff.proofs.ChunksLaws.{list-typed}
 use Rattle.riff.proofs.FormLaws.{span-in, bank-hit, in-broken, in-form-broken, in-silent, in-bankless, in-found}
 use borrow.Author.Needs.{needs}
