@@ -4,7 +4,7 @@ ghost use Prim.Native.Nat.{_≤_, _<_};
 ghost use Rattle.riff.specs.Chunks.{sizeAt, leastSize, typeAt, isWhole, isNamed, nextAt, stopAt, firstAt};
 
 // LIST as a number, the low byte first.
-const LIST: u32 = 1414744396;
+pub const LIST: u32 = 1414744396;
 
 // The size that a chunk says.
 pub fn size_at(b: &[u8], at: usize) -> usize

@@ -6,13 +6,12 @@ ghost use Rattle.riff.specs.Form.{refusedBy, listBody, chunkBody, dataSp
 use crate::Found;
 use crate::Part;
 use crate::chunks;
+use crate::chunks::LIST;
 
 // Names and types as numbers, the low byte first.
 const RIFF: u32 = 1179011410;
 
 const SFBK: u32 = 1801610867;
-
-const LIST: u32 = 1414744396;
 
 const PDTA: u32 = 1635017840;
 
