@@ -53,7 +53,7 @@ fn answer<'a>(
 }
 
 // The player with the engine that a call of it has left.
-fn called(p: Player, a: Answered) -> Called {
+fn put_back(p: Player, a: Answered) -> Called {
     let after = a.engine;
     Called {
         number: a.status,
@@ -107,7 +107,7 @@ pub fn call<'a>(
         b'H' => made(player::stop(p)),
         _ => {
             let e = p.engine;
-            called(p, answer(bank, ram, rom, lent, c, e))
+            put_back(p, answer(bank, ram, rom, lent, c, e))
         }
     }
 }
