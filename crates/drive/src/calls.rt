@@ -29,8 +29,9 @@ pub fn call<'a>(
 ) -> Played {
     let a = ringer::call(bank, song, ram, rom, tape.lent, c, p);
     if c.letter == b'F' {
+        let after = a.player;
         return Played {
-            player: a.player,
+            player: after,
             at: tape.at,
         };
     }

@@ -30,10 +30,14 @@ fn play<'a>(
     let letter = c.letter;
     match letter {
         b'r' | b'V' => renders::render(bank, song, ram, rom, c, p, tape),
-        _ => Played {
-            player: ringer::call(bank, song, ram, rom, tape.lent, c, p).player,
-            tape: tapes::passed(tape, c),
-        },
+        _ => {
+            let a = ringer::call(bank, song, ram, rom, tape.lent, c, p);
+            let after = a.player;
+            Played {
+                player: after,
+                tape: tapes::passed(tape, c),
+            }
+        }
     }
 }
 
