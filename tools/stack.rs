@@ -56,7 +56,9 @@ fn main() -> ExitCode {
             let painter = std::thread::Builder::new().stack_size(4 * PAINTED);
             let deepest = painter.spawn(move || Player::new(true).play(&case, &trace)).unwrap().join().unwrap();
             println!("the state has {ENGINE_BYTES} bytes, and an answer {ANSWER_BYTES}, both the caller's");
-            println!("a player has {PLAYER_BYTES}, and what start and render of it answer {BEGUN_BYTES} and {TOLD_BYTES}");
+            println!(
+                "a player has {PLAYER_BYTES}, and what start and render of it answer {BEGUN_BYTES} and {TOLD_BYTES}"
+            );
             println!("how far down the calls of all stored cases have written:");
             for (letter, name) in CALLS {
                 println!("{:8} bytes  {name}", deepest.get(&letter).copied().unwrap_or(0));
@@ -160,7 +162,8 @@ impl Player {
     fn new(paint: bool) -> Player {
         let room = || Box::new(Room([0; 4 * ANSWER_BYTES]));
         let (bank, song, ram, rom, deepest) = Default::default();
-        let mut player = Player { paint, player: room(), answer: room(), bank, song, ram, rom, output: vec![0.0; 8_448], deepest };
+        let mut player =
+            Player { paint, player: room(), answer: room(), bank, song, ram, rom, output: vec![0.0; 8_448], deepest };
         player.make('F', &[0; 4]);
         player
     }
