@@ -62,7 +62,7 @@ fn put_back(p: Player, a: Answered) -> Called {
     }
 }
 
-// A player that a call cannot refuse.
+// What a call answers that is never refused and counts nothing.
 fn made(p: Player) -> Called {
     Called {
         number: 0,
