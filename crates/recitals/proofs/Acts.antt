@@ -100,6 +100,27 @@ unfolding freshCalls freshenedTo freshened run numbersOf framesRun
 freshens zero e = no-calls e
 freshens (suc n) e = joined (freshens n e) (record { state = refl; numbers = refl; frames = refl; renders = tt })
 
+pub hush-clock : (n : ℕ) (e : Engine) → hushedTo n e .clock ≡ e .clock
+unfolding hushedTo hushed
+hush-clock zero e = refl
+hush-clock (suc n) e = control-clock (e .clock) n 123 0 _ (control-clock (e .clock) n 64 0 _ (hush-clock n e))
+
+pub freshen-clock : (n : ℕ) (e : Engine) → freshenedTo n e .clock ≡ e .clock
+unfolding freshenedTo freshened
+freshen-clock zero e = refl
+freshen-clock (suc n) e =
+    let t = e .clock in
+    control-clock t n 11 127 _
+    (control-clock t n 7 100 _ (bend-clock t n 8192 _ (program-clock t n 0 _ (control-clock t n 0 0 _ (freshen-clock n e)))))
+
+-- what comes next does not touch the engine
+pub cued-engine : (p : Player) (h : Handed) → cued p h .engine ≡ p .engine
+cued-engine p h = by (h .offer)
+  where
+    by : (o : Offer) → coming p (h .cursor) o .engine ≡ p .engine
+    by Offer.End = refl
+    by (Offer.Given v) = refl
+
 module _ (ram rom : List ℤ) where
   -- calls that render nothing, keep the clock, and take no window past its memory
   pub record Acts (e : Engine) (cs : List Call) (y : Engine) : Type 0 where
@@ -133,14 +154,6 @@ module _ (ram rom : List ℤ) where
       (pick e (eqb (kindOf v) 14) _ _ _ _
       (record { leads = record { state = refl; numbers = refl; frames = refl; renders = tt }; clock = bend-clock (e .clock) _ _ e refl; clear = clear-call ram rom (Calls.Bend _ _) e (λ u a. absurd a) })
       (no-act e)))))
-
-  -- what comes next does not touch the engine
-  pub cued-engine : (p : Player) (h : Handed) → cued p h .engine ≡ p .engine
-  cued-engine p h = by (h .offer)
-    where
-      by : (o : Offer) → coming p (h .cursor) o .engine ≡ p .engine
-      by Offer.End = refl
-      by (Offer.Given v) = refl
 
   module _ (song bank : List ℕ) where
     -- one event applied
@@ -219,7 +232,7 @@ module _ (ram rom : List ℤ) where
         let f = frame-leads (y .player .engine) k d in
         let t = frame-clock (y .player .engine) in
         let r = frames-go n (forward ram rom 1 y) (omega (arith, t)) (frame-clear (y .player .engine) k d) in
-        record { leads = recount (omega arith) (joined (q .leads) (joined f (r .leads))); clock = later (x .player .engine) (y .player .engine) _ _ n (q .clock) t (r .clock); clear = r .clear }
+        record { leads = recount (omega arith) (joined (q .leads) (joined f (r .leads))); clock = later (x .player .engine .clock) (y .player .engine .clock) (moved ram rom 1 (y .player .engine) .clock) (after song bank ram rom n (forward ram rom 1 y) .player .engine .clock) n (q .clock) t (r .clock); clear = r .clear }
       where
-        later : (a b c z : Engine) (m : ℕ) → b .clock ≡ a .clock → c .clock ≡ ahead b 1 → z .clock ≡ ahead c m → z .clock ≡ ahead a (suc m)
+        later : (a b c z m : ℕ) → b ≡ a → c ≡ (b + 1) % 4294967296 → z ≡ (c + m) % 4294967296 → z ≡ (a + suc m) % 4294967296
         later a b c z m h k l = omega arith
