@@ -1,3 +1,4 @@
 pub mod Clocks
 pub mod Acts
 pub mod Turns
+pub mod Cut

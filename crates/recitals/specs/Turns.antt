@@ -59,6 +59,20 @@ framesIn (Direct x) p = framesOf x (p .engine)
 abbrev pub numbersIn : Turn → Player → List Float
 numbersIn x p = take (2 * framesIn x p) (writtenIn x p)
 
+-- how many events it applies
+abbrev pub appliedIn : Turn → Player → ℕ
+appliedIn (Start song) p = 0
+appliedIn Stop p = 0
+appliedIn (Play song bank ram rom to out) p = answered song bank ram rom to (length out) p .applied
+appliedIn (Direct x) p = 0
+
+-- and how many of these are refused
+abbrev pub refusedIn : Turn → Player → ℕ
+refusedIn (Start song) p = 0
+refusedIn Stop p = 0
+refusedIn (Play song bank ram rom to out) p = answered song bank ram rom to (length out) p .refused
+refusedIn (Direct x) p = 0
+
 -- ---- the engine's calls that a turn is
 
 -- the first n channels let go, in order: control 64 with 0, and then control 123
@@ -153,6 +167,16 @@ numbersTurns (x ∷ xs) p = numbersIn x p ++ numbersTurns xs (nextTurn x p)
 unfoldable pub framesTurns : List Turn → Player → ℕ
 framesTurns [] p = 0
 framesTurns (x ∷ xs) p = framesIn x p + framesTurns xs (nextTurn x p)
+
+-- the events that it applies
+unfoldable pub appliedTurns : List Turn → Player → ℕ
+appliedTurns [] p = 0
+appliedTurns (x ∷ xs) p = appliedIn x p + appliedTurns xs (nextTurn x p)
+
+-- and the refused ones among them
+unfoldable pub refusedTurns : List Turn → Player → ℕ
+refusedTurns [] p = 0
+refusedTurns (x ∷ xs) p = refusedIn x p + refusedTurns xs (nextTurn x p)
 
 -- all its calls of the engine
 unfoldable pub callsTurns : List Turn → Player → List Call
