@@ -1,0 +1,2 @@
+pub mod CuesLaws
+pub mod PlayingLaws

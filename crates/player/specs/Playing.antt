@@ -7,7 +7,6 @@ use lib.Ieee.{Float}
 use lib.IntN.{ℤ}
 use lib.ListN.{length, drop}
 use Rattle.smf.specs.Songs.{turns, handedOf}
-use Rattle.state.specs.declared.Answered.{Answered}
 use Rattle.state.specs.declared.Engine.{Engine}
 use Rattle.state.specs.Slots.{withClock}
 use Rattle.engine.specs.Rendering.{distance, renderNumber, output, played}
@@ -20,6 +19,10 @@ use Rattle.player.specs.Cues.{withEngine, cued, isDue}
 -- no event is applied yet
 abbrev pub opened : Player → Tally
 opened p = record { player = p; applied = 0; refused = 0 }
+
+-- a done render's answer
+abbrev pub reported : Tally → Answer
+reported x = record { number = 0; applied = x .applied; refused = x .refused; player = x .player }
 
 -- 1 where a call was refused
 abbrev pub refusal : ℕ → ℕ
@@ -36,14 +39,10 @@ forward ram rom n x =
     record { player = withEngine (x .player) (moved ram rom n (x .player .engine)); applied = x .applied; refused = x .refused }
 
 module _ (song bank : List ℕ) (ram rom : List ℤ) where
-  -- what the event that comes next does to the engine
-  abbrev pub deed : Player → Answered
-  deed p = heeded bank ram rom (p .event) (p .engine)
-
   -- that event applied: it acts and is counted, and the one behind it, in the song that is lent, comes next
   unfoldable pub applying : Tally → Tally
   applying x =
-      let a = deed (x .player) in
+      let a = heeded bank ram rom (x .player .event) (x .player .engine) in
       record {
         player = cued (withEngine (x .player) (a .engine)) (handedOf song (x .player .cursor));
         applied = x .applied + 1;
@@ -69,15 +68,11 @@ module _ (song bank : List ℕ) (ram rom : List ℤ) where
   numbers zero x = []
   numbers (suc n) x = output ram rom (prepared x .player .engine) 1 ++ numbers n (forward ram rom 1 (prepared x))
 
-  -- a done render's answer
-  abbrev pub done : Tally → Answer
-  done x = record { number = 0; applied = x .applied; refused = x .refused; player = x .player }
-
   -- render: its tests are the engine's, at its start; refused, nothing is applied and nothing changes
   unfoldable pub answered : ℕ → ℕ → Player → Answer
   answered to room p =
       cond (eqb (renderNumber to ram rom room (p .engine)) 0)
-      (done (after (distance (p .engine) to) (opened p)))
+      (reported (after (distance (p .engine) to) (opened p)))
       (record { number = renderNumber to ram rom room (p .engine); applied = 0; refused = 0; player = p })
 
   -- and all of the lent output: done, its first 2n numbers are written and no other; refused, none

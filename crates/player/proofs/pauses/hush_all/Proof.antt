@@ -1,0 +1,40 @@
+use Rattle.player.proofs.pauses.hush_all.Statement.{statement}
+use Rattle.player.proofs.pauses.hush_all.Tie as tie
+use Rattle.player.proofs.pauses.hush_all.Reads as reads
+use Rattle.player.proofs.pauses.hush_all.Lts as lts
+use Rattle.player.proofs.pauses.hush.Reads as hush-reads
+
+abbrev Inv-loop : tie.InvT-loop
+Inv-loop x₀ channel₀ x channel = ?
+
+abbrev μ-loop : tie.MeasureT-loop
+μ-loop x₀ channel₀ x channel = ?
+
+-- src/pauses.rt:26:5
+loop-holds : tie.Need-loop-holds Inv-loop μ-loop
+loop-holds c = ?
+
+-- src/pauses.rt:27:9
+hush-requires : tie.Need-hush-requires Inv-loop μ-loop
+hush-requires c κs = ?
+
+-- src/pauses.rt:28:19
+add-channel : tie.Need-add-channel Inv-loop μ-loop
+add-channel c = ?
+
+-- src/pauses.rt:26:5
+loop-less : tie.Need-loop-less Inv-loop μ-loop
+loop-less c = ?
+
+-- src/pauses.rt:26:5
+loop-again : tie.Need-loop-again Inv-loop μ-loop
+loop-again c = ?
+
+-- src/pauses.rt:21:1
+returns : tie.Need-returns Inv-loop μ-loop
+returns c = ?
+
+pub hush-all-spec : {M : Type 1} → statement M
+hush-all-spec =
+    tie.close
+    (tie.spec Inv-loop μ-loop loop-holds hush-requires add-channel loop-less loop-again returns)
