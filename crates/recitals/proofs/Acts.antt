@@ -23,7 +23,7 @@ use Rattle.player.specs.declared.Tally.{Tally}
 use Rattle.player.specs.Acting.{heeded, kindOf}
 use Rattle.player.specs.Cues.{withEngine, coming, cued, isDue}
 use Rattle.player.specs.Pauses.{hushed, hushedTo, freshened, freshenedTo}
-use Rattle.player.specs.Playing.{moved, forward, deed, applying, caughtUp, prepared, after, numbers}
+use Rattle.player.specs.Playing.{moved, forward, applying, caughtUp, prepared, after, numbers}
 use Rattle.promises.specs.Calls.{Call, does, next, run, written, framesOf, framesRun}
 use Rattle.promises.specs.Cuts.{ahead, numbersOf}
 use Rattle.promises.proofs.Cuts.{done-frames, done-numbers}
@@ -160,7 +160,7 @@ module _ (ram rom : List ℤ) where
     pub applying-acts : (x : Tally) → Acts (x .player .engine) (callOf bank ram rom (x .player .event)) (applying song bank ram rom x .player .engine)
     unfolding applying
     applying-acts x =
-        let a = deed song bank ram rom (x .player) in
+        let a = heeded bank ram rom (x .player .event) (x .player .engine) in
         subst (Acts (x .player .engine) (callOf bank ram rom (x .player .event)))
         (sym (cued-engine (withEngine (x .player) (a .engine)) (handedOf song (x .player .cursor))))
         (event-acts bank (x .player .event) (x .player .engine))

@@ -17,8 +17,9 @@ use Rattle.smf.specs.Songs.{turns}
 use Rattle.player.specs.declared.Answer.{Answer}
 use Rattle.player.specs.declared.Player.{Player}
 use Rattle.player.specs.declared.Tally.{Tally}
+use Rattle.player.specs.Acting.{heeded}
 use Rattle.player.specs.Cues.{isDue}
-use Rattle.player.specs.Playing.{refusal, opened, forward, deed, applying, caughtUp, prepared, after, numbers, answered}
+use Rattle.player.specs.Playing.{refusal, opened, forward, applying, caughtUp, prepared, after, numbers, answered}
 use Rattle.promises.specs.Cuts.{ahead, together}
 use Rattle.promises.proofs.Demand1.{render-numbers}
 use Rattle.recitals.specs.Turns.{Turn, Start, Stop, Play, Direct, nextTurn, framesIn, numbersIn, appliedIn, refusedIn, writtenIn, runTurns, numbersTurns, appliedTurns, refusedTurns}
@@ -43,7 +44,7 @@ module _ (song bank : List ℕ) (ram rom : List ℤ) where
   unfolding applying
   applying-more a r x =
       ap₂ (λ (m n : ℕ). record { player = applying song bank ram rom x .player; applied = m; refused = n })
-      (add-assoc a (x .applied) 1) (add-assoc r (x .refused) (refusal (deed song bank ram rom (x .player) .status)))
+      (add-assoc a (x .applied) 1) (add-assoc r (x .refused) (refusal (heeded bank ram rom (x .player .event) (x .player .engine) .status)))
 
   caught-more : (n a r : ℕ) (x : Tally) → caughtUp song bank ram rom n (more a r x) ≡ more a r (caughtUp song bank ram rom n x)
   unfolding caughtUp
