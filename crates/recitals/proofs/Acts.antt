@@ -84,9 +84,16 @@ joined {e} {y} {z} {cs} {ds} {os} {qs} {f} {g} a b =
       renders = renders-append cs ds e (a .renders) (subst (RendersDone ds) (a .state) (b .renders));
     }
 
--- the same frames, counted otherwise
-pub recount : {e y : Engine} {cs : List Call} {os : List Float} {f g : ℕ} → g ≡ f → Leads e cs y os f → Leads e cs y os g
-recount q a = record { state = a .state; numbers = a .numbers; frames = q ∙ a .frames; renders = a .renders }
+-- the same, said otherwise
+pub relead : {e y z : Engine} {cs ds : List Call} {os qs : List Float} {f g : ℕ} → Leads e cs y os f → ds ≡ cs → z ≡ y → qs ≡ os → g ≡ f
+    → Leads e ds z qs g
+relead {e} {y} {z} {cs} {ds} l a b c d =
+    record {
+      state = b ∙ l .state ∙ ap (λ (xs : List Call). run xs e) (sym a);
+      numbers = c ∙ l .numbers ∙ ap (λ (xs : List Call). numbersOf xs e) (sym a);
+      frames = d ∙ l .frames ∙ ap (λ (xs : List Call). framesRun xs e) (sym a);
+      renders = subst (λ (xs : List Call). RendersDone xs e) (sym a) (l .renders);
+    }
 
 -- ---- channels
 
@@ -232,7 +239,7 @@ module _ (ram rom : List ℤ) where
         let f = frame-leads (y .player .engine) k d in
         let t = frame-clock (y .player .engine) in
         let r = frames-go n (forward ram rom 1 y) (omega (arith, t)) (frame-clear (y .player .engine) k d) in
-        record { leads = recount (omega arith) (joined (q .leads) (joined f (r .leads))); clock = later (x .player .engine .clock) (y .player .engine .clock) (moved ram rom 1 (y .player .engine) .clock) (after song bank ram rom n (forward ram rom 1 y) .player .engine .clock) n (q .clock) t (r .clock); clear = r .clear }
+        record { leads = relead (joined (q .leads) (joined f (r .leads))) refl refl refl (omega arith); clock = later (x .player .engine .clock) (y .player .engine .clock) (moved ram rom 1 (y .player .engine) .clock) (after song bank ram rom n (forward ram rom 1 y) .player .engine .clock) n (q .clock) t (r .clock); clear = r .clear }
       where
         later : (a b c z m : ℕ) → b ≡ a → c ≡ (b + 1) % 4294967296 → z ≡ (c + m) % 4294967296 → z ≡ (a + suc m) % 4294967296
         later a b c z m h k l = omega arith

@@ -129,11 +129,11 @@ idle-counts (Direct x) p h = (refl, refl)
 
 module _ (song bank : List ℕ) (ram rom : List ℤ) where
   -- what the turns xs give from a player p: those of n frames
-  record Gives (xs : List Turn) (p : Player) (n : ℕ) : Type 0 where
-    player : runTurns xs p ≡ after song bank ram rom n (opened p) .player
-    numbered : numbersTurns xs p ≡ numbers song bank ram rom n (opened p)
-    applied : appliedTurns xs p ≡ after song bank ram rom n (opened p) .applied
-    refused : refusedTurns xs p ≡ after song bank ram rom n (opened p) .refused
+  pub record Gives (xs : List Turn) (p : Player) (n : ℕ) : Type 0 where
+    pub player : runTurns xs p ≡ after song bank ram rom n (opened p) .player
+    pub numbered : numbersTurns xs p ≡ numbers song bank ram rom n (opened p)
+    pub applied : appliedTurns xs p ≡ after song bank ram rom n (opened p) .applied
+    pub refused : refusedTurns xs p ≡ after song bank ram rom n (opened p) .refused
 
   -- a part that is short enough and has room is done
   part-done : (n : ℕ) (out : List Float) (p : Player) → p .engine .clock < 4294967296 → Clear ram rom (p .engine) → n ≤ 4096 → 2 * n ≤ length out
@@ -145,14 +145,12 @@ module _ (song bank : List ℕ) (ram rom : List ℤ) where
       (sym (render-number song bank ram rom (ahead e n) out e) ∙ render-numbers (ahead e n) ram rom out e .done .1 (omega arith, omega arith, of-clear ram rom e c), d)
 
   -- n frames, and t more behind them
-  behind : (n t : ℕ) (x : Turn) (xs : List Turn) (p p' : Player) → nextTurn x p ≡ p' → p' ≡ after song bank ram rom n (opened p) .player
+  pub behind : (n t : ℕ) (x : Turn) (xs : List Turn) (p : Player) → nextTurn x p ≡ after song bank ram rom n (opened p) .player
       → numbersIn x p ≡ numbers song bank ram rom n (opened p) → appliedIn x p ≡ after song bank ram rom n (opened p) .applied
       → refusedIn x p ≡ after song bank ram rom n (opened p) .refused → Gives xs (nextTurn x p) t → Gives (x ∷ xs) p (n + t)
   unfolding runTurns numbersTurns appliedTurns refusedTurns
-  behind n t x xs p p' s q os a r g =
-      let y = after song bank ram rom n (opened p) in
+  behind n t x xs p z os a r g =
       let w = after-two song bank ram rom n t p in
-      let z : nextTurn x p ≡ y .player = s ∙ q in
       record {
         player = g .player ∙ ap (λ (u : Player). after song bank ram rom t (opened u) .player) z ∙ sym (ap (λ (u : Tally). u .player) w);
         numbered =
@@ -166,6 +164,18 @@ module _ (song bank : List ℕ) (ram rom : List ℤ) where
             ∙ sym (ap (λ (u : Tally). u .refused) w);
       }
 
+  -- a turn that changes nothing and renders nothing, in front
+  pub idle-gives : (x : Turn) (xs : List Turn) (p : Player) (n : ℕ) → nextTurn x p ≡ p → framesIn x p ≡ 0 → Gives xs p n → Gives (x ∷ xs) p n
+  unfolding runTurns numbersTurns appliedTurns refusedTurns
+  idle-gives x xs p n s f g =
+      let i = idle-counts x p f in
+      record {
+        player = ap (runTurns xs) s ∙ g .player;
+        numbered = ap (λ (m : ℕ). take (2 * m) (writtenIn x p) ++ numbersTurns xs (nextTurn x p)) f ∙ ap (numbersTurns xs) s ∙ g .numbered;
+        applied = ap₂ (λ (m l : ℕ). m + l) (i .0) (ap (appliedTurns xs) s ∙ g .applied) ∙ zero-add _;
+        refused = ap₂ (λ (m l : ℕ). m + l) (i .1) (ap (refusedTurns xs) s ∙ g .refused) ∙ zero-add _;
+      }
+
   -- any parts
   any-parts : (xs : List Turn) (ns : List ℕ) (p : Player) (q : Parts song bank ram rom xs ns p) → p .engine .clock < 4294967296 → Clear ram rom (p .engine) → together ns ≤ 4096
       → PartsDone q × Gives xs p (together ns)
@@ -173,14 +183,7 @@ module _ (song bank : List ℕ) (ram rom : List ℤ) where
   any-parts [] [] p no-part h c k = (tt, record { player = refl; numbered = refl; applied = refl; refused = refl })
   any-parts (x ∷ xs) ns p (stands y s f q) h c k =
       let g = any-parts xs ns p q h c k in
-      let i = idle-counts x p f in
-      (g .0,
-      record {
-        player = ap (runTurns xs) s ∙ g .1 .player;
-        numbered = ap (λ (m : ℕ). take (2 * m) (writtenIn x p) ++ numbersTurns xs (nextTurn x p)) f ∙ ap (numbersTurns xs) s ∙ g .1 .numbered;
-        applied = ap₂ (λ (m l : ℕ). m + l) (i .0) (ap (appliedTurns xs) s ∙ g .1 .applied) ∙ zero-add _;
-        refused = ap₂ (λ (m l : ℕ). m + l) (i .1) (ap (refusedTurns xs) s ∙ g .1 .refused) ∙ zero-add _;
-      })
+      (g .0, idle-gives x xs p (together ns) s f (g .1))
   any-parts (x ∷ xs) (n ∷ ns) p (part m out room q) h c k =
       let e = p .engine in
       let ok = part-done n out p h c (omega arith) room in
@@ -192,7 +195,7 @@ module _ (song bank : List ℕ) (ram rom : List ℤ) where
       let t : answered song bank ram rom (ahead e n) (length out) p .player .engine .clock < 4294967296 = rw same (omega (arith, f .clock)) in
       let g = any-parts xs ns (nextTurn (Play song bank ram rom (ahead e n) out) p) q t (rw same (f .clear)) (omega arith) in
       ((play-number song bank ram rom (ahead e n) (length out) p ∙ ok .0, g .0),
-      behind n (together ns) (Play song bank ram rom (ahead e n) out) xs p (nextTurn (Play song bank ram rom (ahead e n) out) p) refl same
+      behind n (together ns) (Play song bank ram rom (ahead e n) out) xs p same
       (play-numbers song bank ram rom (ahead e n) out p (ok .0) ∙ ap (λ (m : ℕ). numbers song bank ram rom m (opened p)) (ok .1))
       (ap (λ (a : Answer). a .applied) d ∙ ap (λ (m : ℕ). after song bank ram rom m (opened p) .applied) (ok .1))
       (ap (λ (a : Answer). a .refused) d ∙ ap (λ (m : ℕ). after song bank ram rom m (opened p) .refused) (ok .1))

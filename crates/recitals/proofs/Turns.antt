@@ -32,20 +32,8 @@ use Rattle.promises.proofs.Demand3.{between-always}
 use Rattle.promises.proofs.Output.{out-length, done-state}
 use Rattle.recitals.specs.Turns.{Turn, Start, Stop, Play, Direct, nextTurn, framesIn, numbersIn, hushCalls, freshCalls, frameCalls, callsOf, RendersDone, OwnDone, IsCalls, PlayerIsEngine, runTurns, numbersTurns, framesTurns, callsTurns, InClock, InClocks, IsRun, RunIsRun, PlayerKeepsPromises, PlaceInPlayer}
 use Rattle.recitals.proofs.Clocks.{on-clock, off-clock, control-clock, program-clock, bend-clock, Clear, clear-of}
-use Rattle.recitals.proofs.Acts.{Leads, no-calls, joined, run-append, numbers-append, frames-append, hushes, freshens, hush-clock, freshen-clock, cued-engine, frames-go}
+use Rattle.recitals.proofs.Acts.{Leads, no-calls, joined, relead, run-append, numbers-append, frames-append, hushes, freshens, hush-clock, freshen-clock, cued-engine, frames-go}
 use Rattle.promises.specs.Calls as Calls
-
--- what leads to a turn's ends is its calls
-by-calls : (x : Turn) (p : Player) {cs : List Call} {y : Engine} {os : List Float} {f : ℕ} → Leads (p .engine) cs y os f
-    → callsOf x p ≡ cs → nextTurn x p .engine ≡ y → numbersIn x p ≡ os → framesIn x p ≡ f
-    → Leads (p .engine) (callsOf x p) (nextTurn x p .engine) (numbersIn x p) (framesIn x p)
-by-calls x p l a b c d =
-    record {
-      state = b ∙ l .state ∙ ap (λ (zs : List Call). run zs (p .engine)) (sym a);
-      numbers = c ∙ l .numbers ∙ ap (λ (zs : List Call). numbersOf zs (p .engine)) (sym a);
-      frames = d ∙ l .frames ∙ ap (λ (zs : List Call). framesRun zs (p .engine)) (sym a);
-      renders = subst (λ (zs : List Call). RendersDone zs (p .engine)) (sym a) (l .renders);
-    }
 
 -- ---- start
 
@@ -68,12 +56,12 @@ start-leads song p = by (eqb (openingOf song .number) 0) refl
     by : (b : Bool) → eqb (openingOf song .number) 0 ≡ b → Leads (p .engine) (callsOf (Start song) p) (nextTurn (Start song) p .engine) (numbersIn (Start song) p) (framesIn (Start song) p)
     by true q =
         let d = start-done song p (eqb-true (openingOf song .number) 0 q) in
-        by-calls (Start song) p (joined (hushes 16 (p .engine)) (freshens 16 (hushedTo 16 (p .engine))))
+        relead (joined (hushes 16 (p .engine)) (freshens 16 (hushedTo 16 (p .engine))))
         (ap (λ (b : Begun). cond (eqb (b .number) 0) (hushCalls 16 ++ freshCalls 16) []) d)
         (ap (λ (b : Begun). b .player .engine) d ∙ cued-engine (readied p) (handedOf song (openingOf song .cursor))) refl refl
     by false q =
         let d = start-refused song p (eqb-false (openingOf song .number) 0 q) in
-        by-calls (Start song) p (no-calls (p .engine))
+        relead (no-calls (p .engine))
         (ap (λ (b : Begun). cond (eqb (b .number) 0) (hushCalls 16 ++ freshCalls 16) []) d ∙ ap (λ (b : Bool). cond b (hushCalls 16 ++ freshCalls 16) []) q)
         (ap (λ (b : Begun). b .player .engine) d) refl refl
 
@@ -154,13 +142,13 @@ module _ (song bank : List ℕ) (ram rom : List ℤ) where
       by : (b : Bool) → eqb (renderNumber to ram rom (length out) (p .engine)) 0 ≡ b → Leads (p .engine) (callsOf x p) (nextTurn x p .engine) (numbersIn x p) (framesIn x p)
       by true q =
           let z = eqb-true (renderNumber to ram rom (length out) (p .engine)) 0 q in
-          by-calls x p (frames-go ram rom song bank n (opened p) h (done-clear to out (p .engine) z) .leads)
+          relead (frames-go ram rom song bank n (opened p) h (done-clear to out (p .engine) z) .leads)
           (ap (λ (m : ℕ). cond (eqb m 0) (frameCalls song bank ram rom n (opened p)) []) (number ∙ z))
           (ap (λ (a : Answer). a .player .engine) (play-done to (length out) p z)) (play-numbers to out p z) (play-frames to out p z)
       by false q =
           let z = eqb-false (renderNumber to ram rom (length out) (p .engine)) 0 q in
           let f : framesIn x p ≡ 0 = ap (λ (m : ℕ). cond (eqb m 0) n 0) number ∙ ap (λ (b : Bool). cond b n 0) q in
-          by-calls x p (no-calls (p .engine))
+          relead (no-calls (p .engine))
           (ap (λ (m : ℕ). cond (eqb m 0) (frameCalls song bank ram rom n (opened p)) []) number ∙ ap (λ (b : Bool). cond b (frameCalls song bank ram rom n (opened p)) []) q)
           (ap (λ (a : Answer). a .player .engine) (play-refused to (length out) p z)) (ap (λ (m : ℕ). take (2 * m) (soundedInto song bank ram rom to out p)) f) f
 
