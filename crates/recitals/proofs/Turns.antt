@@ -220,7 +220,7 @@ run-is-run (x ∷ xs) p h k =
     }
 
 -- from the fresh player
-idle-run : (ts : List Turn) → InClocks ts → IsRun ts idle
+pub idle-run : (ts : List Turn) → InClocks ts → IsRun ts idle
 unfolding fresh
 idle-run ts k = run-is-run ts idle (lit< tt) k
 

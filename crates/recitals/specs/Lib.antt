@@ -1,3 +1,4 @@
 pub mod Turns
+pub mod Pauses
 pub mod Cut
 pub mod Recital
