@@ -1,7 +1,7 @@
 -- No call but a render moves the clock, and no call of a player takes a window past its memory.
 use Prim.Native.Nat.{ℕ, zero, suc, _<_, _≤_}
 use mathlib.Core.Bool.{Bool, true, false, cond}
-use mathlib.Core.List.{List, [], _∷_}
+use mathlib.Core.List.{List, [], _∷_, map}
 use mathlib.Core.Logic.{_⊎_, ⊎-elim, inl, inr}
 use mathlib.Core.Path.{_≡_, refl, sym, ap, _∙_, subst}
 use native.Mathlib.Omega.{arith}
@@ -18,11 +18,13 @@ use Rattle.state.specs.Answers.{done, refused, answer, pastOne, pastTwo, pastBe
 use Rattle.state.specs.Channels.{channelAt, withChannel}
 use Rattle.state.specs.Reach.{memory}
 use Rattle.state.specs.Seats.{startIn}
+use Rattle.state.specs.Slots.{slotsOf, withSlots, withOrder, cut}
+use Rattle.voice.specs.declared.Slot.{Slot}
 use Rattle.events.specs.Controls.{controlled, pedal, silence, controlChange}
-use Rattle.events.specs.Keys.{off, offKey, noteOff}
+use Rattle.events.specs.Keys.{letOff, heldKey, pedalDown, off, offKey, noteOff}
 use Rattle.events.specs.Programs.{programChange, withProgram}
 use Rattle.events.specs.Bends.{pitchBend, withBend}
-use Rattle.events.specs.Starting.{Started, start, startAll, cleared, struck}
+use Rattle.events.specs.Starting.{Started, start, startAll, rival, cleared, struck}
 use Rattle.events.specs.Striking.{noteOn, noteOnNumber, layerVoices, bankFrom}
 use Rattle.promises.specs.Calls.{Call, does, next, voiceIn, begun}
 use Rattle.promises.specs.Demand1.{SlotPast, LayerPast}
@@ -32,6 +34,35 @@ use Rattle.voice.specs.Release.{release}
 use Rattle.promises.proofs.Demand1.{note-on-numbers}
 use Rattle.promises.proofs.Voices.{Everyone, Lasts, call-voice}
 use Rattle.promises.specs.Calls as Calls
+
+-- ---- what a key's calls keep
+
+-- a property that neither slots nor the order of age touch
+module _ (P : Engine → Type 0) (slots : (e : Engine) (ss : List Slot) → P e → P (withSlots e ss)) (order : (e : Engine) (o : List ℕ) → P e → P (withOrder e o)) where
+  answers : (n : ℕ) (e : Engine) (a : Answered) → P e → P (a .engine) → P (answer n e a .engine)
+  answers n e a h k = either (λ (x : Answered). P (x .engine)) (eqb n 0) a (refused n e) k h
+
+  layers : (vs : List Voice) (x : Started) → P (x .engine) → P (startAll vs x .engine)
+  unfolding startAll start startIn
+  layers [] x h = h
+  layers (v ∷ vs) x h = layers vs (start v x) (order _ _ (slots (x .engine) _ h))
+
+  lets : (c k : ℕ) (e : Engine) → P e → P (offKey c k e .engine)
+  unfolding offKey off
+  lets c k e h = slots e (map (letOff (pedalDown e c) (heldKey c k)) (slotsOf e)) h
+
+  pub on-keeps : (b : List ℕ) (ram rom : List ℤ) (c k v : ℕ) (e : Engine) → P e → P (next (Calls.NoteOn b ram rom c k v) e)
+  unfolding noteOn struck cleared
+  on-keeps b ram rom c k v e h =
+      let vs = layerVoices (bankFrom b) c k v e in
+      answers (cond (pastTwo c k v) 2 0) e _ h
+      (either (λ (x : Answered). P (x .engine)) (eqb v 0) _ _ (lets c k e h)
+      (answers (noteOnNumber (bankFrom b) ram rom c k v e) e (done (length vs) (struck c vs e .engine)) h
+      (layers vs (record { engine = cleared c vs e; mine = 0 }) (slots e (map (cut (rival c vs)) (slotsOf e)) h))))
+
+  pub off-keeps : (c k : ℕ) (e : Engine) → P e → P (next (Calls.NoteOff c k) e)
+  unfolding noteOff
+  off-keeps c k e h = answers (cond (pastOne c k) 2 0) e (offKey c k e) h (lets c k e h)
 
 -- ---- the clock
 
@@ -43,23 +74,11 @@ module _ (t : ℕ) where
   told : (n : ℕ) (e : Engine) (a : Answered) → At e → At (a .engine) → At (answer n e a .engine)
   told n e a h k = either (λ (x : Answered). At (x .engine)) (eqb n 0) a (refused n e) k h
 
-  layers : (vs : List Voice) (x : Started) → At (x .engine) → At (startAll vs x .engine)
-  unfolding startAll start startIn
-  layers [] x h = h
-  layers (v ∷ vs) x h = layers vs (start v x) h
-
   pub on-clock : (b : List ℕ) (ram rom : List ℤ) (c k v : ℕ) (e : Engine) → At e → At (next (Calls.NoteOn b ram rom c k v) e)
-  unfolding noteOn offKey off struck cleared
-  on-clock b ram rom c k v e h =
-      let vs = layerVoices (bankFrom b) c k v e in
-      told (cond (pastTwo c k v) 2 0) e _ h
-      (either (λ (x : Answered). At (x .engine)) (eqb v 0) _ _ h
-      (told (noteOnNumber (bankFrom b) ram rom c k v e) e (done (length vs) (struck c vs e .engine)) h
-      (layers vs (record { engine = cleared c vs e; mine = 0 }) h)))
+  on-clock = on-keeps At (λ e ss h. h) (λ e o h. h)
 
   pub off-clock : (c k : ℕ) (e : Engine) → At e → At (next (Calls.NoteOff c k) e)
-  unfolding noteOff offKey off
-  off-clock c k e h = told (cond (pastOne c k) 2 0) e (offKey c k e) h h
+  off-clock = off-keeps At (λ e ss h. h) (λ e o h. h)
 
   pub control-clock : (c n v : ℕ) (e : Engine) → At e → At (next (Calls.Control c n v) e)
   unfolding controlChange controlled pedal silence off

@@ -5,3 +5,5 @@ pub mod Hushes
 pub mod Pauses
 pub mod Cut
 pub mod Recital
+pub mod Pedals
+pub mod Silence

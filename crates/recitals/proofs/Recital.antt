@@ -19,7 +19,7 @@ use Rattle.smf.specs.declared.Met.{Met}
 use Rattle.smf.specs.declared.Met.the-variants.{Fault, End, Passed, Given}
 use Rattle.smf.specs.declared.Offer.{Offer}
 use Rattle.smf.specs.Head.{headOf}
-use Rattle.smf.specs.Reading.{eventAt, entry, offered, cursorAfter}
+use Rattle.smf.specs.Reading.{InRange, eventAt, entry, offered, cursorAfter}
 use Rattle.smf.specs.Songs.{turns, eventsOf, openingOf, handedOf, trackCursor, firstCursor, testOf}
 use Rattle.smf.specs.Track.{Song, Events, Refused, meetAt, songFrom, behindEvent, eventOf, nothing}
 use Rattle.smf.proofs.ReadingLaws.{Hands, hands-next, track-song, reads-all, never-fall, all-in-range}
@@ -65,10 +65,14 @@ abbrev Up : ℕ → List Event → Type 0
 Up low [] = Unit {0}
 Up low (v ∷ vs) = (low ≤ v .frame) × Up (v .frame) vs
 
+-- each of some events
+abbrev pub Each : (Event → Type 0) → List Event → Type 0
+Each P [] = Unit {0}
+Each P (v ∷ vs) = P v × Each P vs
+
 -- frames up to an hour
 abbrev InHour : List Event → Type 0
-InHour [] = Unit {0}
-InHour (v ∷ vs) = (v .frame ≤ 158760000) × InHour vs
+InHour vs = Each (λ (v : Event). v .frame ≤ 158760000) vs
 
 -- none of frame n where all come later, and none is passed over by it
 none-yet : (n low : ℕ) (vs : List Event) → n < low → Up low vs → (eventsAt n vs ≡ []) × (eventsBefore n vs ≡ []) × (eventsFrom n vs ≡ vs) × (eventsFrom (suc n) vs ≡ vs) × (eventsBefore (suc n) vs ≡ [])
@@ -179,14 +183,17 @@ module _ (song : List ℕ) (vs : List Event) (is : eventsOf song ≡ Events vs) 
   pub song-up : Up 0 vs
   song-up = rises 0 vs (λ j f q. omega arith) (λ i j e f l p q. never-fall song i j e f l (offers i e p) (offers j f q))
 
-  hours : (us : List Event) → ((j : ℕ) (f : Event) → eventAt us j ≡ Offer.Given f → f .frame ≤ 158760000) → InHour us
-  hours [] h = tt
-  hours (u ∷ us) h = (h 0 u refl, hours us (λ j f q. h (suc j) f q))
-
-  -- and are within an hour
-  pub song-hour : InHour vs
+  -- and each is in its ranges
+  pub song-each : (P : Event → Type 0) → ((v : Event) → InRange v → P v) → Each P vs
   unfolding offered
-  song-hour = hours vs (λ j f q. all-in-range song (cursorAfter song j) f (offers j f q) .within-hour)
+  song-each P h = go vs (λ j f q. h f (all-in-range song (cursorAfter song j) f (offers j f q)))
+    where
+      go : (us : List Event) → ((j : ℕ) (f : Event) → eventAt us j ≡ Offer.Given f → P f) → Each P us
+      go [] h = tt
+      go (u ∷ us) h = (h 0 u refl, go us (λ j f q. h (suc j) f q))
+
+  song-hour : InHour vs
+  song-hour = song-each (λ (v : Event). v .frame ≤ 158760000) (λ v r. r .within-hour)
 
 -- a song has no more events than turns
 song-count : (n : ℕ) (b : List ℕ) (c : Cursor) (vs : List Event) → songFrom n b c ≡ Events vs → length vs ≤ n
@@ -263,7 +270,7 @@ module _ (song bank : List ℕ) (ram rom : List ℤ) (n : ℕ) where
     applied : caughtUp song bank ram rom m x .applied ≡ x .applied + length (eventsAt n vs)
 
   -- no event is due
-  up-none : (m : ℕ) (x : Tally) → isDue (x .player) ≡ false → (caughtUp song bank ram rom m x ≡ x) × (dueCalls song bank ram rom m x ≡ [])
+  pub up-none : (m : ℕ) (x : Tally) → isDue (x .player) ≡ false → (caughtUp song bank ram rom m x ≡ x) × (dueCalls song bank ram rom m x ≡ [])
   unfolding caughtUp dueCalls
   up-none zero x h = (refl, refl)
   up-none (suc m) x h = (rw h refl, rw h refl)
@@ -513,6 +520,7 @@ song-is-played song bank ram rom vs n ts p h is q =
     record {
       engine = ap (λ (u : Player). u .engine) (g .player) ∙ l .state ∙ ap (λ (xs : List Call). run xs (p .engine)) (sym cs);
       numbers = g .numbered ∙ l .numbers ∙ ap (λ (xs : List Call). numbersOf xs (p .engine)) (sym cs);
+      clock = ap (λ (u : Player). u .engine .clock) (g .player) ∙ w .clock ∙ ap (λ (t : ℕ). (t + n) % 4294967296) b;
       applied = zero-add _ ∙ g .applied ∙ w .applied;
       over = λ z. over-all song n vs _ (w .comes) (sym (ap (λ (u : Player). u .ended) (g .player)) ∙ z);
       all = λ z. ap (λ (u : Player). u .ended) (g .player) ∙ all-over song n vs _ (w .comes) z;

@@ -202,6 +202,11 @@ turn-clock (Play song bank ram rom to out) xs p h k = (by (eqb number 0) refl, k
     by false q = rw (play-refused song bank ram rom to (length out) p (eqb-false number 0 q)) h
 turn-clock (Direct x) xs p h k = (call-clock x (p .engine) h (k .0), k .1)
 
+pub turns-clock : (xs : List Turn) (p : Player) → p .engine .clock < 4294967296 → InClocks xs → runTurns xs p .engine .clock < 4294967296
+unfolding runTurns
+turns-clock [] p h k = h
+turns-clock (x ∷ xs) p h k = let c = turn-clock x xs p h k in turns-clock xs (nextTurn x p) (c .0) (c .1)
+
 pub run-is-run : RunIsRun
 unfolding runTurns numbersTurns framesTurns callsTurns run numbersOf framesRun
 run-is-run [] p h k = record { engine = refl; numbers = refl; frames = refl }

@@ -14,7 +14,7 @@ use Rattle.engine.specs.Rendering.{distance}
 use Rattle.player.specs.declared.Player.{Player}
 use Rattle.player.specs.Playing.{answered}
 use Rattle.promises.specs.Calls.{Call, run}
-use Rattle.promises.specs.Cuts.{numbersOf}
+use Rattle.promises.specs.Cuts.{ahead, numbersOf}
 use Rattle.recitals.specs.Turns.{Turn, Start, Play, nextTurn, framesIn, hushCalls, freshCalls, callOf, oneFrame, runTurns, numbersTurns, appliedTurns}
 
 -- ---- the run of calls that a song names
@@ -61,11 +61,12 @@ pub data Plays (song bank : List ℕ) (ram rom : List ℤ) : List Turn → ℕ �
       → Plays song bank ram rom xs n (nextTurn (Play song bank ram rom to out) p)
       → Plays song bank ram rom (Play song bank ram rom to out ∷ xs) (distance (p .engine) to + n) p
 
--- n frames of a song with the events vs: state and numbers are those of its run of calls; as many events are applied as have a frame below n; and the song is
--- over exactly when these are all
+-- n frames of a song with the events vs: state and numbers are those of its run of calls; the clock is n frames on; as many events are applied as have a frame
+-- below n; and the song is over exactly when these are all
 pub record Recited (song bank : List ℕ) (ram rom : List ℤ) (vs : List Event) (n : ℕ) (ts : List Turn) (p : Player) : Type 0 where
   pub engine : runTurns (Start song ∷ ts) p .engine ≡ run (started bank ram rom vs (p .engine .clock) n) (p .engine)
   pub numbers : numbersTurns (Start song ∷ ts) p ≡ numbersOf (started bank ram rom vs (p .engine .clock) n) (p .engine)
+  pub clock : runTurns (Start song ∷ ts) p .engine .clock ≡ ahead (p .engine) n
   pub applied : appliedTurns (Start song ∷ ts) p ≡ length (eventsBefore n vs)
   pub over : runTurns (Start song ∷ ts) p .ended ≡ true → eventsBefore n vs ≡ vs
   pub all : eventsBefore n vs ≡ vs → runTurns (Start song ∷ ts) p .ended ≡ true
