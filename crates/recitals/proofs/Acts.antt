@@ -1,17 +1,15 @@
 -- What the player does to its engine, call by call: events, frames, and the channels let go and set.
-use Prim.Native.Nat.{ℕ, zero, suc, _+_, _*_, _%_, _<_, _≤_}
+use Prim.Native.Nat.{ℕ, zero, suc, _+_, _*_, _%_, _<_}
 use mathlib.Core.Bool.{Bool, true, false, cond}
 use mathlib.Core.List.{List, [], _∷_, _++_, append-assoc, append-nil}
 use mathlib.Core.Path.{_≡_, refl, sym, ap, ap₂, _∙_, subst}
-use native.Mathlib.Nat.{add-zero, add-assoc, le-refl}
 use native.Mathlib.Omega.{arith}
 use lib.Dec.{eqb}
 use lib.IntN.{ℤ}
 use lib.Ieee.{Float, nan}
-use lib.ListN.{length, take}
+use lib.ListN.{take}
 use Rattle.smf.specs.declared.Event.{Event}
 use Rattle.smf.specs.declared.Handed.{Handed}
-use Rattle.smf.specs.declared.Cursor.{Cursor}
 use Rattle.smf.specs.declared.Offer.{Offer}
 use Rattle.smf.specs.Songs.{turns, handedOf}
 use Rattle.state.specs.declared.Answered.{Answered}
@@ -30,7 +28,7 @@ use Rattle.promises.proofs.Cuts.{done-frames, done-numbers}
 use Rattle.promises.proofs.Demand1.{render-numbers}
 use Rattle.promises.proofs.Output.{done-state}
 use Rattle.recitals.specs.Turns.{hushCalls, freshCalls, callOf, oneFrame, dueCalls, frameCalls, RendersDone}
-use Rattle.recitals.proofs.Clocks.{on-clock, off-clock, control-clock, program-clock, bend-clock, Clear, clear-of, of-clear, clear-call, on-clear}
+use Rattle.recitals.proofs.Clocks.{on-clock, off-clock, control-clock, program-clock, bend-clock, Clear, of-clear, clear-call, on-clear}
 use Rattle.promises.specs.Calls as Calls
 
 -- ---- calls one behind the other

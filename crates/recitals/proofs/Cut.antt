@@ -4,7 +4,6 @@ use mathlib.Core.Bool.{Bool, true, false, cond}
 use mathlib.Core.List.{List, [], _∷_, _++_, append-assoc}
 use mathlib.Core.Path.{_≡_, refl, sym, ap, ap₂, _∙_, subst}
 use native.Mathlib.Nat.{add-zero, zero-add, suc-add, add-assoc}
-
 use native.Mathlib.Omega.{arith}
 use borrow.Author.Tests.{eqb-true, eqb-false}
 use lib.Dec.{eqb}
@@ -12,7 +11,6 @@ use lib.IntN.{ℤ}
 use lib.Ieee.{Float}
 use lib.ListN.{length, take}
 use Rattle.engine.specs.Rendering.{distance, output, renderNumber}
-use Rattle.state.specs.declared.Engine.{Engine}
 use Rattle.smf.specs.Songs.{turns}
 use Rattle.player.specs.declared.Answer.{Answer}
 use Rattle.player.specs.declared.Player.{Player}
@@ -23,7 +21,7 @@ use Rattle.player.specs.Playing.{refusal, opened, forward, applying, caughtUp, 
 use Rattle.promises.specs.Cuts.{ahead, together}
 use Rattle.promises.proofs.Demand1.{render-numbers}
 use Rattle.recitals.specs.Turns.{Turn, Start, Stop, Play, Direct, nextTurn, framesIn, numbersIn, appliedIn, refusedIn, writtenIn, runTurns, numbersTurns, appliedTurns, refusedTurns}
-use Rattle.recitals.specs.Cut.{Parts, no-part, stands, part, PartsDone, SameAsWhole, AnyCutOfPlay}
+use Rattle.recitals.specs.Cut.{Parts, no-part, stands, part, PartsDone, AnyCutOfPlay}
 use Rattle.recitals.proofs.Clocks.{Clear, of-clear}
 use Rattle.recitals.proofs.Acts.{frames-go}
 use Rattle.recitals.proofs.Turns.{play-done, play-refused, play-number, render-number, done-clear, play-frames, play-numbers}
@@ -119,9 +117,10 @@ idle-counts (Play song bank ram rom to out) p h = by (eqb number 0) refl
     by true q =
         let z = eqb-true number 0 q in
         let d = play-done song bank ram rom to (length out) p z in
-        let n : distance (p .engine) to ≡ 0 = sym (play-frames song bank ram rom to out p z) ∙ h in
-        (ap (λ (a : Answer). a .applied) d ∙ ap (λ (m : ℕ). after song bank ram rom m (opened p) .applied) n,
-        ap (λ (a : Answer). a .refused) d ∙ ap (λ (m : ℕ). after song bank ram rom m (opened p) .refused) n)
+        let n : distance (p .engine) to ≡ 0 = sym (play-frames song bank ram rom to out p z) ∙ h in (
+          ap (λ (a : Answer). a .applied) d ∙ ap (λ (m : ℕ). after song bank ram rom m (opened p) .applied) n,
+          ap (λ (a : Answer). a .refused) d ∙ ap (λ (m : ℕ). after song bank ram rom m (opened p) .refused) n,
+        )
     by false q =
         let d = play-refused song bank ram rom to (length out) p (eqb-false number 0 q) in
         (ap (λ (a : Answer). a .applied) d, ap (λ (a : Answer). a .refused) d)
@@ -193,13 +192,14 @@ module _ (song bank : List ℕ) (ram rom : List ℤ) where
       ap (λ (a : Answer). a .player) d ∙ ap (λ (m : ℕ). after song bank ram rom m (opened p) .player) (ok .1) in
       let f = frames-go ram rom song bank n (opened p) h c in
       let t : answered song bank ram rom (ahead e n) (length out) p .player .engine .clock < 4294967296 = rw same (omega (arith, f .clock)) in
-      let g = any-parts xs ns (nextTurn (Play song bank ram rom (ahead e n) out) p) q t (rw same (f .clear)) (omega arith) in
-      ((play-number song bank ram rom (ahead e n) (length out) p ∙ ok .0, g .0),
-      behind n (together ns) (Play song bank ram rom (ahead e n) out) xs p same
-      (play-numbers song bank ram rom (ahead e n) out p (ok .0) ∙ ap (λ (m : ℕ). numbers song bank ram rom m (opened p)) (ok .1))
-      (ap (λ (a : Answer). a .applied) d ∙ ap (λ (m : ℕ). after song bank ram rom m (opened p) .applied) (ok .1))
-      (ap (λ (a : Answer). a .refused) d ∙ ap (λ (m : ℕ). after song bank ram rom m (opened p) .refused) (ok .1))
-      (g .1))
+      let g = any-parts xs ns (nextTurn (Play song bank ram rom (ahead e n) out) p) q t (rw same (f .clear)) (omega arith) in (
+        (play-number song bank ram rom (ahead e n) (length out) p ∙ ok .0, g .0),
+        behind n (together ns) (Play song bank ram rom (ahead e n) out) xs p same
+            (play-numbers song bank ram rom (ahead e n) out p (ok .0) ∙ ap (λ (m : ℕ). numbers song bank ram rom m (opened p)) (ok .1))
+            (ap (λ (a : Answer). a .applied) d ∙ ap (λ (m : ℕ). after song bank ram rom m (opened p) .applied) (ok .1))
+            (ap (λ (a : Answer). a .refused) d ∙ ap (λ (m : ℕ). after song bank ram rom m (opened p) .refused) (ok .1))
+            (g .1),
+      )
 
 -- the whole render, from its parts
 pub any-cut-of-play : AnyCutOfPlay
@@ -209,11 +209,12 @@ any-cut-of-play song bank ram rom to out p ns xs h ok total q =
     let d = play-done song bank ram rom to (length out) p z in
     let few = render-numbers to ram rom out (p .engine) .done .0 (render-number song bank ram rom to out (p .engine) ∙ z) .0 in
     let g = any-parts song bank ram rom xs ns p q h (done-clear song bank ram rom to out (p .engine) z) (subst (λ (m : ℕ). m ≤ 4096) (sym total) few) in
-    let w = g .1 in
-    (g .0,
-    record {
-      player = w .player ∙ ap (λ (m : ℕ). after song bank ram rom m (opened p) .player) total ∙ sym (ap (λ (a : Answer). a .player) d);
-      numbers = w .numbered ∙ ap (λ (m : ℕ). numbers song bank ram rom m (opened p)) total ∙ sym (play-numbers song bank ram rom to out p z);
-      applied = w .applied ∙ ap (λ (m : ℕ). after song bank ram rom m (opened p) .applied) total ∙ sym (ap (λ (a : Answer). a .applied) d);
-      refused = w .refused ∙ ap (λ (m : ℕ). after song bank ram rom m (opened p) .refused) total ∙ sym (ap (λ (a : Answer). a .refused) d);
-    })
+    let w = g .1 in (
+      g .0,
+      record {
+        player = w .player ∙ ap (λ (m : ℕ). after song bank ram rom m (opened p) .player) total ∙ sym (ap (λ (a : Answer). a .player) d);
+        numbers = w .numbered ∙ ap (λ (m : ℕ). numbers song bank ram rom m (opened p)) total ∙ sym (play-numbers song bank ram rom to out p z);
+        applied = w .applied ∙ ap (λ (m : ℕ). after song bank ram rom m (opened p) .applied) total ∙ sym (ap (λ (a : Answer). a .applied) d);
+        refused = w .refused ∙ ap (λ (m : ℕ). after song bank ram rom m (opened p) .refused) total ∙ sym (ap (λ (a : Answer). a .refused) d);
+      },
+    )

@@ -1,12 +1,12 @@
 -- Channels let go and set as in a fresh engine: their voices are released, their pedals up, and then all that they hold is fresh.
 use Prim.Native.Nat.{ℕ, zero, suc, _<_, _≤_}
-use mathlib.Core.Bool.{Bool, true, false, cond, not, _&&_}
-use mathlib.Core.List.{List, [], _∷_, _++_, map}
+use mathlib.Core.Bool.{Bool, true, false, cond}
+use mathlib.Core.List.{List, [], _∷_, _++_}
 use mathlib.Core.Logic.{_⊎_, ⊎-elim, inl, inr}
 use mathlib.Core.Path.{_≡_, refl, sym, ap, _∙_, subst}
 use native.Mathlib.Omega.{arith}
 use borrow.Author.Tests.{le-ltb, eq-eqb, eqb-true, eqb-false}
-use lib.Dec.{eqb, leb, ltb}
+use lib.Dec.{eqb, leb}
 use lib.ListN.{length, getD, set, length-set}
 use lib.Seq.{getD-set-same}
 use Rattle.voice.specs.declared.Channel.{Channel}
@@ -14,17 +14,17 @@ use Rattle.voice.specs.declared.Slot.{Slot}
 use Rattle.voice.specs.declared.Stage.{Stage}
 use Rattle.voice.specs.declared.Stage.the-variants.{Delay, Attack, Hold, Decay, Sustain, Release}
 use Rattle.voice.specs.declared.Voice.{Voice}
-use Rattle.voice.specs.Changes.{free, blank, sounds}
+use Rattle.voice.specs.Changes.{free, blank}
 use Rattle.voice.specs.Frames.{after}
 use Rattle.voice.specs.Release.{letGo, release}
 use Rattle.voice.specs.Stages.{released}
 use Rattle.state.specs.declared.Answered.{Answered}
 use Rattle.state.specs.declared.Engine.{Engine}
-use Rattle.state.specs.Answers.{done, pastTwo}
-use Rattle.state.specs.Channels.{channelAt, withChannel, noChannel}
+use Rattle.state.specs.Answers.{done}
+use Rattle.state.specs.Channels.{channelAt, noChannel}
 use Rattle.state.specs.Quiet.{fresh, freshChannel}
 use Rattle.state.specs.Seats.{startIn}
-use Rattle.state.specs.Slots.{slotAt, slotsOf, withSlots, withVoice, ofChannel}
+use Rattle.state.specs.Slots.{slotAt, withVoice, ofChannel}
 use Rattle.state.proofs.SlotsLaws.{slot-map}
 use Rattle.events.specs.Bends.{withBend}
 use Rattle.events.specs.Controls.{controlChange, controlled, withStored, withVolume, withExpression, withPedal}
@@ -33,19 +33,19 @@ use Rattle.events.specs.Programs.{withProgram}
 use Rattle.events.proofs.KeysLaws.{off-keeps}
 use Rattle.engine.specs.Rendering.{slotAfter}
 use Rattle.player.specs.Pauses.{hushed, hushedTo, freshened, freshenedTo}
-use Rattle.promises.specs.Calls.{Call, next, run, voiceIn, framesOf, begun, channelOf}
+use Rattle.promises.specs.Calls.{Call, next, run, voiceIn, framesOf, begun}
 use Rattle.promises.specs.Controls.{Sets}
 use Rattle.promises.specs.Night.{AllReleased}
 use Rattle.promises.specs.Pedal.{MarksUnderPedal}
 use Rattle.promises.proofs.Banks.{came}
 use Rattle.promises.proofs.Controls.{sets-one, bend-sets}
-use Rattle.promises.proofs.EachSlot.{Among, What, stands, pedalled, loosed, freed, started, goes, what, either, never, held-channel, held-unreleased, letOff-picked}
+use Rattle.promises.proofs.EachSlot.{Among, What, stands, pedalled, loosed, freed, started, goes, what, never, letOff-picked}
 use Rattle.promises.proofs.Kept.{Lasting, run-keeps}
 use Rattle.promises.proofs.Output.{channels-stand}
 use Rattle.promises.proofs.Pedal.{lifts, marks-run, no-mark}
 use Rattle.promises.proofs.Voices.{from-fresh}
 use Rattle.recitals.specs.Turns.{hushCalls}
-use Rattle.recitals.proofs.Acts.{Leads, run-append, hushes, freshens}
+use Rattle.recitals.proofs.Acts.{run-append, hushes, freshens}
 use Rattle.promises.specs.Calls as Calls
 
 -- ---- voices
@@ -251,12 +251,13 @@ freshened-channels (suc n) c e h k up =
     let t = freshened-channels n c e (omega arith) k up in
     let y = freshenedTo n e in
     let z : length (y .channels) ≡ 16 =
-    subst (λ (x : Engine). length (x .channels) ≡ 16) (sym (freshens n e .state)) (run-keeps (λ (x : Engine). length (x .channels) ≡ 16) many-channels _ e k) in
-    (λ l. fresh-there n c y (λ q. omega arith) ∙ t .0 (omega arith),
-    λ l. ⊎-elim
-    (λ (q : c ≡ n). subst (λ (d : ℕ). channelAt (freshened n y) d ≡ freshChannel) (sym q)
-    (fresh-here n y z (omega arith) ∙ ap (withPedal freshChannel) (ap (λ (x : Channel). x .pedal) (subst (λ (d : ℕ). channelAt y d ≡ channelAt e c) q (t .0 (omega arith))) ∙ up)))
-    (λ (q : c < n). fresh-there n c y (λ w. omega arith) ∙ t .1 q) (split-last c n l))
+    subst (λ (x : Engine). length (x .channels) ≡ 16) (sym (freshens n e .state)) (run-keeps (λ (x : Engine). length (x .channels) ≡ 16) many-channels _ e k) in (
+      λ l. fresh-there n c y (λ q. omega arith) ∙ t .0 (omega arith),
+      λ l. ⊎-elim
+          (λ (q : c ≡ n). subst (λ (d : ℕ). channelAt (freshened n y) d ≡ freshChannel) (sym q)
+          (fresh-here n y z (omega arith) ∙ ap (withPedal freshChannel) (ap (λ (x : Channel). x .pedal) (subst (λ (d : ℕ). channelAt y d ≡ channelAt e c) q (t .0 (omega arith))) ∙ up)))
+          (λ (q : c < n). fresh-there n c y (λ w. omega arith) ∙ t .1 q) (split-last c n l),
+    )
 
 -- ---- all channels
 

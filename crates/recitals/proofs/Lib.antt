@@ -7,3 +7,4 @@ pub mod Cut
 pub mod Recital
 pub mod Pedals
 pub mod Silence
+pub mod Example

@@ -1,13 +1,11 @@
 -- What the player answers, and what start and stop do.
-use Prim.Native.Nat.{ℕ, _<_, _≤_, _*_}
-use mathlib.Core.Bool.{Bool, true, false, cond}
-use mathlib.Core.List.{List, [], _∷_, _++_}
+use Prim.Native.Nat.{ℕ, _*_}
+use mathlib.Core.Bool.{Bool, true, false}
+use mathlib.Core.List.{List}
 use mathlib.Core.Path.{_≡_, refl, sym, ap, _∙_, subst}
 use native.Mathlib.Omega.{arith}
 use borrow.Author.Tests.{eqb-true, eqb-false, ne-eqb}
-use lib.Dec.{eqb, lit<, lit≤}
-use lib.IntN.{ℤ}
-use lib.Ieee.{Float}
+use lib.Dec.{eqb, lit≤}
 use lib.ListN.{length, drop}
 use lib.Seq.{drop-at}
 use Rattle.smf.specs.Songs.{eventsOf, testOf, openingOf, handedOf}
@@ -15,18 +13,16 @@ use Rattle.smf.specs.Track.{Song, Events, Refused}
 use Rattle.smf.proofs.SongsLaws.{refused-number}
 use Rattle.state.specs.declared.Engine.{Engine}
 use Rattle.state.specs.Channels.{channelAt}
-use Rattle.state.specs.Quiet.{fresh, freshChannel}
 use Rattle.engine.specs.Rendering.{distance, renderNumber}
 use Rattle.player.specs.declared.Answer.{Answer}
 use Rattle.player.specs.declared.Begun.{Begun}
 use Rattle.player.specs.declared.Player.{Player}
-use Rattle.player.specs.Cues.{idle, cued}
-use Rattle.player.specs.Pauses.{hushedTo, freshenedTo, readied, started, stopped}
+use Rattle.player.specs.Cues.{idle}
+use Rattle.player.specs.Pauses.{hushedTo, freshenedTo, readied, stopped}
 use Rattle.player.specs.Playing.{opened, numbers, soundedInto, answered}
-use Rattle.promises.specs.Calls.{run}
 use Rattle.promises.specs.Night.{AllReleased}
 use Rattle.promises.proofs.Kept.{run-keeps}
-use Rattle.recitals.specs.Turns.{Turn, Start, Stop, Play, nextTurn, hushCalls, runTurns, callsTurns, InClocks}
+use Rattle.recitals.specs.Turns.{Turn, Start, nextTurn, runTurns, callsTurns, InClocks}
 use Rattle.recitals.specs.Pauses.{StartAnswers, StartIsTested, Unplayed, PlayIsTested, ChannelsBeginFresh, ClockStands, StartReleases, StopEnds}
 use Rattle.recitals.proofs.Acts.{hushes, hush-clock, freshen-clock, cued-engine}
 use Rattle.recitals.proofs.Turns.{start-done, start-refused, play-refused, play-number, render-number, sounded-done, numbers-length, idle-run}

@@ -1,10 +1,10 @@
 -- Pedals through a song: each channel's is where the last control 64 among the events has put it.
-use Prim.Native.Nat.{ℕ, zero, suc, _+_, _%_, _/_, _<_, _≤_}
+use Prim.Native.Nat.{ℕ, zero, suc, _+_, _%_, _≤_}
 use mathlib.Core.Bool.{Bool, true, false, cond, _&&_}
 use mathlib.Core.List.{List, [], _∷_, _++_}
 use mathlib.Core.Path.{_≡_, refl, sym, ap, _∙_, subst}
 use native.Mathlib.Omega.{arith}
-use borrow.Author.Tests.{le-ltb, lt-ltb, eq-eqb, ne-eqb, eqb-true, eqb-false, ltb-true, ltb-false}
+use borrow.Author.Tests.{ne-eqb, eqb-true, eqb-false, ltb-true, ltb-false}
 use lib.Dec.{eqb, ltb}
 use lib.IntN.{ℤ}
 use lib.Ieee.{Float, nan}
@@ -22,7 +22,7 @@ use Rattle.events.specs.Keys.{off}
 use Rattle.events.specs.Programs.{programChange, withProgram}
 use Rattle.engine.specs.Rendering.{renderNumber, render, played}
 use Rattle.player.specs.Acting.{kindOf, channelIn, bendIn}
-use Rattle.promises.specs.Calls.{Call, next, run}
+use Rattle.promises.specs.Calls.{next, run}
 use Rattle.promises.proofs.Controls.{sets-one}
 use Rattle.promises.proofs.EachSlot.{either}
 use Rattle.promises.proofs.Kept.{run-keeps}

@@ -1,14 +1,14 @@
 -- A song that is started and played: each event once, in order, at its frame.
-use Prim.Native.Nat.{ℕ, zero, suc, _+_, _-_, _*_, _%_, _<_, _≤_}
-use mathlib.Core.Bool.{Bool, true, false, cond, not, _&&_}
-use mathlib.Core.List.{List, [], _∷_, _++_, append-assoc, append-nil}
-use mathlib.Core.Logic.{_⊎_, ⊎-elim, inl, inr}
+use Prim.Native.Nat.{ℕ, zero, suc, _+_, _%_, _<_, _≤_}
+use mathlib.Core.Bool.{Bool, true, false, cond}
+use mathlib.Core.List.{List, [], _∷_, _++_, append-nil}
+use mathlib.Core.Logic.{_⊎_, inl, inr}
 use mathlib.Core.Path.{_≡_, refl, sym, ap, ap₂, _∙_, subst}
-use native.Mathlib.Nat.{add-zero, zero-add, add-assoc, le-trans, le-refl}
+use native.Mathlib.Nat.{add-zero, zero-add, le-trans, le-refl}
 use native.Mathlib.Numerals.{add-one}
 use native.Mathlib.Omega.{arith}
 use borrow.Author.Tests.{eqb-true, eqb-false, ltb-true, ltb-false, lt-ltb, le-ltb, le-leb, lt-leb, eq-eqb, ne-eqb}
-use lib.Dec.{eqb, ltb, leb}
+use lib.Dec.{eqb, ltb}
 use lib.IntN.{ℤ}
 use lib.Ieee.{Float}
 use lib.ListN.{length, length-append}
@@ -21,7 +21,7 @@ use Rattle.smf.specs.declared.Offer.{Offer}
 use Rattle.smf.specs.Head.{headOf}
 use Rattle.smf.specs.Reading.{InRange, eventAt, entry, offered, cursorAfter}
 use Rattle.smf.specs.Songs.{turns, eventsOf, openingOf, handedOf, trackCursor, firstCursor, testOf}
-use Rattle.smf.specs.Track.{Song, Events, Refused, meetAt, songFrom, behindEvent, eventOf, nothing}
+use Rattle.smf.specs.Track.{Song, Events, Refused, meetAt, songFrom, behindEvent, eventOf}
 use Rattle.smf.proofs.ReadingLaws.{Hands, hands-next, track-song, reads-all, never-fall, all-in-range}
 use Rattle.state.specs.declared.Engine.{Engine}
 use Rattle.engine.specs.Rendering.{distance, output, renderNumber}
@@ -31,11 +31,11 @@ use Rattle.player.specs.declared.Player.{Player}
 use Rattle.player.specs.declared.Tally.{Tally}
 use Rattle.player.specs.Acting.{heeded}
 use Rattle.player.specs.Cues.{withEngine, coming, cued, since, isDue}
-use Rattle.player.specs.Playing.{opened, forward, applying, caughtUp, prepared, after, numbers, moved, answered}
+use Rattle.player.specs.Playing.{opened, forward, applying, caughtUp, prepared, after, numbers, moved}
 use Rattle.promises.specs.Calls.{Call, run}
 use Rattle.promises.specs.Cuts.{numbersOf, ahead}
-use Rattle.recitals.specs.Turns.{Turn, Start, Play, nextTurn, hushCalls, freshCalls, callOf, oneFrame, dueCalls, runTurns, numbersTurns, appliedTurns, refusedTurns}
-use Rattle.recitals.specs.Recital.{eventsAt, eventsBefore, frameByFrame, callsFor, recital, started, Plays, rests, waits, plays, Recited, SongIsPlayed, EachOnce, AllInAnHour}
+use Rattle.recitals.specs.Turns.{Turn, Start, Play, nextTurn, hushCalls, freshCalls, oneFrame, dueCalls, runTurns, numbersTurns, appliedTurns, refusedTurns}
+use Rattle.recitals.specs.Recital.{eventsAt, eventsBefore, frameByFrame, callsFor, recital, started, Plays, rests, waits, plays, SongIsPlayed, EachOnce, AllInAnHour}
 use Rattle.promises.proofs.EachSlot.{never}
 use Rattle.recitals.proofs.Clocks.{Clear}
 use Rattle.recitals.proofs.Acts.{Leads, no-calls, joined, relead, hushes, freshens, hush-clock, freshen-clock, applying-acts, caught-acts, cued-engine, frame-leads, frame-clock, frames-go}
@@ -80,10 +80,13 @@ unfolding eventsAt eventsBefore eventsFrom
 none-yet n low [] h r = (refl, refl, refl, refl, refl)
 none-yet n low (v ∷ vs) h r =
     let l : n < v .frame = omega (arith, r .0) in
-    let t = none-yet n (v .frame) vs l (r .1) in
-    (rw (ne-eqb (v .frame) n (λ q. omega arith)) (t .0), rw (le-ltb (v .frame) n (omega arith)) (t .1),
-    rw (le-ltb (v .frame) n (omega arith)) (ap (λ (us : List Event). v ∷ us) (t .2)),
-    rw (le-ltb (v .frame) (suc n) l) (ap (λ (us : List Event). v ∷ us) (t .3)), rw (le-ltb (v .frame) (suc n) l) (t .4))
+    let t = none-yet n (v .frame) vs l (r .1) in (
+      rw (ne-eqb (v .frame) n (λ q. omega arith)) (t .0),
+      rw (le-ltb (v .frame) n (omega arith)) (t .1),
+      rw (le-ltb (v .frame) n (omega arith)) (ap (λ (us : List Event). v ∷ us) (t .2)),
+      rw (le-ltb (v .frame) (suc n) l) (ap (λ (us : List Event). v ∷ us) (t .3)),
+      rw (le-ltb (v .frame) (suc n) l) (t .4),
+    )
 
 -- those before n, and then those at n, are those before n + 1
 before-next : (n low : ℕ) (vs : List Event) → Up low vs → eventsBefore n vs ++ eventsAt n vs ≡ eventsBefore (suc n) vs

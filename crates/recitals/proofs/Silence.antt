@@ -1,19 +1,17 @@
 -- A song whose every strike has its note-off ends in silence.
 use Prim.Native.Nat.{ℕ, zero, suc, _+_, _%_, _<_, _≤_}
-use mathlib.Core.Bool.{Bool, true, false, cond}
+use mathlib.Core.Bool.{Bool, true, false}
 use mathlib.Core.List.{List, [], _∷_, _++_, append-assoc}
 use mathlib.Core.Path.{_≡_, refl, sym, ap, _∙_, subst}
 use native.Mathlib.Nat.{le-trans, le-refl, add-le-add}
 use native.Mathlib.Omega.{arith}
 use borrow.Author.Tests.{lt-leb}
-use lib.Dec.{eqb, leb, lit<}
+use lib.Dec.{leb, lit<}
 use lib.IntN.{ℤ}
 use lib.ListN.{length}
 use Rattle.smf.specs.declared.Event.{Event}
-use Rattle.smf.specs.Track.{Events}
-use Rattle.smf.specs.Songs.{turns, eventsOf, testOf}
+use Rattle.smf.specs.Songs.{turns, testOf}
 use Rattle.voice.specs.declared.Voice.{Voice}
-use Rattle.voice.specs.Stages.{released}
 use Rattle.voice.specs.declared.Channel.{Channel}
 use Rattle.state.specs.declared.Engine.{Engine}
 use Rattle.state.specs.Channels.{channelAt}
@@ -22,10 +20,10 @@ use Rattle.state.specs.Slots.{slotAt}
 use Rattle.events.specs.Keys.{heldKey, pedalDown}
 use Rattle.player.specs.declared.Player.{Player}
 use Rattle.player.specs.declared.Tally.{Tally}
-use Rattle.player.specs.Cues.{idle, isDue}
-use Rattle.player.specs.Playing.{opened, forward, prepared, caughtUp, after}
+use Rattle.player.specs.Cues.{idle}
+use Rattle.player.specs.Playing.{opened, forward, prepared}
 use Rattle.promises.specs.Calls.{Call, run, voiceIn, framesRun, history, seats}
-use Rattle.promises.specs.Night.{strikes, leaves, struckAfter, NotHeld, AllReleased, longestRelease}
+use Rattle.promises.specs.Night.{struckAfter, NotHeld, AllReleased, longestRelease}
 use Rattle.promises.specs.Pedal.{MarksUnderPedal}
 use Rattle.promises.proofs.Banks.{came}
 use Rattle.promises.proofs.EachSlot.{never}
@@ -33,14 +31,14 @@ use Rattle.promises.proofs.Kept.{run-keeps, fresh-sized}
 use Rattle.promises.proofs.Night.{holds, key-released, silent-in-time, releases-end}
 use Rattle.promises.proofs.Pedal.{no-mark}
 use Rattle.promises.proofs.Voices.{from-fresh}
-use Rattle.recitals.specs.Turns.{Turn, Start, nextTurn, hushCalls, freshCalls, callOf, oneFrame, dueCalls, frameCalls, runTurns, callsTurns, InClocks}
-use Rattle.recitals.specs.Recital.{eventsAt, eventsBefore, frameByFrame, callsFor, recital, Plays, Recited}
+use Rattle.recitals.specs.Turns.{Turn, Start, nextTurn, hushCalls, freshCalls, callOf, oneFrame, frameCalls, runTurns, callsTurns}
+use Rattle.recitals.specs.Recital.{eventsAt, frameByFrame, callsFor, recital, Recited}
 use Rattle.recitals.specs.Silence.{pedalAfter, PlayedOut, SongIsReleased, SongEndsInSilence, SongEndsAlways}
-use Rattle.recitals.proofs.Acts.{Leads, run-append, frames-go}
+use Rattle.recitals.proofs.Acts.{run-append, frames-go}
 use Rattle.recitals.proofs.Turns.{turns-clock, idle-run}
 use Rattle.recitals.proofs.Hushes.{many-channels}
 use Rattle.recitals.proofs.Pauses.{channels-begin-fresh, start-releases}
-use Rattle.recitals.proofs.Recital.{up-none, song-each, start-calls, start-clock, plays-give, plays-clear, each-once, song-is-played}
+use Rattle.recitals.proofs.Recital.{up-none, song-each, start-calls, plays-give, plays-clear, each-once, song-is-played}
 use Rattle.recitals.proofs.Pedals.{recital-pedal}
 
 -- ---- keys through a song

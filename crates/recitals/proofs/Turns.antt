@@ -15,7 +15,7 @@ use Rattle.smf.specs.Songs.{openingOf, handedOf}
 use Rattle.state.specs.declared.Answered.{Answered}
 use Rattle.state.specs.declared.Engine.{Engine}
 use Rattle.state.specs.Quiet.{fresh}
-use Rattle.engine.specs.Rendering.{distance, output, renderNumber, render, played}
+use Rattle.engine.specs.Rendering.{distance, renderNumber, render, played}
 use Rattle.player.specs.declared.Answer.{Answer}
 use Rattle.player.specs.declared.Begun.{Begun}
 use Rattle.player.specs.declared.Player.{Player}
@@ -23,14 +23,13 @@ use Rattle.player.specs.declared.Tally.{Tally}
 use Rattle.player.specs.Cues.{idle, cued}
 use Rattle.player.specs.Pauses.{hushedTo, readied, started, stopped}
 use Rattle.player.specs.Playing.{opened, forward, prepared, after, numbers, reported, answered, soundedInto}
-use Rattle.promises.specs.Calls.{Call, does, next, run, framesOf, framesRun}
-use Rattle.promises.specs.Cuts.{ahead, numbersOf}
-use Rattle.promises.specs.Demand1.{SlotPast}
+use Rattle.promises.specs.Calls.{Call, does, next, run, framesRun}
+use Rattle.promises.specs.Cuts.{numbersOf}
 use Rattle.promises.proofs.EachSlot.{either}
 use Rattle.promises.proofs.Demand1.{render-numbers}
 use Rattle.promises.proofs.Demand3.{between-always}
-use Rattle.promises.proofs.Output.{out-length, done-state}
-use Rattle.recitals.specs.Turns.{Turn, Start, Stop, Play, Direct, nextTurn, framesIn, numbersIn, hushCalls, freshCalls, frameCalls, callsOf, RendersDone, OwnDone, IsCalls, PlayerIsEngine, runTurns, numbersTurns, framesTurns, callsTurns, InClock, InClocks, IsRun, RunIsRun, PlayerKeepsPromises, PlaceInPlayer}
+use Rattle.promises.proofs.Output.{out-length}
+use Rattle.recitals.specs.Turns.{Turn, Start, Stop, Play, Direct, nextTurn, framesIn, numbersIn, hushCalls, freshCalls, frameCalls, callsOf, OwnDone, IsCalls, PlayerIsEngine, runTurns, numbersTurns, framesTurns, callsTurns, InClock, InClocks, IsRun, RunIsRun, PlayerKeepsPromises, PlaceInPlayer}
 use Rattle.recitals.proofs.Clocks.{on-clock, off-clock, control-clock, program-clock, bend-clock, Clear, clear-of}
 use Rattle.recitals.proofs.Acts.{Leads, no-calls, joined, relead, run-append, numbers-append, frames-append, hushes, freshens, hush-clock, freshen-clock, cued-engine, frames-go}
 use Rattle.promises.specs.Calls as Calls

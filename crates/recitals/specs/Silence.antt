@@ -8,7 +8,6 @@ use lib.IntN.{ℤ}
 use Rattle.smf.specs.declared.Event.{Event}
 use Rattle.smf.specs.Track.{Events}
 use Rattle.smf.specs.Songs.{eventsOf}
-use Rattle.player.specs.declared.Player.{Player}
 use Rattle.player.specs.Acting.{kindOf, channelIn}
 use Rattle.player.specs.Cues.{idle}
 use Rattle.promises.specs.Night.{Piece, AllReleased, longestRelease}
