@@ -3,12 +3,13 @@ use Prim.Native.Nat.{ℕ, _<_, _≤_, _+_}
 use mathlib.Core.Bool.{Bool, true, false, cond}
 use mathlib.Core.List.{List, [], _∷_, _++_}
 use mathlib.Core.Path.{_≡_, refl, sym, ap, _∙_, subst}
+use native.Mathlib.Omega.{arith}
 use lib.Dec.{eqb, lit<, lit≤}
 use lib.Ieee.{nan}
 use lib.ListN.{replicate}
 use Rattle.smf.specs.declared.Event.{Event}
 use Rattle.smf.specs.Track.{Events}
-use Rattle.smf.specs.Songs.{eventsOf, testOf}
+use Rattle.smf.specs.Songs.{eventsOf}
 use Rattle.state.specs.declared.Engine.{Engine}
 use Rattle.state.specs.Quiet.{fresh}
 use Rattle.player.specs.declared.Player.{Player}
@@ -18,6 +19,7 @@ use Rattle.player.specs.Pauses.{hushedTo, freshenedTo}
 use Rattle.engine.specs.Rendering.{distance, renderNumber}
 use Rattle.recitals.proofs.Acts.{joined, hushes, freshens, run-append}
 use Rattle.recitals.proofs.Turns.{play-number}
+use Rattle.recitals.proofs.Pauses.{start-is-tested}
 use Rattle.recitals.proofs.Cut.{any-cut-of-play}
 use Rattle.recitals.proofs.Recital.{start-calls, song-is-played}
 use Rattle.recitals.proofs.Silence.{song-ends-in-silence}
@@ -195,7 +197,7 @@ song-cut =
     any-cut-of-play song bell ram [] 4 (replicate 8 nan) begun (1 ∷ 3 ∷ []) (one ∷ three ∷ []) (subst (λ (e : Engine). e .clock < 4294967296) (sym begun-engine) (lit< tt))
     first-done (sym four) (part 1 (replicate 2 nan) (lit≤ tt) (part 3 (replicate 6 nan) (lit≤ tt) no-part)) .1
 
--- an empty file is refused at its first byte
-pub empty-refused : testOf [] ≡ record { number = 9; place = 0 }
+-- an empty file is refused, and changes nothing
+pub empty-changes-nothing : nextTurn (Start []) ended ≡ ended
 unfolding ArithBytes.u8At SmfHead.chunkEnd SmfHead.headOf SmfQuantities.twoAt SmfQuantities.fourAt SmfSongs.eventsOf SmfSongs.testOf
-empty-refused = refl
+empty-changes-nothing = start-is-tested [] ended .refused (λ (q : 9 ≡ 0). omega arith)
