@@ -1,10 +1,12 @@
 //! Case files and traces: commands are read from a case as it is played, and each call writes a line of the trace.
 //!
-//! The letters i, j, d, u and h are the repository's own: ../README.md says what each does.
+//! The letters i, j, d, u and h are the repository's own, and L, G, H, V and E the player's: ../README.md says what each
+//! does.
 
 use crate::bank::Bank;
 use crate::bank_admission::{admit, list, Fault};
-use crate::slots_keys_clock::{Answer, Engine, Lent, BANK_NOT_ADMITTED};
+use crate::player::{Applied, Player};
+use crate::slots_keys_clock::{Answer, Lent, BANK_NOT_ADMITTED};
 use crate::strike;
 use crate::tables_and_steps::{tables, Tables};
 use crate::voice::{Stage, Voice};
@@ -14,6 +16,7 @@ use std::io::{self, ErrorKind, Read, Write};
 pub const BANK_ROOM: u32 = 66_000;
 pub const MEMORY_ROOM: u32 = 65_536;
 pub const OUTPUT_ROOM: u32 = 8_448;
+pub const SONG_ROOM: u32 = 66_000;
 
 /// What each number of a render's output holds before the call.
 const BEFORE: u32 = 0x1234_5678;
@@ -87,8 +90,9 @@ impl<R: Read> Commands<R> {
         Ok(length as usize)
     }
 
-    fn bank(&mut self) -> Result<Vec<u8>, Stop> {
-        let length = self.length(BANK_ROOM)?;
+    /// A length, and so many bytes.
+    fn counted(&mut self, room: u32) -> Result<Vec<u8>, Stop> {
+        let length = self.length(room)?;
         self.bytes(length)
     }
 
@@ -123,23 +127,24 @@ impl Memory {
     }
 }
 
-/// The engine and what is lent to it, as a case goes on.
-pub(crate) struct Player {
+/// The player and what is lent to it, as a case goes on.
+pub(crate) struct CaseRun {
     tables: &'static Tables,
-    engine: Engine,
+    player: Player,
     bank: Result<Bank, Fault>,
     ram: Memory,
     rom: Memory,
+    song: Vec<u8>,
     /// How many samples each memory may have.
     memory_room: u32,
 }
 
 /// Plays a case and writes its trace. A damaged case ends with the line `bad`.
 pub fn play(input: impl Read, output: impl Write) -> io::Result<()> {
-    let mut player = Player::new(MEMORY_ROOM);
+    let mut case = CaseRun::new(MEMORY_ROOM);
     run(input, output, |commands| match commands.letter()? {
         None => Ok(None),
-        Some(letter) => player.command(letter, commands).map(Some),
+        Some(letter) => case.command(letter, commands).map(Some),
     })
 }
 
@@ -171,14 +176,15 @@ fn name_line<R: Read>(commands: &mut Commands<R>) -> Result<Vec<u8>, Stop> {
     Ok([b"t ", name.as_slice(), b"\n"].concat())
 }
 
-impl Player {
-    pub(crate) fn new(memory_room: u32) -> Player {
-        Player {
+impl CaseRun {
+    pub(crate) fn new(memory_room: u32) -> CaseRun {
+        CaseRun {
             tables: tables(),
-            engine: Engine::fresh(0),
+            player: Player::fresh(0),
             bank: admit(&[]),
             ram: Memory::default(),
             rom: Memory::default(),
+            song: Vec::new(),
             memory_room,
         }
     }
@@ -186,12 +192,13 @@ impl Player {
     /// One command; the answer is its line, or nothing where it has none.
     pub(crate) fn command<R: Read>(&mut self, letter: u8, c: &mut Commands<R>) -> Result<Vec<u8>, Stop> {
         match letter {
-            b'B' => self.bank = admit(&c.bank()?),
+            b'B' => self.bank = admit(&c.counted(BANK_ROOM)?),
+            b'L' => self.song = c.counted(SONG_ROOM)?,
             b'M' => self.ram = Memory::new(c.memory(self.memory_room)?),
             b'O' => self.rom = Memory::new(c.memory(self.memory_room)?),
             b'm' => self.ram.cut(c.u32()?),
             b'x' => self.rom.cut(c.u32()?),
-            b'F' => self.engine = Engine::fresh(c.u32()?),
+            b'F' => self.player = Player::fresh(c.u32()?),
             b't' => return name_line(c),
             b'h' => return self.hammer(c).map(String::into_bytes),
             _ => return self.call(letter, c).map(String::into_bytes),
@@ -207,21 +214,11 @@ impl Player {
             b'i' => counted(self.admission()),
             b'j' => self.listing(c.u32()?),
             b'd' => self.defect(),
-            b'u' => format!("0 {}", self.engine.slots.iter().flatten().count()),
-            b'n' => counted(self.note_on(c.byte()?, c.byte()?, c.byte()?)),
-            b'o' => counted(self.engine.note_off(self.tables, c.byte()?, c.byte()?)),
-            b'c' => {
-                let (channel, control, value) = (c.byte()?, c.byte()?, c.byte()?);
-                counted(self.engine.control(self.tables, channel, control, value))
-            }
-            b'p' => counted(self.engine.program(c.byte()?, c.byte()?)),
-            b'b' => counted(self.engine.bend(c.byte()?, c.u16()?)),
-            b'r' => {
-                let (answer, output) = self.render(c)?;
-                let bytes = output.iter().flat_map(|number| number.to_bits().to_le_bytes());
-                format!("{} {:016x}", answer.err().unwrap_or(0), hash(bytes))
-            }
+            b'u' => format!("0 {}", self.sounding()),
+            b'n' | b'o' | b'c' | b'p' | b'b' => counted(self.event(letter, c)?),
+            b'r' | b'V' => self.render_line(letter, c)?,
             b's' => self.panel(c.byte()?),
+            b'G' | b'H' | b'E' => self.song_call(letter),
             _ => return Err(UNKNOWN),
         };
         let state = self.state();
@@ -262,30 +259,75 @@ impl Player {
         Ok(strike::lines(&self.bank, program, number, key, velocity))
     }
 
-    fn note_on(&mut self, channel: u8, key: u8, velocity: u8) -> Answer {
-        let lent = Lent { bank: &self.bank, ram: self.ram.part(), rom: self.rom.part() };
-        self.engine.note_on(self.tables, &lent, channel, key, velocity)
+    fn sounding(&self) -> usize {
+        self.player.engine.slots.iter().flatten().count()
     }
 
-    /// The answer of an r command, and the whole output after it.
-    fn render<R: Read>(&mut self, c: &mut Commands<R>) -> Result<(Answer, Vec<f32>), Stop> {
+    /// A direct event: n, o, c, p or b.
+    fn event<R: Read>(&mut self, letter: u8, c: &mut Commands<R>) -> Result<Answer, Stop> {
+        let lent = Lent { bank: &self.bank, ram: self.ram.part(), rom: self.rom.part() };
+        let engine = &mut self.player.engine;
+        let channel = c.byte()?;
+        Ok(match letter {
+            b'n' => engine.note_on(self.tables, &lent, channel, c.byte()?, c.byte()?),
+            b'o' => engine.note_off(self.tables, channel, c.byte()?),
+            b'c' => engine.control(self.tables, channel, c.byte()?, c.byte()?),
+            b'p' => engine.program(channel, c.byte()?),
+            _ => engine.bend(channel, c.u16()?),
+        })
+    }
+
+    /// What G, H or E answers: the song starts, stops, or is asked whether it is over.
+    fn song_call(&mut self, letter: u8) -> String {
+        match letter {
+            b'G' => match self.player.start(self.tables, &self.song) {
+                Ok(()) => "0 0".to_string(),
+                Err(fault) => format!("{} {}", fault.number, fault.place),
+            },
+            b'H' => {
+                self.player.stop(self.tables);
+                "0 0".to_string()
+            }
+            _ => format!("0 {} {}", u8::from(self.player.over()), self.sounding()),
+        }
+    }
+
+    /// The answer of an r or V command, and the whole output after it. The engine's own render applies no event.
+    fn render<R: Read>(&mut self, letter: u8, c: &mut Commands<R>) -> Result<(Result<Applied, u32>, Vec<f32>), Stop> {
         let (clock, length) = (c.u32()?, c.length(OUTPUT_ROOM)?);
         let lent = Lent { bank: &self.bank, ram: self.ram.part(), rom: self.rom.part() };
         let mut output = vec![f32::from_bits(BEFORE); length];
-        let answer = self.engine.render(self.tables, &lent, clock, &mut output);
+        let answer = if letter == b'V' {
+            self.player.render(self.tables, &lent, &self.song, clock, &mut output)
+        } else {
+            let answer = self.player.engine.render(self.tables, &lent, clock, &mut output);
+            answer.map(|_| Applied::default())
+        };
         Ok((answer, output))
     }
 
-    /// The numbers that an r command writes, two for each frame; none where it is refused.
-    pub(crate) fn rendered<R: Read>(&mut self, c: &mut Commands<R>) -> Result<Vec<f32>, Stop> {
-        let before = self.engine.clock;
-        let (_, mut output) = self.render(c)?;
-        output.truncate(2 * self.engine.clock.wrapping_sub(before) as usize);
+    /// What an r or V command answers: the number, for V the counts, which are 0 where it is refused, and the hash.
+    fn render_line<R: Read>(&mut self, letter: u8, c: &mut Commands<R>) -> Result<String, Stop> {
+        let (answer, output) = self.render(letter, c)?;
+        let number = answer.err().unwrap_or(0);
+        let hash = hash(output.iter().flat_map(|number| number.to_bits().to_le_bytes()));
+        let Applied { events, refused } = answer.unwrap_or_default();
+        Ok(match letter {
+            b'V' => format!("{number} {events} {refused} {hash:016x}"),
+            _ => format!("{number} {hash:016x}"),
+        })
+    }
+
+    /// The numbers that an r or V command writes, two for each frame; none where it is refused.
+    pub(crate) fn rendered<R: Read>(&mut self, letter: u8, c: &mut Commands<R>) -> Result<Vec<f32>, Stop> {
+        let before = self.player.engine.clock;
+        let (_, mut output) = self.render(letter, c)?;
+        output.truncate(2 * self.player.engine.clock.wrapping_sub(before) as usize);
         Ok(output)
     }
 
     fn panel(&self, slot: u8) -> String {
-        match self.engine.panel(slot) {
+        match self.player.engine.panel(slot) {
             Err(number) => number.to_string(),
             Ok(None) => "0 f".to_string(),
             Ok(Some(voice)) => format!("0 {}", self.stage(voice)),
@@ -294,8 +336,9 @@ impl Player {
 
     /// The clock, the word, and each sounding slot with its stage.
     fn state(&self) -> String {
-        let mut text = format!("{:08x} {:08x}", self.engine.clock, self.engine.word());
-        for (slot, voice) in self.engine.slots.iter().enumerate() {
+        let engine = &self.player.engine;
+        let mut text = format!("{:08x} {:08x}", engine.clock, engine.word());
+        for (slot, voice) in engine.slots.iter().enumerate() {
             if let Some(voice) = voice {
                 text += &format!(" {slot}{}", self.stage(voice));
             }

@@ -15,6 +15,7 @@ const USAGE: &str = "usage: second play < CASE > TRACE
        second noise SEED COUNT > COMMANDS
        second make DIR
        second real BANK.sf2 PIECE.mid SECONDS > CASE
+       second real BANK.sf2 PIECE.mid > CASE
        second struck BANK.sf2 > CASE
        second bells > CASE
        second bells DIR";
@@ -33,6 +34,7 @@ fn main() -> ExitCode {
         ["noise", seed, count] => noise(seed, count),
         ["make", directory] => make::write_all(Path::new(directory)),
         ["real", bank, piece, seconds] => real_case(bank, piece, seconds),
+        ["real", bank, piece] => song_case(bank, piece),
         ["struck", bank] => {
             real_bank(bank).and_then(|bank| real::write_strikes(&bank, &mut BufWriter::new(io::stdout().lock())))
         }
@@ -85,6 +87,12 @@ fn real_case(bank: &str, piece: &str, seconds: &str) -> io::Result<()> {
     let seconds = number(seconds, "a number of seconds")?;
     let events = real::midi(&bytes_of(piece)?).map_err(|error| io::Error::other(format!("{piece}: {error}")))?;
     real::write_case(&real_bank(bank)?, &events, seconds, &mut BufWriter::new(io::stdout().lock()))
+}
+
+/// A piece that the player does not start has no case.
+fn song_case(bank: &str, piece: &str) -> io::Result<()> {
+    let case = real::song_case(&real_bank(bank)?, &bytes_of(piece)?);
+    put(&case.map_err(|error| io::Error::other(format!("{piece}: {error}")))?)
 }
 
 fn damaged_songs(seed: &str, count: &str, files: &[&str]) -> io::Result<()> {

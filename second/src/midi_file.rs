@@ -4,6 +4,8 @@
 //! The file is first taken apart as far as it is well formed: its head, its chunks, the track's events as a list. Then
 //! the listed events are timed. All of them lie in front of what is not well formed, so that a fault of time is the
 //! first; and an event that is not well formed is not in the list, so that 9 goes before 11 at one place.
+//!
+//! A cursor goes through the same events one at a time, and needs no whole file for it.
 
 use std::ops::Range;
 
@@ -207,19 +209,82 @@ impl Track<'_> {
     }
 }
 
-/// The channel events with their frames: U sums the ticks of every event times the tempo then in force.
+/// The time in a track: U sums the ticks of every event times the tempo then in force.
+#[derive(Clone, Debug, PartialEq, Eq)]
+struct Time {
+    division: u128,
+    tempo: u128,
+    u: u128,
+}
+
+impl Time {
+    fn at_start(division: u128) -> Time {
+        Time { division, tempo: TEMPO_AT_START, u: 0 }
+    }
+
+    /// So many ticks on, nothing where U is then above its limit.
+    fn pass(&mut self, ticks: u128) -> Option<()> {
+        self.u += ticks * self.tempo;
+        (self.u <= LATEST_MICROS * self.division).then_some(())
+    }
+
+    fn frame(&self) -> u128 {
+        self.u * FRAMES_A_SECOND / (self.division * MICROS_A_SECOND)
+    }
+}
+
+/// The channel events with their frames.
 fn timed(division: u128, events: Vec<Placed>) -> Result<Vec<Struck>, Fault> {
-    let (mut u, mut tempo, mut struck) = (0, TEMPO_AT_START, Vec::new());
+    let (mut time, mut struck) = (Time::at_start(division), Vec::new());
     for Placed { delta, place, event } in events {
-        u += delta * tempo;
-        if u > LATEST_MICROS * division {
-            return Err(Fault { number: TOO_LATE, place });
-        }
+        time.pass(delta).ok_or(Fault { number: TOO_LATE, place })?;
         match event {
-            Event::Channel(bytes) => struck.push((u * FRAMES_A_SECOND / (division * MICROS_A_SECOND), bytes)),
-            Event::Tempo(new) => tempo = new,
+            Event::Channel(bytes) => struck.push((time.frame(), bytes)),
+            Event::Tempo(new) => time.tempo = new,
             Event::EndOfTrack | Event::SteppedOver => {}
         }
     }
     Ok(struck)
+}
+
+/// Where a reader stands that takes one channel event at a time. It keeps no byte of the file: each reading goes on in
+/// whatever file is lent to it, and there the track ends with the file at the latest.
+#[derive(Clone, Debug, PartialEq, Eq)]
+pub struct Cursor {
+    place: usize,
+    track_end: usize,
+    running: Option<u8>,
+    time: Time,
+}
+
+impl Cursor {
+    /// In front of the first event of a file's track.
+    pub fn at_start(file: &[u8]) -> Result<Cursor, Fault> {
+        let (division, behind) = head(file)?;
+        let body = first_track(file, behind)?;
+        Ok(Cursor { place: body.start, track_end: body.end, running: None, time: Time::at_start(division) })
+    }
+
+    /// The next channel event. There is none behind the end of track, nor behind what is not well formed or too late.
+    pub fn next(&mut self, file: &[u8]) -> Option<Struck> {
+        loop {
+            let (delta, event) = self.step(file)?;
+            self.time.pass(delta)?;
+            match event {
+                Event::Channel(bytes) => return Some((self.time.frame(), bytes)),
+                Event::Tempo(new) => self.time.tempo = new,
+                Event::EndOfTrack => return None,
+                Event::SteppedOver => {}
+            }
+        }
+    }
+
+    /// One event of any kind, with its delta time.
+    fn step(&mut self, file: &[u8]) -> Option<(u128, Event)> {
+        let end = self.track_end.min(file.len());
+        let mut track = Track { bytes: &file[..end], at: self.place, running: self.running };
+        let (delta, event) = (track.quantity()?, track.event()?);
+        (self.place, self.running) = (track.at, track.running);
+        Some((delta, event))
+    }
 }

@@ -1,11 +1,18 @@
 //! Cases from real files: a SoundFont bank and a standard MIDI file.
 
+use crate::bank_admission::admit;
 use crate::case::{MEMORY_ROOM, OUTPUT_ROOM};
+use crate::player::Player;
+use crate::slots_keys_clock::Lent;
+use crate::tables_and_steps::tables;
 use std::io::{self, Error, Write};
 
 const FRAMES_A_SECOND: u64 = 44_100;
 const FRAMES_A_RENDER: u64 = (OUTPUT_ROOM / 2) as u64 - 128;
 const HEADER: usize = 46;
+
+/// How long a piece is heard behind its last event, where its voices sound on.
+const LONGEST_ECHO: u64 = 20 * FRAMES_A_SECOND;
 
 fn bad(what: &str) -> Error {
     Error::other(what.to_string())
@@ -98,10 +105,31 @@ impl RealBank {
     }
 
     fn lend(&self, out: &mut impl Write) -> io::Result<()> {
-        out.write_all(b"B")?;
-        out.write_all(&(self.body.len() as u32).to_le_bytes())?;
-        out.write_all(&self.body)
+        lend(out, b'B', &self.body)
     }
+
+    /// The bank and its samples are lent, a fresh engine admits the bank and lists it to its end.
+    fn lend_and_list(&self, out: &mut impl Write) -> io::Result<()> {
+        self.lend(out)?;
+        out.write_all(b"M")?;
+        out.write_all(&(self.ram.len() as u32).to_le_bytes())?;
+        for sample in &self.ram {
+            out.write_all(&sample.to_le_bytes())?;
+        }
+        out.write_all(b"F\0\0\0\0a")?;
+        for place in 0..=self.presets().len() as u32 + 1 {
+            out.write_all(b"l")?;
+            out.write_all(&place.to_le_bytes())?;
+        }
+        Ok(())
+    }
+}
+
+/// A command of a length and so many bytes.
+fn lend(out: &mut impl Write, letter: u8, bytes: &[u8]) -> io::Result<()> {
+    out.write_all(&[letter])?;
+    out.write_all(&(bytes.len() as u32).to_le_bytes())?;
+    out.write_all(bytes)
 }
 
 /// One event of a MIDI file, by the tick at which it stands.
@@ -211,18 +239,8 @@ fn send(out: &mut impl Write, channel: u8, presets: &[(u8, u8)], which: usize) -
 /// The case: the bank is admitted and listed to its end, then the piece is played for so many seconds. A program of the piece
 /// stands for the preset of that place in the bank's list, since few banks have all programs.
 pub fn write_case(bank: &RealBank, piece: &[(u64, Vec<u8>)], seconds: u64, out: &mut impl Write) -> io::Result<()> {
-    bank.lend(out)?;
-    out.write_all(b"M")?;
-    out.write_all(&(bank.ram.len() as u32).to_le_bytes())?;
-    for sample in &bank.ram {
-        out.write_all(&sample.to_le_bytes())?;
-    }
-    out.write_all(b"F\0\0\0\0a")?;
+    bank.lend_and_list(out)?;
     let presets = bank.presets();
-    for place in 0..=presets.len() as u32 + 1 {
-        out.write_all(b"l")?;
-        out.write_all(&place.to_le_bytes())?;
-    }
     for channel in 0..16 {
         send(out, channel, &presets, channel as usize)?;
     }
@@ -248,11 +266,51 @@ fn render_to(out: &mut impl Write, mut clock: u64, to: u64) -> io::Result<u64> {
     while clock < to {
         let frames = (to - clock).min(FRAMES_A_RENDER);
         clock += frames;
-        out.write_all(b"r")?;
-        out.write_all(&(clock as u32).to_le_bytes())?;
-        out.write_all(&(2 * frames as u32).to_le_bytes())?;
+        render(out, b'r', clock as u32, frames as u32)?;
     }
     Ok(clock)
+}
+
+/// A render of so many frames to a clock value, into an output of just as many.
+fn render(out: &mut impl Write, letter: u8, clock: u32, frames: u32) -> io::Result<()> {
+    out.write_all(&[letter])?;
+    out.write_all(&clock.to_le_bytes())?;
+    out.write_all(&(2 * frames).to_le_bytes())
+}
+
+/// The case of a whole piece that the player plays, as its file is: it is started and rendered until it is over and
+/// silent, or for so long behind its last event. Each render is followed by the question whether it is over. How many
+/// renders that takes is found by playing it here.
+pub fn song_case(bank: &RealBank, song: &[u8]) -> io::Result<Vec<u8>> {
+    let renders = renders_of(bank, song)?;
+    let (mut case, frames) = (Vec::new(), FRAMES_A_RENDER as u32);
+    bank.lend_and_list(&mut case)?;
+    lend(&mut case, b'L', song)?;
+    case.push(b'G');
+    for number in 1..=renders {
+        render(&mut case, b'V', number * frames, frames)?;
+        case.push(b'E');
+    }
+    Ok(case)
+}
+
+/// How many renders a song takes.
+fn renders_of(bank: &RealBank, song: &[u8]) -> io::Result<u32> {
+    let (mut player, admitted) = (Player::fresh(0), admit(&bank.body));
+    let lent = Lent { bank: &admitted, ram: &bank.ram, rom: &[] };
+    player.start(tables(), song).map_err(|fault| {
+        let (number, place) = (fault.number, fault.place);
+        Error::other(format!("M-101 does not admit this file: {number} at byte {place}"))
+    })?;
+    let (mut renders, mut echo) = (0, 0);
+    let mut output = vec![0.0; 2 * FRAMES_A_RENDER as usize];
+    while !player.over() || (player.engine.word() != 0 && echo < LONGEST_ECHO) {
+        echo = if player.over() { echo + FRAMES_A_RENDER } else { 0 };
+        renders += 1;
+        let clock = renders * FRAMES_A_RENDER as u32;
+        player.render(tables(), &lent, song, clock, &mut output).expect("the memories stay as they are");
+    }
+    Ok(renders)
 }
 
 /// The strikes: every preset of the bank, keys a third apart, four velocities.

@@ -1,6 +1,6 @@
 //! A case as a recording: it is played as case::play does it, and the numbers of its renders become one WAVE file.
 
-use crate::case::{Commands, Player, Stop};
+use crate::case::{CaseRun, Commands, Stop};
 use crate::wave_file;
 use std::io::{self, Error, Read};
 
@@ -11,17 +11,16 @@ pub const MEMORY_ROOM: u32 = 524_288;
 /// error says which command it is and at which byte it begins.
 pub fn file(case: impl Read) -> io::Result<Vec<u8>> {
     let mut commands = Commands { input: Counted { input: case, count: 0 } };
-    let mut player = Player::new(MEMORY_ROOM);
+    let mut run = CaseRun::new(MEMORY_ROOM);
     let mut numbers = Vec::new();
     loop {
         let begin = commands.input.count;
         let Some(letter) = commands.letter().map_err(|stop| explained(stop, b'?', begin))? else {
             return written(&numbers);
         };
-        let sound = if letter == b'r' {
-            player.rendered(&mut commands)
-        } else {
-            player.command(letter, &mut commands).map(|_| Vec::new())
+        let sound = match letter {
+            b'r' | b'V' => run.rendered(letter, &mut commands),
+            _ => run.command(letter, &mut commands).map(|_| Vec::new()),
         };
         numbers.extend(sound.map_err(|stop| explained(stop, letter, begin))?);
     }

@@ -52,6 +52,13 @@ pub struct Channel {
     pub pedal: u8,
 }
 
+impl Channel {
+    /// "Fresh: clock 0, program and bank 0, bend 8,192, control 7 at 100, 11 at 127, 64 at 0."
+    pub fn fresh() -> Channel {
+        Channel { program: 0, bank: 0, stored_bank: 0, bend: 8_192, volume: 100, expression: 127, pedal: 0 }
+    }
+}
+
 #[derive(Clone, Debug, PartialEq, Eq)]
 pub struct Engine {
     pub slots: Vec<Option<Voice>>,
@@ -62,11 +69,9 @@ pub struct Engine {
 }
 
 impl Engine {
-    /// "Fresh: clock 0, program and bank 0, bend 8,192, control 7 at 100, 11 at 127, 64 at 0." A case may name the clock.
+    /// No slot sounds, and each channel is fresh. A case may name the clock.
     pub fn fresh(clock: u32) -> Engine {
-        let channel =
-            Channel { program: 0, bank: 0, stored_bank: 0, bend: 8_192, volume: 100, expression: 127, pedal: 0 };
-        Engine { slots: vec![None; 32], channels: vec![channel; 16], clock, started: 0 }
+        Engine { slots: vec![None; 32], channels: vec![Channel::fresh(); 16], clock, started: 0 }
     }
 
     /// "Which slots sound is one 32-bit word, a bit for each slot."
@@ -264,8 +269,17 @@ impl Engine {
         Ok(self.slots[slot as usize].as_ref())
     }
 
-    /// "Render is told the clock value to reach; the distance is modulo 2^32."
     pub fn render(&mut self, tables: &Tables, lent: &Lent, clock: u32, output: &mut [f32]) -> Answer {
+        let distance = self.distance(lent, clock, output.len())?;
+        for frame in output.chunks_exact_mut(2).take(distance) {
+            self.frame(tables, lent, frame);
+        }
+        Ok(0)
+    }
+
+    /// "Render is told the clock value to reach; the distance is modulo 2^32." It is so many frames, or the refusal: 5,
+    /// 6, 7, 8 in this order.
+    pub fn distance(&self, lent: &Lent, clock: u32, room: usize) -> Result<usize, u32> {
         let distance = clock.wrapping_sub(self.clock);
         if distance >= 1 << 31 {
             return Err(TOO_FAR);
@@ -273,24 +287,26 @@ impl Engine {
         if distance > 4_096 {
             return Err(TOO_LONG);
         }
-        if output.len() < 2 * distance as usize {
+        if room < 2 * distance as usize {
             return Err(OUTPUT_TOO_SHORT);
         }
         let mut sounding = self.slots.iter().flatten();
         if sounding.any(|voice| lent.ends_past(&voice.numbers.window)) {
             return Err(PAST_MEMORY);
         }
-        for frame in output.chunks_exact_mut(2).take(distance as usize) {
-            let (left, right) = self.one_frame(tables, lent);
-            frame[0] = fraction(left);
-            frame[1] = fraction(right);
-        }
-        self.clock = clock;
-        Ok(0)
+        Ok(distance as usize)
+    }
+
+    /// The two numbers of one frame; the clock is one on.
+    pub fn frame(&mut self, tables: &Tables, lent: &Lent, numbers: &mut [f32]) {
+        let (left, right) = self.sums(tables, lent);
+        numbers[0] = fraction(left);
+        numbers[1] = fraction(right);
+        self.clock = self.clock.wrapping_add(1);
     }
 
     /// The sums of all voices in one frame.
-    fn one_frame(&mut self, tables: &Tables, lent: &Lent) -> (i64, i64) {
+    fn sums(&mut self, tables: &Tables, lent: &Lent) -> (i64, i64) {
         let mut sums = (0, 0);
         for slot in &mut self.slots {
             let Some(voice) = slot else { continue };

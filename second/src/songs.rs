@@ -1,11 +1,8 @@
 //! Songs: MIDI files one behind the other, each a length and its bytes, and the lines for each of them.
 
-use crate::case::{run, Commands, Stop, NO_ROOM};
+use crate::case::{run, Commands, Stop, NO_ROOM, SONG_ROOM};
 use crate::midi_file;
 use std::io::{self, Read, Write};
-
-/// The longest file that there is room for.
-pub const FILE_ROOM: u32 = 66_000;
 
 /// Writes the lines of each file. One that is cut off, or longer than there is room for, ends the run with `bad`.
 pub fn play(input: impl Read, output: impl Write) -> io::Result<()> {
@@ -16,7 +13,7 @@ pub fn play(input: impl Read, output: impl Write) -> io::Result<()> {
 fn next_file<R: Read>(commands: &mut Commands<R>) -> Result<Option<Vec<u8>>, Stop> {
     let Some(low) = commands.letter()? else { return Ok(None) };
     let length = u32::from_le_bytes([low, commands.byte()?, commands.byte()?, commands.byte()?]);
-    if length > FILE_ROOM {
+    if length > SONG_ROOM {
         return Err(NO_ROOM);
     }
     commands.bytes(length as usize).map(Some)

@@ -143,7 +143,7 @@ fn unknown_letters_end_with_bad() {
         let lines = trace(&[letter, 0, 0, 0, 0, 0, 0, 0, 0, 0]);
         let (line, end) = lines.split_at(lines.len() - 4);
         assert_eq!(end, "bad\n");
-        let writes = b"alnocpbrstijdu".contains(&letter);
+        let writes = b"alnocpbrstijduGHVE".contains(&letter);
         assert_eq!(line.is_empty(), !writes, "letter {letter}");
     }
     assert_eq!(trace(b"?aaa"), "bad\n");

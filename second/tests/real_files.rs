@@ -1,5 +1,8 @@
 //! Reading real files: standard MIDI files and SoundFont files, whole and damaged.
 
+use second::case;
+use second::make::player_cases::{ended, in_frames, tower, MEMORY};
+use second::make::script::noise;
 use second::real;
 
 fn midi_file(division: u16, track: &[u8]) -> Vec<u8> {
@@ -66,4 +69,48 @@ fn damaged_banks_are_refused() {
     assert!(real::bank(&chunk(b"RIFF", b"sfbk")).is_err());
     let longer = [b"sfbk".to_vec(), b"LIST\xFF\0\0\0pdta".to_vec()].concat();
     assert!(real::bank(&chunk(b"RIFF", &longer)).is_err());
+}
+
+/// A SoundFont file of the tower's bank.
+fn tower_file() -> Vec<u8> {
+    let samples: Vec<u8> = noise(MEMORY, 3).iter().flat_map(|sample| sample.to_le_bytes()).collect();
+    let lists = [
+        chunk(b"LIST", &[b"sdta".to_vec(), chunk(b"smpl", &samples)].concat()),
+        chunk(b"LIST", &[b"pdta".to_vec(), tower().bytes()].concat()),
+    ];
+    chunk(b"RIFF", &[b"sfbk".to_vec(), lists.concat()].concat())
+}
+
+/// The lines of E in the trace of a whole piece, each without its state; and how many events acted.
+fn whole_piece(song: &[u8]) -> (Vec<String>, u32) {
+    let bank = real::bank(&tower_file()).unwrap();
+    let mut trace = Vec::new();
+    case::play(real::song_case(&bank, song).unwrap().as_slice(), &mut trace).unwrap();
+    let lines = String::from_utf8(trace).unwrap();
+    assert!(lines.starts_with("a 0 0 | ") && lines.contains("\nG 0 0 | ") && !lines.contains("bad"));
+    let call = |line: &str| line.split(" |").next().unwrap_or_default().to_string();
+    let of = |letter: char| lines.lines().filter(move |line| line.starts_with(letter)).map(call);
+    let applied = of('V').map(|line| line.split(' ').nth(2).and_then(|word| word.parse::<u32>().ok()).unwrap()).sum();
+    (of('E').collect(), applied)
+}
+
+#[test]
+fn a_whole_piece_is_played_until_it_is_over_and_silent() {
+    let bell = in_frames().then(5_000, &[0x90, 60, 100]).then(9_000, &[0x80, 60, 0]);
+    let (ends, applied) = whole_piece(&ended(bell));
+    assert_eq!((ends, applied), (["E 0 0 0", "E 0 0 1", "E 0 0 1", "E 0 1 0"].map(String::from).to_vec(), 2));
+}
+
+/// 20 seconds are 216 renders of 4,096 frames, the last not whole.
+#[test]
+fn a_piece_whose_keys_stay_held_is_heard_for_20_seconds_more() {
+    let (ends, applied) = whole_piece(&ended(in_frames().then(0, &[0x90, 60, 100])));
+    assert_eq!((ends.len(), ends.last().map(String::as_str), applied), (1 + 216, Some("E 0 1 1"), 1));
+}
+
+#[test]
+fn a_piece_that_the_player_does_not_start_has_no_case() {
+    let bank = real::bank(&tower_file()).unwrap();
+    let complaint = real::song_case(&bank, b"MThd\0\0\0\x06\0\x01\0\x01\0\x60").unwrap_err().to_string();
+    assert_eq!(complaint, "M-101 does not admit this file: 10 at byte 8");
 }

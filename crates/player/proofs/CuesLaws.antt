@@ -4,9 +4,9 @@ use mathlib.Core.List.{List}
 use mathlib.Core.Logic.{_⊎_, inl, inr, ⊎-elim}
 use mathlib.Core.Path.{_≡_, refl, sym, ap, _∙_, subst}
 use Prim.Native.Nat.{ℕ, zero, suc, _+_, _-_, _*_, _<_, _≤_}
-use native.Mathlib.Nat.{min-le-right}
+use native.Mathlib.Nat.{min-le-left}
 use native.Mathlib.Omega.{arith}
-use borrow.Author.Tests.{ltb-true, ltb-false, leb-true, leb-false, le-leb}
+use borrow.Author.Tests.{ltb-true, ltb-false, leb-true, leb-false, le-leb, lt-ltb, le-ltb}
 use lib.Dec.{leb, ltb}
 use lib.ListN.{length}
 use Rattle.smf.specs.declared.Cursor.{Cursor}
@@ -37,6 +37,14 @@ left-most song p = by (p .ended) refl
     by : (t : Bool) → p .ended ≡ t → left song p ≤ suc (length song)
     by true e = omega (arith, left-none song p e)
     by false e = omega (arith, left-some song p e, edge-in song (p .cursor))
+
+-- no more than 32 bits count
+pub left-low : (song : List ℕ) (p : Player) → p .cursor .end < 4294967296 → left song p ≤ 4294967296
+left-low song p h = by (p .ended) refl
+  where
+    by : (t : Bool) → p .ended ≡ t → left song p ≤ 4294967296
+    by true e = omega (arith, left-none song p e)
+    by false e = omega (arith, left-some song p e, min-le-left (p .cursor .end) (length song))
 
 -- where one is left, the song has not ended
 pub left-open : (song : List ℕ) (p : Player) → 0 < left song p → p .ended ≡ false
@@ -96,6 +104,23 @@ quiet-still m p q = ⊎-elim (λ (e : p .ended ≡ true). rw e refl) (λ (h : si
         by false q = rw (q, e) refl
 
 -- ---- how far it is
+
+-- where the song has ended it is all that was asked for
+pub gap-ended : (p : Player) (most : ℕ) → p .ended ≡ true → gapOf p most ≡ most
+unfolding gapOf
+gap-ended p most e = ap (λ (t : Bool). cond t most (cond (ltb (waitOf p) most) (waitOf p) most)) e
+
+-- the way to the next event, where that is less
+pub gap-near : (p : Player) (most : ℕ) → p .ended ≡ false → waitOf p < most → gapOf p most ≡ waitOf p
+unfolding gapOf
+gap-near p most e h =
+    ap (λ (t : Bool). cond t most (cond (ltb (waitOf p) most) (waitOf p) most)) e ∙ ap (λ (t : Bool). cond t (waitOf p) most) (lt-ltb (waitOf p) most h)
+
+-- and else all
+pub gap-far : (p : Player) (most : ℕ) → p .ended ≡ false → most ≤ waitOf p → gapOf p most ≡ most
+unfolding gapOf
+gap-far p most e h =
+    ap (λ (t : Bool). cond t most (cond (ltb (waitOf p) most) (waitOf p) most)) e ∙ ap (λ (t : Bool). cond t (waitOf p) most) (le-ltb (waitOf p) most h)
 
 -- the gap is at most what was asked for
 pub gap-most : (p : Player) (most : ℕ) → gapOf p most ≤ most

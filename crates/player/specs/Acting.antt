@@ -26,12 +26,16 @@ channelIn v = v .status % 16
 abbrev pub bendIn : Event → ℕ
 bendIn v = v .first + 128 * v .second
 
--- the call: 8 note-off, 9 note-on, 11 control change, 12 program change, 14 pitch bend. Key and channel pressure, 10 and 13, have none: they are done
-unfoldable pub heeded : List ℕ → List ℤ → List ℤ → Event → Engine → Answered
-heeded bank ram rom v e =
-    cond (eqb (kindOf v) 8) (noteOff (channelIn v) (v .first) e)
-    (cond (eqb (kindOf v) 9) (noteOn (bankFrom bank) ram rom (channelIn v) (v .first) (v .second) e)
-    (cond (eqb (kindOf v) 11) (controlChange (channelIn v) (v .first) (v .second) e)
-    (cond (eqb (kindOf v) 12) (programChange (channelIn v) (v .first) e)
-    (cond (eqb (kindOf v) 14) (pitchBend (channelIn v) (bendIn v) e)
+-- the call of a kind: 8 note-off, 9 note-on, 11 control change, 12 program change, 14 pitch bend. Key and channel pressure, 10 and 13, have none: they are done
+unfoldable pub heededAs : ℕ → List ℕ → List ℤ → List ℤ → Event → Engine → Answered
+heededAs kind bank ram rom v e =
+    cond (eqb kind 8) (noteOff (channelIn v) (v .first) e)
+    (cond (eqb kind 9) (noteOn (bankFrom bank) ram rom (channelIn v) (v .first) (v .second) e)
+    (cond (eqb kind 11) (controlChange (channelIn v) (v .first) (v .second) e)
+    (cond (eqb kind 12) (programChange (channelIn v) (v .first) e)
+    (cond (eqb kind 14) (pitchBend (channelIn v) (bendIn v) e)
     (done 0 e)))))
+
+-- the call of an event, made on an engine
+abbrev pub heeded : List ℕ → List ℤ → List ℤ → Event → Engine → Answered
+heeded bank ram rom v e = heededAs (kindOf v) bank ram rom v e

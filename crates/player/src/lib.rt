@@ -5,18 +5,17 @@ mod cues;
 mod pauses;
 mod playing;
 
-use engine::Engine;
-use smf::Cursor;
-use smf::Event;
-
 pub use asking::held_count;
 pub use asking::is_over;
 pub use asking::is_silent;
 pub use cues::fresh;
 pub use cues::with_engine;
+use engine::Engine;
 pub use pauses::start;
 pub use pauses::stop;
 pub use playing::render;
+use smf::Cursor;
+use smf::Event;
 
 // Each value of this type is a legal state. A host's direct calls are the engine's, on `engine`.
 pub struct Player {

@@ -51,7 +51,14 @@ fn apply<'a>(x: Tally, file: &[u8], bank: &[u8], ram: &'a [i16], rom: &'a [i16])
 }
 
 // The same only where frames are left to be rendered.
-fn apply_if<'a>(more: bool, x: Tally, file: &[u8], bank: &[u8], ram: &'a [i16], rom: &'a [i16]) -> Tally
+fn apply_if<'a>(
+    more: bool,
+    x: Tally,
+    file: &[u8],
+    bank: &[u8],
+    ram: &'a [i16],
+    rom: &'a [i16],
+) -> Tally
     requires { ⌜ (x .applied < 4294967295) × (x .refused ≤ x .applied) ⌝ }
     ensures { λ r. ⌜ r ≡ cond more (applying (now (file .entry)) (now (bank .entry)) (now (ram .entry)) (now (rom .entry)) x) x ⌝ }
 {

@@ -2,7 +2,7 @@
 
 use super::bank_builder::{one_zone, quick, sample};
 use super::script::{noise, Script};
-use crate::case::{BANK_ROOM, OUTPUT_ROOM};
+use crate::case::{BANK_ROOM, OUTPUT_ROOM, SONG_ROOM};
 use std::collections::BTreeSet;
 
 /// The commands with the number of bytes that follow the letter; those with a length are cut off further below.
@@ -27,18 +27,42 @@ const FIXED: [(u8, usize); 15] = [
 /// Each damaged case with its name, for a player with so much room in each memory.
 pub fn all(memory_room: u32) -> Vec<(String, Vec<u8>)> {
     let mut list = vec![("empty".to_string(), Vec::new())];
-    for (letter, bytes) in FIXED {
-        let shorts: BTreeSet<usize> = [0, bytes / 2, bytes - 1].into();
-        for short in shorts {
-            let name = format!("cut-{}-{short}", file_letter(letter));
-            list.push((name, after_start(letter, &[1, 0, 0, 0, 0, 0, 0, 0][..short])));
-        }
-    }
+    list.extend(cut_numbers(&FIXED));
     list.extend(unknown_letters());
-    list.extend(cut_bodies());
+    list.extend(cut_bodies(&[(b'B', 5), (b'M', 9), (b'O', 9)]));
+    list.push(("body-t".to_string(), after_start(b't', b"\x05name")));
     list.extend(too_large(memory_room));
     list.extend(not_playable());
     list.push(("nothing-behind".to_string(), after_start(b'?', b"s\0s\0a")));
+    list
+}
+
+/// The same of the player's letters. G, H and E have nothing behind them that could be cut off; their lines come first.
+pub fn of_player() -> Vec<(String, Vec<u8>)> {
+    let number = |n: u32| n.to_le_bytes().to_vec();
+    let behind = |letter: u8| (format!("behind-{}", file_letter(letter)), after_start(letter, b"?"));
+    let mut list = [b'G', b'H', b'E'].map(behind).to_vec();
+    list.extend(cut_numbers(&[(b'L', 4), (b'V', 8)]));
+    list.extend(cut_bodies(&[(b'L', 5)]));
+    for (name, length) in [("", SONG_ROOM + 1), ("-65536-more", SONG_ROOM + 65_536), ("-most", u32::MAX)] {
+        list.push((format!("large-ll{name}"), after_start(b'L', &number(length))));
+    }
+    for (name, length) in [("", OUTPUT_ROOM + 1), ("-most", u32::MAX)] {
+        list.push((format!("large-vv{name}"), after_start(b'V', &[number(3), number(length)].concat())));
+    }
+    list
+}
+
+/// Commands with so many bytes behind the letter, cut off in front of the first, in the middle and in front of the last.
+fn cut_numbers(letters: &[(u8, usize)]) -> Vec<(String, Vec<u8>)> {
+    let mut list = Vec::new();
+    for (letter, bytes) in letters {
+        let shorts: BTreeSet<usize> = [0, bytes / 2, bytes - 1].into();
+        for short in shorts {
+            let name = format!("cut-{}-{short}", file_letter(*letter));
+            list.push((name, after_start(*letter, &[1, 0, 0, 0, 0, 0, 0, 0][..short])));
+        }
+    }
     list
 }
 
@@ -66,17 +90,16 @@ fn unknown_letters() -> Vec<(String, Vec<u8>)> {
     list.map(|&l| (format!("unknown-{l:02x}"), after_start(l, &[]))).collect()
 }
 
-/// Lengths that promise more bytes than come.
-fn cut_bodies() -> Vec<(String, Vec<u8>)> {
+/// Lengths that promise one byte more than comes: of bytes, or of samples of two bytes.
+fn cut_bodies(letters: &[(u8, usize)]) -> Vec<(String, Vec<u8>)> {
     let mut list = Vec::new();
-    for (letter, body) in [(b'B', 5), (b'M', 9), (b'O', 9)] {
-        for have in [0, body] {
-            let mut bytes = vec![if letter == b'B' { 6 } else { 5 }, 0, 0, 0];
+    for (letter, body) in letters {
+        for have in [0, *body] {
+            let mut bytes = vec![if *body == 5 { 6 } else { 5 }, 0, 0, 0];
             bytes.extend(vec![7; have]);
-            list.push((format!("body-{}-{have}", file_letter(letter)), after_start(letter, &bytes)));
+            list.push((format!("body-{}-{have}", file_letter(*letter)), after_start(*letter, &bytes)));
         }
     }
-    list.push(("body-t".to_string(), after_start(b't', b"\x05name")));
     list
 }
 

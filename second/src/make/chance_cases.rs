@@ -154,7 +154,8 @@ fn run(s: &mut Script, seed: u64, behind: fn(&mut Script)) {
     behind(s);
 }
 
-fn command(s: &mut Script, c: &mut Chance, length: u32) {
+/// A call by chance, over memories of this length.
+pub fn command(s: &mut Script, c: &mut Chance, length: u32) {
     let channel = c.pick(&[0, 0, 0, 1, 9]);
     let key = c.pick(&[40, 55, 60, 60, 61, 66, 72, 90]);
     match c.from(0, 19) {

@@ -35,6 +35,10 @@
 //! - the four points at both sides of each edge of a window and a loop, every q, both ends of the range, rounding below 0,
 //!   modes 1 and 3 before and after release, loops of one to four samples and of 15 to 129 steps, at steps from low to the
 //!   highest, in attacks, decays, releases, bends and pans (M-100): point_cases
+//! - the player: songs to their end, every kind of event, hundreds on one frame, the edges of a render, a cut at every
+//!   frame, starts over songs, refused starts, stops, the clock's wrap, 5 to 8 while events are due, events that the engine
+//!   refuses with 1, 3, 4 and 8, direct calls, events that were missed: player_cases; files that are lent in the midst of
+//!   a song: player_file_cases; by chance: player_chance; damaged: bad_cases::of_player
 //! - the numbers of each layer's voice (h): strike_cases; values of the tables: number_lines
 //! - what the prover computes by the definitions: proof_examples, over the voices and runs of drawn
 //!
@@ -85,7 +89,7 @@
 //! - inputs that are themselves damaged: wave_streams
 
 mod admission;
-mod bad_cases;
+pub mod bad_cases;
 pub mod bank_builder;
 pub mod chance;
 pub mod chance_cases;
@@ -98,6 +102,9 @@ mod layer_cases;
 mod listing_cases;
 mod number_lines;
 mod numbers_of_table;
+pub mod player_cases;
+pub mod player_chance;
+mod player_file_cases;
 mod point_cases;
 mod proof_examples;
 pub mod record_cases;
@@ -127,7 +134,7 @@ use std::path::Path;
 
 /// Writes drive/, record/, songs/, waves/, numbers/ and the examples of promises/ and voice/ into the directory.
 pub fn write_all(directory: &Path) -> io::Result<()> {
-    let damaged = bad_cases::all(case::MEMORY_ROOM);
+    let damaged = [bad_cases::all(case::MEMORY_ROOM), bad_cases::of_player()].concat();
     write_program(&directory.join("drive"), |case, trace| case::play(case, trace), &all_cases().bytes, damaged)?;
     write_program(
         &directory.join("record"),
@@ -202,5 +209,8 @@ pub fn all_cases() -> Script {
     count_cases::write(&mut script);
     gain_cases::write(&mut script);
     point_cases::write(&mut script);
+    player_cases::write(&mut script);
+    player_file_cases::write(&mut script);
+    player_chance::write(&mut script);
     script
 }

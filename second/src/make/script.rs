@@ -188,9 +188,48 @@ impl Script {
 
     /// A render that is refused, so that the clock stays.
     pub fn ask(&mut self, distance: u32, length: u32) {
+        self.render(b'r', distance, length);
+    }
+
+    fn render(&mut self, letter: u8, distance: u32, length: u32) {
         let target = self.clock.wrapping_add(distance);
         let numbers = [target.to_le_bytes(), length.to_le_bytes()].concat();
-        self.put(b'r', &numbers);
+        self.put(letter, &numbers);
+    }
+
+    // The player
+
+    pub fn song(&mut self, file: &[u8]) {
+        self.put_long(b'L', file.len(), file);
+    }
+
+    /// The song that is lent starts.
+    pub fn start(&mut self) {
+        self.put(b'G', &[]);
+    }
+
+    pub fn stop(&mut self) {
+        self.put(b'H', &[]);
+    }
+
+    /// Whether the song is over, and how many voices sound.
+    pub fn over(&mut self) {
+        self.put(b'E', &[]);
+    }
+
+    /// A render by the player that is done, as `go`.
+    pub fn play(&mut self, n: u32) {
+        self.play_into(n, 2 * n);
+    }
+
+    pub fn play_into(&mut self, n: u32, length: u32) {
+        self.ask_player(n, length);
+        self.clock = self.clock.wrapping_add(n);
+    }
+
+    /// A render by the player that is refused.
+    pub fn ask_player(&mut self, distance: u32, length: u32) {
+        self.render(b'V', distance, length);
     }
 
     /// Up to one frame in front of n frames, and then four single frames.

@@ -3,7 +3,8 @@
 use super::chance::Chance;
 use super::song_builder::quantity_in;
 use super::song_chance;
-use crate::songs::{with_length, FILE_ROOM};
+use crate::case::SONG_ROOM;
+use crate::songs::with_length;
 use std::io::{self, Write};
 
 /// How many songs of our own there are where no file is given.
@@ -23,11 +24,11 @@ pub fn write(seed: u64, count: u64, files: &[Vec<u8>], out: &mut impl Write) -> 
 
 /// A file with one to four changes, cut to the longest that there is room for.
 pub fn damaged(c: &mut Chance, file: &[u8]) -> Vec<u8> {
-    let mut bytes = file[..file.len().min(FILE_ROOM as usize)].to_vec();
+    let mut bytes = file[..file.len().min(SONG_ROOM as usize)].to_vec();
     for _ in 0..c.pick(&[1, 1, 1, 2, 2, 3, 4]) {
         change(c, &mut bytes);
     }
-    bytes.truncate(FILE_ROOM as usize);
+    bytes.truncate(SONG_ROOM as usize);
     if c.once_in(2) {
         mend_length(&mut bytes);
     }

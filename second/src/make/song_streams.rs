@@ -3,7 +3,8 @@
 
 use super::song_builder::{song, Named, Piece, NOTE};
 use super::{song_cases, song_chance, song_fault_cases, song_time_cases, track_cases};
-use crate::songs::{with_length, FILE_ROOM};
+use crate::case::SONG_ROOM;
+use crate::songs::with_length;
 
 /// All song cases.
 pub fn all() -> Vec<Named> {
@@ -33,15 +34,15 @@ pub fn damaged() -> Vec<Named> {
         ("one-song", good()),
         ("empty-song", with_length(&[])),
         ("no-song-behind-empty", [with_length(&[]), vec![0]].concat()),
-        ("most-length", says(FILE_ROOM, FILE_ROOM as usize)),
-        ("most-length-cut", says(FILE_ROOM, FILE_ROOM as usize - 1)),
-        ("large", says(FILE_ROOM + 1, 0)),
-        ("large-whole", [says(FILE_ROOM + 1, FILE_ROOM as usize + 1), good()].concat()),
-        ("large-65536-more", says(FILE_ROOM + 65_536, 100)),
+        ("most-length", says(SONG_ROOM, SONG_ROOM as usize)),
+        ("most-length-cut", says(SONG_ROOM, SONG_ROOM as usize - 1)),
+        ("large", says(SONG_ROOM + 1, 0)),
+        ("large-whole", [says(SONG_ROOM + 1, SONG_ROOM as usize + 1), good()].concat()),
+        ("large-65536-more", says(SONG_ROOM + 65_536, 100)),
         ("large-signed", says(0x8000_0000, 100)),
         ("large-most", says(u32::MAX, 100)),
         ("large-first", [u32::MAX.to_le_bytes().to_vec(), good()].concat()),
-        ("nothing-behind", [says(FILE_ROOM + 1, 0), good(), good()].concat()),
+        ("nothing-behind", [says(SONG_ROOM + 1, 0), good(), good()].concat()),
         ("refused-then-cut", [with_length(&song(0, &[])), good()[..20].to_vec()].concat()),
     ];
     list.into_iter().map(|(name, bytes)| (name.to_string(), bytes)).chain(cut_off()).collect()

@@ -21,7 +21,10 @@ control-change-requires-3 c κs = search needs
 
 returns : tie.Need-returns
 unfolding freshened
-returns c = ?
+returns c =
+    let d = c .before .before .before in
+    let p = d .before .before in
+    simp (c .before .control-change3 .ensures, d .control-change2 .ensures, p .pitch-bend .ensures, p .before .before .program-change .ensures, p .before .before .before .before .control-change .ensures)
 
 pub freshen-spec : {M : Type 1} → statement M
 freshen-spec =

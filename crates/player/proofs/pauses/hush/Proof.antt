@@ -1,5 +1,4 @@
 -- The pedal, and then the keys.
-use mathlib.Core.Path.{ap, _∙_}
 use Rattle.player.specs.Pauses.{hushed}
 use borrow.Author.Needs.{needs}
 use Rattle.player.proofs.pauses.hush.Statement.{statement}
@@ -13,7 +12,7 @@ control-change-requires-2 c κs = search needs
 
 returns : tie.Need-returns
 unfolding hushed
-returns c = simp (c .control-change2 .ensures, c .before .control-change .ensures)
+returns c = simp (c .before .control-change2 .ensures, c .before .before .before .control-change .ensures)
 
 pub hush-spec : {M : Type 1} → statement M
 hush-spec = tie.close (tie.spec control-change-requires control-change-requires-2 returns)

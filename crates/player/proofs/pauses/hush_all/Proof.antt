@@ -1,38 +1,43 @@
+-- One channel a turn.
+use native.Mathlib.Omega.{arith}
+use mathlib.Core.Path.{_≡_, refl, sym, ap, _∙_}
+use Prim.Native.Nat.{ℕ, _-_, _≤_}
+use native.Mathlib.Numerals.{add-one}
+use Rattle.player.specs.Pauses.{hushed, hushedTo}
+use borrow.Author.Needs.{needs}
 use Rattle.player.proofs.pauses.hush_all.Statement.{statement}
 use Rattle.player.proofs.pauses.hush_all.Tie as tie
-use Rattle.player.proofs.pauses.hush_all.Reads as reads
-use Rattle.player.proofs.pauses.hush_all.Lts as lts
-use Rattle.player.proofs.pauses.hush.Reads as hush-reads
 
 abbrev Inv-loop : tie.InvT-loop
-Inv-loop x₀ channel₀ x channel = ?
+Inv-loop x₀ channel₀ x channel = (x ≡ hushedTo channel x₀) × (channel ≤ 16)
 
 abbrev μ-loop : tie.MeasureT-loop
-μ-loop x₀ channel₀ x channel = ?
+μ-loop x₀ channel₀ x channel = 16 - channel
 
--- src/pauses.rt:26:5
 loop-holds : tie.Need-loop-holds Inv-loop μ-loop
-loop-holds c = ?
+unfolding hushedTo
+loop-holds c = (refl, omega arith)
 
--- src/pauses.rt:27:9
 hush-requires : tie.Need-hush-requires Inv-loop μ-loop
-hush-requires c κs = ?
+hush-requires c κs = search needs
 
--- src/pauses.rt:28:19
 add-channel : tie.Need-add-channel Inv-loop μ-loop
-add-channel c = ?
+add-channel c = search needs
 
--- src/pauses.rt:26:5
 loop-less : tie.Need-loop-less Inv-loop μ-loop
-loop-less c = ?
+loop-less c = search needs
 
--- src/pauses.rt:26:5
 loop-again : tie.Need-loop-again Inv-loop μ-loop
-loop-again c = ?
+unfolding hushedTo
+loop-again c =
+    let l = c .before .before in
+    (c .hush .ensures ∙ ap (hushed (l .loop .channel)) (l .loop .inv .0) ∙ sym (ap (λ (n : ℕ). hushedTo n (l .before .args .e)) (add-one (l .loop .channel))), omega arith)
 
--- src/pauses.rt:21:1
 returns : tie.Need-returns Inv-loop μ-loop
-returns c = ?
+returns c =
+    let l = c .before in
+    let n : l .loop .channel ≡ 16 = omega arith in
+    l .loop .inv .0 ∙ ap (λ (n : ℕ). hushedTo n (l .before .args .e)) n
 
 pub hush-all-spec : {M : Type 1} → statement M
 hush-all-spec =

@@ -1,51 +1,65 @@
+-- No frame, or so many by the engine, into the part of the output.
+use native.Mathlib.Omega.{arith}
+use mathlib.Core.Path.{_≡_, refl, sym, ap, _∙_}
+use Prim.Native.Nat.{ℕ, _*_, _-_, _≤_}
+use lib.Ieee.{Float}
+use mathlib.Core.List.{List}
+use lib.ListN.{length}
+use borrow.Rule.Slice.PartMut.{putMid, mid-len}
+use Rattle.engine.specs.Rendering.{output}
+use Rattle.player.specs.declared.Tally.{Tally}
+use Rattle.player.specs.Playing.{forward}
+use Rattle.player.proofs.PlayingLaws.{written-none, part-put, moved-some, forward-none}
 use borrow.Author.Needs.{needs}
 use Rattle.player.proofs.playing.go_on.Statement.{statement}
 use Rattle.player.proofs.playing.go_on.Tie as tie
-use Rattle.player.proofs.playing.go_on.Reads as reads
-use Rattle.player.proofs.playing.go_on.Lts as lts
-use Rattle.engine.proofs.play.Reads as play-reads
-use Rattle.player.proofs.cues.with_engine.Reads as with-engine-reads
-use Rattle.std.proofs.num.wrapping_add_u32.Reads as wrapping-add-u32-reads
 
--- src/playing.rt:71:9
 returns : tie.Need-returns
-returns c = ?
+returns c =
+    let a = c .before .before .args in (
+      sym (forward-none (a .ram .now) (a .rom .now) (a .x)) ∙ ap (λ (n : ℕ). forward (a .ram .now) (a .rom .now) n (a .x)) (sym (c .if1 .taken)),
+      written-none (a .ram .now) (a .rom .now) (a .x .player .engine) (a .at) (a .m) (a .out .now) (c .if1 .taken),
+    )
 
--- src/playing.rt:75:43
 mul-play : tie.Need-mul-play
 mul-play c = search needs
 
--- src/playing.rt:75:43
 sub-play : tie.Need-sub-play
 sub-play c = search needs
 
--- src/playing.rt:75:43
 part-play-start : tie.Need-part-play-start
 part-play-start c = search needs
 
--- src/playing.rt:75:43
 part-play-end : tie.Need-part-play-end
 part-play-end c = search needs
 
--- src/playing.rt:75:9
 play-requires : tie.Need-play-requires
-play-requires c κs = search needs
+play-requires c κs =
+    let s = c .before .before .before .before .before in
+    let a = s .args in
+    (s .pre .0, omega (arith, s .pre .1, mid-len (a .at) (length (a .out .now)) (a .out .now) (omega arith)))
 
--- src/playing.rt:76:5
 wrapping-add-u32-requires : tie.Need-wrapping-add-u32-requires
 wrapping-add-u32-requires c κs = search needs
 
--- src/playing.rt:78:17
 with-engine-requires : tie.Need-with-engine-requires
 with-engine-requires c κs = search needs
 
--- src/playing.rt:65:1
 same-length : tie.Need-same-length
 same-length c = search needs
 
--- src/playing.rt:65:1
 returns-2 : tie.Need-returns-2
-returns-2 c = ?
+unfolding forward
+returns-2 c =
+    let p = c .before .before .before .before in
+    let i = p .before .before .before .before in
+    let s = i .before .before in
+    let a = s .args in
+    let e = a .x .player .engine in (
+      simp (c .with-engine .ensures, p .play .ensures .0, c .before .wrapping-add-u32 .ensures, moved-some (a .ram .now) (a .rom .now) (a .m) e (i .if1 .left)),
+      ap (putMid (a .at) (length (a .out .now) - a .at) (a .out .now)) (p .play .ensures .1)
+          ∙ part-put (a .at) (2 * a .m) (a .out .now) (output (a .ram .now) (a .rom .now) e (a .m)) (omega (arith, s .pre .1)),
+    )
 
 pub go-on-spec : {M : Type 1} → statement M
 go-on-spec =
