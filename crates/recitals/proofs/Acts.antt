@@ -18,7 +18,7 @@ use Rattle.state.specs.Slots.{withClock}
 use Rattle.engine.specs.Rendering.{distance, output, played}
 use Rattle.player.specs.declared.Player.{Player}
 use Rattle.player.specs.declared.Tally.{Tally}
-use Rattle.player.specs.Acting.{heeded, kindOf}
+use Rattle.player.specs.Acting.{heededAs, heeded, kindOf}
 use Rattle.player.specs.Cues.{withEngine, coming, cued, isDue}
 use Rattle.player.specs.Pauses.{hushed, hushedTo, freshened, freshenedTo}
 use Rattle.player.specs.Playing.{moved, forward, applying, caughtUp, prepared, after, numbers}
@@ -146,7 +146,7 @@ module _ (ram rom : List ℤ) where
 
   -- an event
   pub event-acts : (bank : List ℕ) (v : Event) (e : Engine) → Acts e (callOf bank ram rom v) (heeded bank ram rom v e .engine)
-  unfolding heeded callOf run numbersOf framesRun
+  unfolding heededAs callOf run numbersOf framesRun
   event-acts bank v e =
       pick e (eqb (kindOf v) 8) _ _ _ _
       (record { leads = record { state = refl; numbers = refl; frames = refl; renders = tt }; clock = off-clock (e .clock) _ _ e refl; clear = clear-call ram rom (Calls.NoteOff _ _) e (λ u a. absurd a) })
