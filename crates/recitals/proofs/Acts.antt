@@ -115,8 +115,12 @@ unfolding freshenedTo freshened
 freshen-clock zero e = refl
 freshen-clock (suc n) e =
     let t = e .clock in
-    control-clock t n 11 127 _
-    (control-clock t n 7 100 _ (bend-clock t n 8192 _ (program-clock t n 0 _ (control-clock t n 0 0 _ (freshen-clock n e)))))
+    let y = freshenedTo n e in
+    let a = next (Calls.Control n 0 0) y in
+    let b = next (Calls.Program n 0) a in
+    let d = next (Calls.Bend n 8192) b in
+    let f = next (Calls.Control n 7 100) d in
+    control-clock t n 11 127 f (control-clock t n 7 100 d (bend-clock t n 8192 b (program-clock t n 0 a (control-clock t n 0 0 y (freshen-clock n e)))))
 
 -- what comes next does not touch the engine
 pub cued-engine : (p : Player) (h : Handed) → cued p h .engine ≡ p .engine

@@ -28,7 +28,7 @@ use Rattle.state.specs.Slots.{slotAt, withVoice, ofChannel}
 use Rattle.state.proofs.SlotsLaws.{slot-map}
 use Rattle.events.specs.Bends.{withBend}
 use Rattle.events.specs.Controls.{controlChange, controlled, withStored, withVolume, withExpression, withPedal}
-use Rattle.events.specs.Keys.{held, letOff, mark, off, pedalDown}
+use Rattle.events.specs.Keys.{held, letOff, mark, off, pedalDown, pedalHeld}
 use Rattle.events.specs.Programs.{withProgram}
 use Rattle.events.proofs.KeysLaws.{off-keeps}
 use Rattle.engine.specs.Rendering.{slotAfter}
@@ -36,7 +36,7 @@ use Rattle.player.specs.Pauses.{hushed, hushedTo, freshened, freshenedTo}
 use Rattle.promises.specs.Calls.{Call, next, run, voiceIn, framesOf, begun}
 use Rattle.promises.specs.Controls.{Sets}
 use Rattle.promises.specs.Night.{AllReleased}
-use Rattle.promises.specs.Pedal.{MarksUnderPedal}
+use Rattle.promises.specs.Pedal.{MarksUnderPedal, Lifted}
 use Rattle.promises.proofs.Banks.{came}
 use Rattle.promises.proofs.Controls.{sets-one, bend-sets}
 use Rattle.promises.proofs.EachSlot.{Among, What, stands, pedalled, loosed, freed, started, goes, what, never, letOff-picked}
@@ -45,6 +45,7 @@ use Rattle.promises.proofs.Output.{channels-stand}
 use Rattle.promises.proofs.Pedal.{lifts, marks-run, no-mark}
 use Rattle.promises.proofs.Voices.{from-fresh}
 use Rattle.recitals.specs.Turns.{hushCalls}
+use Rattle.recitals.specs.Pauses.{Stands}
 use Rattle.recitals.proofs.Acts.{run-append, hushes, freshens}
 use Rattle.promises.specs.Calls as Calls
 
@@ -63,6 +64,12 @@ let-go v (Release a t) = refl
 notes-is : (c : ℕ) (e : Engine) → c ≤ 15 → controlChange c 123 0 e ≡ done 0 (off c (held c) e)
 unfolding controlChange controlled
 notes-is c e h = simp (le-ltb 15 c h)
+
+notes-slot : (c : ℕ) (e : Engine) (i : ℕ) → c ≤ 15 → slotAt (next (Calls.Control c 123 0) e) i ≡ letOff (pedalDown e c) (held c) (slotAt e i)
+unfolding off held ofChannel
+notes-slot c e i h =
+    ap (λ (a : Answered). slotAt (a .engine) i) (notes-is c e h)
+    ∙ slot-map e e (letOff (pedalDown e c) (held c)) i (off-keeps (pedalDown e c) (held c) (free blank) refl)
 
 module _ (c : ℕ) where
   -- a voice of the channel that sounds is released
@@ -90,17 +97,12 @@ module _ (c : ℕ) where
 
   -- with the pedal up, control 123 releases all that are held; and what is marked is under a pedal
   looses : (e : Engine) (i : ℕ) → c ≤ 15 → pedalDown e c ≡ false → MarksUnderPedal e → Loosed (slotAt (next (Calls.Control c 123 0) e) i)
-  unfolding release held ofChannel off
+  unfolding release held ofChannel
   looses e i h up marks =
-      subst Loosed (sym at) (by (held c s) refl)
+      subst Loosed (sym (notes-slot c e i h)) (by (held c s) refl)
     where
       s : Slot
       s = slotAt e i
-
-      at : slotAt (next (Calls.Control c 123 0) e) i ≡ letOff (pedalDown e c) (held c) s
-      at =
-          ap (λ (a : Answered). slotAt (a .engine) i) (notes-is c e h)
-          ∙ slot-map e e (letOff (pedalDown e c) (held c)) i (off-keeps (pedalDown e c) (held c) (free blank) refl)
 
       free-of : (b : Bool) → s .voice .marked ≡ b → s .sounding ≡ true → s .voice .channel ≡ c → b ≡ false
       free-of false q on w = refl
@@ -180,16 +182,6 @@ hushed-loosed (suc n) c e h l m i =
     hush-loosed n c (hushedTo n e) (omega arith) (hushed-marks n e m)
     (⊎-elim (λ q. inl q) (λ k. inr (hushed-loosed n c e (omega arith) k m)) (split-last c n l)) i
 
-freshened-loosed : (n c : ℕ) (e : Engine) → ((i : ℕ) → Loosed c (slotAt e i)) → (i : ℕ) → Loosed c (slotAt (freshenedTo n e) i)
-unfolding freshenedTo freshened
-freshened-loosed zero c e h i = h i
-freshened-loosed (suc n) c e h i =
-    keeps c (Calls.Control n 11 127) _ i refl (λ u a. absurd a)
-    (keeps c (Calls.Control n 7 100) _ i refl (λ u a. absurd a)
-    (keeps c (Calls.Bend n 8192) _ i refl (λ u a. absurd a)
-    (keeps c (Calls.Program n 0) _ i refl (λ u a. absurd a)
-    (keeps c (Calls.Control n 0 0) _ i refl (λ u a. absurd a) (freshened-loosed n c e h i)))))
-
 -- ---- channels
 
 -- as many channels as there were
@@ -259,6 +251,72 @@ freshened-channels (suc n) c e h k up =
           (λ (q : c < n). fresh-there n c y (λ w. omega arith) ∙ t .1 q) (split-last c n l),
     )
 
+-- ---- slots that stand
+
+-- as they were
+stood : (s : Slot) → Stands s s
+stood s = record { sounding = refl; channel = refl; key = refl; place = refl }
+
+-- one after the other
+stand-on : {s t u : Slot} → Stands s t → Stands t u → Stands s u
+stand-on a b =
+    record {
+      sounding = b .sounding ∙ a .sounding;
+      channel = b .channel ∙ a .channel;
+      key = b .key ∙ a .key;
+      place = b .place ∙ a .place;
+    }
+
+-- a slot that is let go stands
+letOff-stands : (down : Bool) (picks : Slot → Bool) (s : Slot) → Stands s (letOff down picks s)
+unfolding release
+letOff-stands down picks s = by (picks s) refl down
+  where
+    by : (b : Bool) → picks s ≡ b → (d : Bool) → Stands s (letOff d picks s)
+    by true q true = subst (Stands s) (sym (letOff-picked true picks s q)) (record { sounding = refl; channel = refl; key = refl; place = refl })
+    by true q false = subst (Stands s) (sym (letOff-picked false picks s q)) (record { sounding = refl; channel = refl; key = refl; place = refl })
+    by false q d = subst (Stands s) (sym (off-keeps d picks s q)) (stood s)
+
+-- a channel let go
+hush-stands : (n : ℕ) (e : Engine) (i : ℕ) → n ≤ 15 → Stands (slotAt e i) (slotAt (hushed n e) i)
+unfolding hushed
+hush-stands n e i h =
+    let y = next (Calls.Control n 64 0) e in
+    stand-on (by (pedalHeld n (slotAt e i)) refl) (subst (Stands (slotAt y i)) (sym (notes-slot n y i h)) (letOff-stands (pedalDown y n) (held n) (slotAt y i)))
+  where
+    l : Lifted n 0 e
+    l = lifts n 0 e h (omega arith)
+
+    by : (b : Bool) → pedalHeld n (slotAt e i) ≡ b → Stands (slotAt e i) (slotAt (next (Calls.Control n 64 0) e) i)
+    by true q = subst (Stands (slotAt e i)) (letOff-picked false (pedalHeld n) (slotAt e i) q ∙ sym (l .all i q)) (letOff-stands false (pedalHeld n) (slotAt e i))
+    by false q = subst (Stands (slotAt e i)) (sym (l .others i q)) (stood (slotAt e i))
+
+-- all of them
+pub hushed-stands : (n : ℕ) (e : Engine) (i : ℕ) → n ≤ 16 → Stands (slotAt e i) (slotAt (hushedTo n e) i)
+unfolding hushedTo
+hushed-stands zero e i h = stood (slotAt e i)
+hushed-stands (suc n) e i h = stand-on (hushed-stands n e i (omega arith)) (hush-stands n (hushedTo n e) i (omega arith))
+
+-- a call that sets one channel leaves the slots as they are
+set-slot : (x : Call) (c : ℕ) (f : Channel → Channel) (e : Engine) (i : ℕ) → Sets x c f e → slotAt (next x e) i ≡ slotAt e i
+set-slot x c f e i s = ap (λ (a : Answered). slotAt (a .engine) i) s
+
+pub freshened-slots : (n : ℕ) (e : Engine) (i : ℕ) → n ≤ 16 → slotAt (freshenedTo n e) i ≡ slotAt e i
+unfolding freshenedTo freshened
+freshened-slots zero e i h = refl
+freshened-slots (suc n) e i h =
+    let y = freshenedTo n e in
+    let a = next (Calls.Control n 0 0) y in
+    let b = next (Calls.Program n 0) a in
+    let d = next (Calls.Bend n 8192) b in
+    let f = next (Calls.Control n 7 100) d in
+    set-slot (Calls.Control n 11 127) n (λ (c : Channel). withExpression c 127) f i (sets-one n 127 f (omega arith) (omega arith) .expression)
+    ∙ set-slot (Calls.Control n 7 100) n (λ (c : Channel). withVolume c 100) d i (sets-one n 100 d (omega arith) (omega arith) .volume)
+    ∙ set-slot (Calls.Bend n 8192) n (λ (c : Channel). withBend c 8192) b i (bend-sets n 8192 b (omega arith) (omega arith))
+    ∙ set-slot (Calls.Program n 0) n (λ (c : Channel). withProgram c 0) a i (sets-one n 0 a (omega arith) (omega arith) .program)
+    ∙ set-slot (Calls.Control n 0 0) n (λ (c : Channel). withStored c 0) y i (sets-one n 0 y (omega arith) (omega arith) .stored)
+    ∙ freshened-slots n e i (omega arith)
+
 -- ---- all channels
 
 -- after any run of calls, every voice that sounds is released once all channels are let go
@@ -274,4 +332,6 @@ all-hushed xs i on =
 
 -- and so it stays while they are set
 pub all-freshened : (e : Engine) → AllReleased e → AllReleased (freshenedTo 16 e)
-all-freshened e h i on = freshened-loosed 16 (voiceIn i (freshenedTo 16 e) .channel) e (λ j o q. h j o) i on refl
+all-freshened e h i on =
+    let q = freshened-slots 16 e i (omega arith) in
+    subst (λ (s : Slot). released (s .voice .stage) ≡ true) (sym q) (h i (sym (ap (λ (s : Slot). s .sounding) q) ∙ on))

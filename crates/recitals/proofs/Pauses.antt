@@ -13,6 +13,7 @@ use Rattle.smf.specs.Track.{Song, Events, Refused}
 use Rattle.smf.proofs.SongsLaws.{refused-number}
 use Rattle.state.specs.declared.Engine.{Engine}
 use Rattle.state.specs.Channels.{channelAt}
+use Rattle.state.specs.Slots.{slotAt}
 use Rattle.engine.specs.Rendering.{distance, renderNumber}
 use Rattle.player.specs.declared.Answer.{Answer}
 use Rattle.player.specs.declared.Begun.{Begun}
@@ -23,10 +24,10 @@ use Rattle.player.specs.Playing.{opened, numbers, soundedInto, answered}
 use Rattle.promises.specs.Night.{AllReleased}
 use Rattle.promises.proofs.Kept.{run-keeps}
 use Rattle.recitals.specs.Turns.{Turn, Start, nextTurn, runTurns, callsTurns, InClocks}
-use Rattle.recitals.specs.Pauses.{StartAnswers, StartIsTested, Unplayed, PlayIsTested, ChannelsBeginFresh, ClockStands, StartReleases, StopEnds}
+use Rattle.recitals.specs.Pauses.{StartAnswers, StartIsTested, Unplayed, PlayIsTested, ChannelsBeginFresh, ClockStands, Stands, VoicesStand, StartReleases, StopEnds}
 use Rattle.recitals.proofs.Acts.{hushes, hush-clock, freshen-clock, cued-engine}
 use Rattle.recitals.proofs.Turns.{start-done, start-refused, play-refused, play-number, render-number, sounded-done, numbers-length, idle-run}
-use Rattle.recitals.proofs.Hushes.{many-channels, hushed-pedals, freshened-channels, all-hushed, all-freshened}
+use Rattle.recitals.proofs.Hushes.{many-channels, hushed-pedals, freshened-channels, hushed-stands, freshened-slots, all-hushed, all-freshened}
 
 -- ---- start
 
@@ -129,6 +130,22 @@ clock-stands song p = (by (eqb (openingOf song .number) 0) refl, hush-clock 16 (
         let t = sym (opening-number song) ∙ eqb-true (openingOf song .number) 0 q in
         ap (λ (e : Engine). e .clock) (started-engine song p t) ∙ freshen-clock 16 (hushedTo 16 (p .engine)) ∙ hush-clock 16 (p .engine)
     by false q = ap (λ (b : Begun). b .player .engine .clock) (start-refused song p (eqb-false (openingOf song .number) 0 q))
+
+-- slot by slot
+pub voices-stand : VoicesStand
+unfolding stopped
+voices-stand song p i = (by (eqb (openingOf song .number) 0) refl, hushed-stands 16 (p .engine) i (lit≤ tt))
+  where
+    by : (b : Bool) → eqb (openingOf song .number) 0 ≡ b → Stands (slotAt (p .engine) i) (slotAt (nextTurn (Start song) p .engine) i)
+    by true q =
+        let t = sym (opening-number song) ∙ eqb-true (openingOf song .number) 0 q in
+        let e = hushedTo 16 (p .engine) in
+        subst (Stands (slotAt (p .engine) i)) (sym (ap (λ (x : Engine). slotAt x i) (started-engine song p t) ∙ freshened-slots 16 e i (lit≤ tt)))
+        (hushed-stands 16 (p .engine) i (lit≤ tt))
+    by false q =
+        subst (λ (x : Player). Stands (slotAt (p .engine) i) (slotAt (x .engine) i))
+        (sym (ap (λ (b : Begun). b .player) (start-refused song p (eqb-false (openingOf song .number) 0 q))))
+        (record { sounding = refl; channel = refl; key = refl; place = refl })
 
 -- after any turns
 turns-hushed : (ts : List Turn) → InClocks ts → AllReleased (hushedTo 16 (runTurns ts idle .engine))

@@ -7,8 +7,10 @@ use lib.IntN.{ℤ}
 use lib.Ieee.{Float}
 use lib.ListN.{length, drop}
 use Rattle.smf.specs.Songs.{testOf}
+use Rattle.voice.specs.declared.Slot.{Slot}
 use Rattle.state.specs.Channels.{channelAt}
 use Rattle.state.specs.Quiet.{freshChannel}
+use Rattle.state.specs.Slots.{slotAt}
 use Rattle.engine.specs.Rendering.{distance}
 use Rattle.player.specs.declared.Player.{Player}
 use Rattle.player.specs.Cues.{idle}
@@ -61,6 +63,19 @@ abbrev pub ClockStands : Type 0
 ClockStands =
     (song : List ℕ) (p : Player)
     → (nextTurn (Start song) p .engine .clock ≡ p .engine .clock) × (nextTurn Stop p .engine .clock ≡ p .engine .clock)
+
+-- a slot sounds as it did, with its voice's channel, key and place
+pub record Stands (s t : Slot) : Type 0 where
+  pub sounding : t .sounding ≡ s .sounding
+  pub channel : t .voice .channel ≡ s .voice .channel
+  pub key : t .voice .key ≡ s .voice .key
+  pub place : t .voice .place ≡ s .voice .place
+
+-- neither frees, starts or moves a voice
+abbrev pub VoicesStand : Type 0
+VoicesStand =
+    (song : List ℕ) (p : Player) (i : ℕ)
+    → Stands (slotAt (p .engine) i) (slotAt (nextTurn (Start song) p .engine) i) × Stands (slotAt (p .engine) i) (slotAt (nextTurn Stop p .engine) i)
 
 -- after any turns, a song that starts finds every voice that sounds released
 abbrev pub StartReleases : Type 0
