@@ -35,7 +35,7 @@ use Rattle.player.specs.Playing.{opened, forward, applying, caughtUp, prepared,
 use Rattle.promises.specs.Calls.{Call, run}
 use Rattle.promises.specs.Cuts.{numbersOf, ahead}
 use Rattle.recitals.specs.Turns.{Turn, Start, Play, nextTurn, hushCalls, freshCalls, oneFrame, dueCalls, runTurns, numbersTurns, appliedTurns, refusedTurns}
-use Rattle.recitals.specs.Recital.{eventsAt, eventsBefore, frameByFrame, callsFor, recital, started, Plays, rests, waits, plays, SongIsPlayed, EachOnce, AllInAnHour}
+use Rattle.recitals.specs.Recital.{eventsAt, eventsBefore, frameByFrame, callsFor, recital, startedCalls, Plays, rests, waits, plays, SongIsPlayed, EachOnce, AllInAnHour}
 use Rattle.promises.proofs.EachSlot.{never}
 use Rattle.recitals.proofs.Clocks.{Clear}
 use Rattle.recitals.proofs.Acts.{Leads, no-calls, joined, relead, hushes, freshens, hush-clock, freshen-clock, applying-acts, caught-acts, cued-engine, frame-leads, frame-clock, frames-go}
@@ -518,7 +518,7 @@ song-is-played song bank ram rom vs n ts p h is q =
     let g = plays-give song bank ram rom ts n p0 q in
     let w = now song bank ram rom vs is p0 (e ∙ sym b) (rw b h) (start-holds song vs is p) n (plays-clear song bank ram rom ts n p0 q) in
     let l = joined (start-calls song vs is p) (w .leads) in
-    let cs : started bank ram rom vs (p .engine .clock) n ≡ (hushCalls 16 ++ freshCalls 16) ++ recital bank ram rom vs (p0 .began) n =
+    let cs : startedCalls bank ram rom vs (p .engine .clock) n ≡ (hushCalls 16 ++ freshCalls 16) ++ recital bank ram rom vs (p0 .began) n =
     ap (λ (t : ℕ). (hushCalls 16 ++ freshCalls 16) ++ recital bank ram rom vs t n) (sym b) in
     record {
       engine = ap (λ (u : Player). u .engine) (g .player) ∙ l .state ∙ ap (λ (xs : List Call). run xs (p .engine)) (sym cs);

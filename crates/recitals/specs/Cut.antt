@@ -28,7 +28,7 @@ PartsDone (stands x h k q) = PartsDone q
 PartsDone {song} {bank} {ram} {rom} {p = p} (part n out room q) =
     (answered song bank ram rom (ahead (p .engine) n) (length out) p .number ≡ 0) × PartsDone q
 
--- what they are to the whole render: each is done; the player after them is its player; their numbers, one behind the other, are its numbers; and
+-- what they are to the whole render: the player after them is its player; their numbers, one behind the other, are its numbers; and
 -- the events applied, and the refused ones among them, add up to its counts
 pub record SameAsWhole (x : Turn) (xs : List Turn) (p : Player) : Type 0 where
   pub player : runTurns xs p ≡ nextTurn x p
@@ -36,7 +36,7 @@ pub record SameAsWhole (x : Turn) (xs : List Turn) (p : Player) : Type 0 where
   pub applied : appliedTurns xs p ≡ appliedIn x p
   pub refused : refusedTurns xs p ≡ refusedIn x p
 
--- a done render may be cut into parts whose lengths add up to its frames
+-- a done render may be cut into parts whose lengths add up to its frames: each of them is done
 abbrev pub AnyCutOfPlay : Type 0
 AnyCutOfPlay =
     (song bank : List ℕ) (ram rom : List ℤ) (to : ℕ) (out : List Float) (p : Player) (ns : List ℕ) (xs : List Turn) →

@@ -47,8 +47,8 @@ recital bank ram rom vs began (suc n) =
     ++ (callsFor bank ram rom (eventsAt n vs) ++ (oneFrame ram rom ((began + suc n) % 4294967296) ∷ []))
 
 -- what a start calls, and then the song's n frames
-abbrev pub started : List ℕ → List ℤ → List ℤ → List Event → ℕ → ℕ → List Call
-started bank ram rom vs began n = (hushCalls 16 ++ freshCalls 16) ++ recital bank ram rom vs began n
+abbrev pub startedCalls : List ℕ → List ℤ → List ℤ → List Event → ℕ → ℕ → List Call
+startedCalls bank ram rom vs began n = (hushCalls 16 ++ freshCalls 16) ++ recital bank ram rom vs began n
 
 -- ---- the turns that play it
 
@@ -64,8 +64,8 @@ pub data Plays (song bank : List ℕ) (ram rom : List ℤ) : List Turn → ℕ �
 -- n frames of a song with the events vs: state and numbers are those of its run of calls; the clock is n frames on; as many events are applied as have a frame
 -- below n; and the song is over exactly when these are all
 pub record Recited (song bank : List ℕ) (ram rom : List ℤ) (vs : List Event) (n : ℕ) (ts : List Turn) (p : Player) : Type 0 where
-  pub engine : runTurns (Start song ∷ ts) p .engine ≡ run (started bank ram rom vs (p .engine .clock) n) (p .engine)
-  pub numbers : numbersTurns (Start song ∷ ts) p ≡ numbersOf (started bank ram rom vs (p .engine .clock) n) (p .engine)
+  pub engine : runTurns (Start song ∷ ts) p .engine ≡ run (startedCalls bank ram rom vs (p .engine .clock) n) (p .engine)
+  pub numbers : numbersTurns (Start song ∷ ts) p ≡ numbersOf (startedCalls bank ram rom vs (p .engine .clock) n) (p .engine)
   pub clock : runTurns (Start song ∷ ts) p .engine .clock ≡ ahead (p .engine) n
   pub applied : appliedTurns (Start song ∷ ts) p ≡ length (eventsBefore n vs)
   pub over : runTurns (Start song ∷ ts) p .ended ≡ true → eventsBefore n vs ≡ vs
