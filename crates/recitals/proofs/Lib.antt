@@ -1,0 +1,10 @@
+pub mod Clocks
+pub mod Acts
+pub mod Turns
+pub mod Hushes
+pub mod Pauses
+pub mod Cut
+pub mod Recital
+pub mod Pedals
+pub mod Silence
+pub mod Example
