@@ -21,7 +21,7 @@ use Rattle.player.specs.declared.Tally.{Tally}
 use Rattle.player.specs.Acting.{heededAs, heeded, kindOf}
 use Rattle.player.specs.Cues.{withEngine, coming, cued, isDue}
 use Rattle.player.specs.Pauses.{hushed, hushedTo, freshened, freshenedTo}
-use Rattle.player.specs.Playing.{moved, forward, applying, caughtUp, prepared, after, numbers}
+use Rattle.player.specs.Playing.{ticked, forward, applying, caughtUp, prepared, later, numbers}
 use Rattle.promises.specs.Calls.{Call, does, next, run, written, framesOf, framesRun}
 use Rattle.promises.specs.Cuts.{ahead, numbersOf}
 use Rattle.promises.proofs.Cuts.{done-frames, done-numbers}
@@ -193,8 +193,8 @@ module _ (ram rom : List ℤ) where
   one-ahead e h = omega arith
 
   -- a render of one frame is done, and is the player's own
-  pub frame-leads : (e : Engine) → e .clock < 4294967296 → Clear ram rom e → Leads e (oneFrame ram rom (ahead e 1) ∷ []) (moved ram rom 1 e) (output ram rom e 1) 1
-  unfolding moved run numbersOf framesRun
+  pub frame-leads : (e : Engine) → e .clock < 4294967296 → Clear ram rom e → Leads e (oneFrame ram rom (ahead e 1) ∷ []) (ticked ram rom 1 e) (output ram rom e 1) 1
+  unfolding ticked run numbersOf framesRun
   frame-leads e h c =
       let x = oneFrame ram rom (ahead e 1) in
       let d = one-ahead e h in
@@ -211,13 +211,13 @@ module _ (ram rom : List ℤ) where
       }
 
   -- and it takes no window past its memory
-  pub frame-clear : (e : Engine) → e .clock < 4294967296 → Clear ram rom e → Clear ram rom (moved ram rom 1 e)
+  pub frame-clear : (e : Engine) → e .clock < 4294967296 → Clear ram rom e → Clear ram rom (ticked ram rom 1 e)
   unfolding run
   frame-clear e h c =
       subst (Clear ram rom) (sym (frame-leads e h c .state)) (clear-call ram rom (oneFrame ram rom (ahead e 1)) e (λ u a. absurd a) c)
 
-  pub frame-clock : (e : Engine) → moved ram rom 1 e .clock ≡ (e .clock + 1) % 4294967296
-  unfolding moved
+  pub frame-clock : (e : Engine) → ticked ram rom 1 e .clock ≡ (e .clock + 1) % 4294967296
+  unfolding ticked
   frame-clock e = refl
 
   -- ---- frames
@@ -230,8 +230,8 @@ module _ (ram rom : List ℤ) where
 
   module _ (song bank : List ℕ) where
     pub frames-go : (n : ℕ) (x : Tally) → x .player .engine .clock < 4294967296 → Clear ram rom (x .player .engine)
-        → Goes (x .player .engine) (frameCalls song bank ram rom n x) (after song bank ram rom n x .player .engine) (numbers song bank ram rom n x) n
-    unfolding frameCalls after numbers forward
+        → Goes (x .player .engine) (frameCalls song bank ram rom n x) (later song bank ram rom n x .player .engine) (numbers song bank ram rom n x) n
+    unfolding frameCalls later numbers forward
     frames-go zero x h c = record { leads = no-calls (x .player .engine); clock = omega arith; clear = c }
     frames-go (suc n) x h c =
         let q = caught-acts song bank (turns song) x in
@@ -241,7 +241,7 @@ module _ (ram rom : List ℤ) where
         let f = frame-leads (y .player .engine) k d in
         let t = frame-clock (y .player .engine) in
         let r = frames-go n (forward ram rom 1 y) (omega (arith, t)) (frame-clear (y .player .engine) k d) in
-        record { leads = relead (joined (q .leads) (joined f (r .leads))) refl refl refl (omega arith); clock = later (x .player .engine .clock) (y .player .engine .clock) (moved ram rom 1 (y .player .engine) .clock) (after song bank ram rom n (forward ram rom 1 y) .player .engine .clock) n (q .clock) t (r .clock); clear = r .clear }
+        record { leads = relead (joined (q .leads) (joined f (r .leads))) refl refl refl (omega arith); clock = clocked (x .player .engine .clock) (y .player .engine .clock) (ticked ram rom 1 (y .player .engine) .clock) (later song bank ram rom n (forward ram rom 1 y) .player .engine .clock) n (q .clock) t (r .clock); clear = r .clear }
       where
-        later : (a b c z m : ℕ) → b ≡ a → c ≡ (b + 1) % 4294967296 → z ≡ (c + m) % 4294967296 → z ≡ (a + suc m) % 4294967296
-        later a b c z m h k l = omega arith
+        clocked : (a b c z m : ℕ) → b ≡ a → c ≡ (b + 1) % 4294967296 → z ≡ (c + m) % 4294967296 → z ≡ (a + suc m) % 4294967296
+        clocked a b c z m h k l = omega arith

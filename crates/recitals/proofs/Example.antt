@@ -19,18 +19,18 @@ use Rattle.player.specs.Pauses.{hushedTo, freshenedTo}
 use Rattle.engine.specs.Rendering.{distance, renderNumber}
 use Rattle.recitals.proofs.Acts.{joined, hushes, freshens, run-append}
 use Rattle.recitals.proofs.Turns.{play-number}
-use Rattle.recitals.proofs.Pauses.{start-is-tested}
-use Rattle.recitals.proofs.Cut.{any-cut-of-play}
+use Rattle.recitals.proofs.Borders.{start-is-tested}
+use Rattle.recitals.proofs.Parts.{any-cut-of-play}
 use Rattle.recitals.proofs.Recital.{start-calls, song-is-played}
-use Rattle.recitals.proofs.Silence.{song-ends-in-silence}
+use Rattle.recitals.proofs.Endings.{song-ends-in-silence}
 use Rattle.promises.specs.Calls.{Call, NoteOff, run}
 use Rattle.promises.specs.Night.{longest, longestRelease, struckAfter}
 use Rattle.promises.proofs.Demand3Example.{bell, ram, struckBell, before, computed}
 use Rattle.recitals.specs.Turns.{Turn, Start, Play, nextTurn, hushCalls, freshCalls, callOf, oneFrame, runTurns}
 use Rattle.recitals.specs.Recital.{eventsAt, eventsBefore, callsFor, recital, Plays, rests, plays, Recited}
 use Rattle.promises.specs.Cuts.{ahead, together}
-use Rattle.recitals.specs.Cut.{no-part, part, SameAsWhole}
-use Rattle.recitals.specs.Silence.{pedalAfter, Closed, PlayedOut}
+use Rattle.recitals.specs.Parts.{no-part, part, SameAsOne}
+use Rattle.recitals.specs.Endings.{pedalAfter, Closed, PlayedOut}
 use Rattle.smf.specs.Head as SmfHead
 use Rattle.smf.specs.Items as SmfItems
 use Rattle.smf.specs.Quantities as SmfQuantities
@@ -191,7 +191,7 @@ abbrev three : Turn
 three = Play song bell ram [] (ahead (nextTurn one begun .engine) 3) (replicate 6 nan)
 
 -- are the same player, numbers and counts
-pub song-cut : SameAsWhole first (one ∷ three ∷ []) begun
+pub song-cut : SameAsOne first (one ∷ three ∷ []) begun
 unfolding together StateQuiet.fresh
 song-cut =
     any-cut-of-play song bell ram [] 4 (replicate 8 nan) begun (1 ∷ 3 ∷ []) (one ∷ three ∷ []) (subst (λ (e : Engine). e .clock < 4294967296) (sym begun-engine) (lit< tt))

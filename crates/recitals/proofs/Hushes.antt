@@ -45,7 +45,7 @@ use Rattle.promises.proofs.Output.{channels-stand}
 use Rattle.promises.proofs.Pedal.{lifts, marks-run, no-mark}
 use Rattle.promises.proofs.Voices.{from-fresh}
 use Rattle.recitals.specs.Turns.{hushCalls}
-use Rattle.recitals.specs.Pauses.{Stands}
+use Rattle.recitals.specs.Borders.{Stands}
 use Rattle.recitals.proofs.Acts.{run-append, hushes, freshens}
 use Rattle.promises.specs.Calls as Calls
 

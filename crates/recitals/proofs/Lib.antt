@@ -2,9 +2,9 @@ pub mod Clocks
 pub mod Acts
 pub mod Turns
 pub mod Hushes
-pub mod Pauses
-pub mod Cut
+pub mod Borders
+pub mod Parts
 pub mod Recital
 pub mod Pedals
-pub mod Silence
+pub mod Endings
 pub mod Example

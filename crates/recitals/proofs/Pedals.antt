@@ -30,7 +30,7 @@ use Rattle.promises.proofs.Output.{channels-stand}
 use Rattle.promises.proofs.Pedal.{lifts}
 use Rattle.recitals.specs.Turns.{callOf, oneFrame}
 use Rattle.recitals.specs.Recital.{eventsAt, frameByFrame, callsFor, recital}
-use Rattle.recitals.specs.Silence.{pedalAfter}
+use Rattle.recitals.specs.Endings.{pedalAfter}
 use Rattle.recitals.proofs.Clocks.{on-keeps, off-keeps}
 use Rattle.recitals.proofs.Acts.{run-append}
 use Rattle.recitals.proofs.Hushes.{many-channels}

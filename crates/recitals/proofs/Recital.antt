@@ -31,7 +31,7 @@ use Rattle.player.specs.declared.Player.{Player}
 use Rattle.player.specs.declared.Tally.{Tally}
 use Rattle.player.specs.Acting.{heeded}
 use Rattle.player.specs.Cues.{withEngine, coming, cued, since, isDue}
-use Rattle.player.specs.Playing.{opened, forward, applying, caughtUp, prepared, after, numbers, moved}
+use Rattle.player.specs.Playing.{opened, forward, applying, caughtUp, prepared, later, numbers, ticked}
 use Rattle.promises.specs.Calls.{Call, run}
 use Rattle.promises.specs.Cuts.{numbersOf, ahead}
 use Rattle.recitals.specs.Turns.{Turn, Start, Play, nextTurn, hushCalls, freshCalls, oneFrame, dueCalls, runTurns, numbersTurns, appliedTurns, refusedTurns}
@@ -39,7 +39,7 @@ use Rattle.recitals.specs.Recital.{eventsAt, eventsBefore, frameByFrame,
 use Rattle.promises.proofs.EachSlot.{never}
 use Rattle.recitals.proofs.Clocks.{Clear}
 use Rattle.recitals.proofs.Acts.{Leads, no-calls, joined, relead, hushes, freshens, hush-clock, freshen-clock, applying-acts, caught-acts, cued-engine, frame-leads, frame-clock, frames-go}
-use Rattle.recitals.proofs.Cut.{after-cut, numbers-cut, Gives, behind, idle-gives}
+use Rattle.recitals.proofs.Parts.{after-cut, numbers-cut, Gives, behind, idle-gives}
 use Rattle.recitals.proofs.Turns.{start-done, play-done, play-number, play-numbers, done-clear}
 use Rattle.player.specs.Pauses.{readied, hushedTo}
 use Rattle.promises.proofs.Moments.{no-frame}
@@ -357,7 +357,7 @@ module _ (song bank : List ℕ) (ram rom : List ℤ) (vs : List Event) (is : eve
     (here : p .engine .clock ≡ p .began) (small : p .began < 4294967296) (holds : Holds song vs p) where
   -- after n frames
   abbrev pub then : ℕ → Tally
-  then n = after song bank ram rom n (opened p)
+  then n = later song bank ram rom n (opened p)
 
   -- the player in front of frame n, and the calls that have led to it
   pub record Now (n : ℕ) : Type 0 where
@@ -380,8 +380,8 @@ module _ (song bank : List ℕ) (ram rom : List ℤ) (vs : List Event) (is : eve
 
   -- one frame on
   then-next : (n : ℕ) → then (suc n) ≡ forward ram rom 1 (prepared song bank ram rom (then n))
-  unfolding after
-  then-next n = ap (λ (m : ℕ). after song bank ram rom m (opened p)) (sym (add-one n)) ∙ after-cut song bank ram rom n 1 (opened p)
+  unfolding later
+  then-next n = ap (λ (m : ℕ). later song bank ram rom m (opened p)) (sym (add-one n)) ∙ after-cut song bank ram rom n 1 (opened p)
 
   numbers-next : (n : ℕ) → numbers song bank ram rom (suc n) (opened p)
       ≡ numbers song bank ram rom n (opened p) ++ ([] ++ output ram rom (prepared song bank ram rom (then n) .player .engine) 1)
@@ -407,7 +407,7 @@ module _ (song bank : List ℕ) (ram rom : List ℤ) (vs : List Event) (is : eve
       let z = then-next n in
       let later : ahead (y .player .engine) 1 ≡ (p .began + suc n) % 4294967296 = omega arith in
       record {
-        comes = rw z (engine-holds song (eventsFrom (suc n) vs) (y .player) (moved ram rom 1 (y .player .engine)) (k .holds));
+        comes = rw z (engine-holds song (eventsFrom (suc n) vs) (y .player) (ticked ram rom 1 (y .player .engine)) (k .holds));
         began = ap (λ (u : Tally). u .player .began) z ∙ k .began ∙ w .began;
         clock = ap (λ (u : Tally). u .player .engine .clock) z ∙ frame-clock ram rom (y .player .engine) ∙ later;
         leads =
@@ -420,7 +420,7 @@ module _ (song bank : List ℕ) (ram rom : List ℤ) (vs : List Event) (is : eve
       }
 
   pub now : (n : ℕ) → (0 < n → Clear ram rom (p .engine)) → Now n
-  unfolding after numbers recital
+  unfolding later numbers recital
   now zero c =
       let t = at-first vs in
       record {
@@ -437,7 +437,7 @@ module _ (song bank : List ℕ) (ram rom : List ℤ) (vs : List Event) (is : eve
 module _ (song bank : List ℕ) (ram rom : List ℤ) where
   -- they are frames one behind the other
   pub plays-give : (ts : List Turn) (n : ℕ) (p : Player) → Plays song bank ram rom ts n p → Gives song bank ram rom ts p n
-  unfolding after numbers runTurns numbersTurns appliedTurns refusedTurns
+  unfolding later numbers runTurns numbersTurns appliedTurns refusedTurns
   plays-give [] _ p rests = record { player = refl; numbered = refl; applied = refl; refused = refl }
   plays-give (x ∷ ts) n p (waits y s f q) = idle-gives song bank ram rom x ts p n s f (plays-give ts n p q)
   plays-give (x ∷ ts) _ p (plays {n = n} to out ok q) =

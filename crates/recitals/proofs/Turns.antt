@@ -22,14 +22,14 @@ use Rattle.player.specs.declared.Player.{Player}
 use Rattle.player.specs.declared.Tally.{Tally}
 use Rattle.player.specs.Cues.{idle, cued}
 use Rattle.player.specs.Pauses.{hushedTo, readied, started, stopped}
-use Rattle.player.specs.Playing.{opened, forward, prepared, after, numbers, reported, answered, soundedInto}
+use Rattle.player.specs.Playing.{opened, forward, prepared, later, numbers, reported, answered, soundedInto}
 use Rattle.promises.specs.Calls.{Call, does, next, run, framesRun}
 use Rattle.promises.specs.Cuts.{numbersOf}
 use Rattle.promises.proofs.EachSlot.{either}
 use Rattle.promises.proofs.Demand1.{render-numbers}
 use Rattle.promises.proofs.Demand3.{between-always}
 use Rattle.promises.proofs.Output.{out-length}
-use Rattle.recitals.specs.Turns.{Turn, Start, Stop, Play, Direct, nextTurn, framesIn, numbersIn, hushCalls, freshCalls, frameCalls, callsOf, OwnDone, IsCalls, PlayerIsEngine, runTurns, numbersTurns, framesTurns, callsTurns, InClock, InClocks, IsRun, RunIsRun, PlayerKeepsPromises, PlaceInPlayer}
+use Rattle.recitals.specs.Turns.{Turn, Start, Stop, Play, Direct, nextTurn, framesOfTurn, numbersOfTurn, hushCalls, freshCalls, frameCalls, callsOf, OwnDone, IsCalls, PlayerIsEngine, runTurns, numbersTurns, framesTurns, callsTurns, InClock, InClocks, IsRun, RunIsRun, PlayerKeepsPromises, PlaceInPlayer}
 use Rattle.recitals.proofs.Clocks.{on-clock, off-clock, control-clock, program-clock, bend-clock, Clear, clear-of}
 use Rattle.recitals.proofs.Acts.{Leads, no-calls, joined, relead, run-append, numbers-append, frames-append, hushes, freshens, hush-clock, freshen-clock, cued-engine, frames-go}
 use Rattle.promises.specs.Calls as Calls
@@ -49,10 +49,10 @@ unfolding started
 start-refused song p h = rw (ne-eqb (openingOf song .number) 0 h) refl
 
 -- its calls, either way
-pub start-leads : (song : List ℕ) (p : Player) → Leads (p .engine) (callsOf (Start song) p) (nextTurn (Start song) p .engine) (numbersIn (Start song) p) (framesIn (Start song) p)
+pub start-leads : (song : List ℕ) (p : Player) → Leads (p .engine) (callsOf (Start song) p) (nextTurn (Start song) p .engine) (numbersOfTurn (Start song) p) (framesOfTurn (Start song) p)
 start-leads song p = by (eqb (openingOf song .number) 0) refl
   where
-    by : (b : Bool) → eqb (openingOf song .number) 0 ≡ b → Leads (p .engine) (callsOf (Start song) p) (nextTurn (Start song) p .engine) (numbersIn (Start song) p) (framesIn (Start song) p)
+    by : (b : Bool) → eqb (openingOf song .number) 0 ≡ b → Leads (p .engine) (callsOf (Start song) p) (nextTurn (Start song) p .engine) (numbersOfTurn (Start song) p) (framesOfTurn (Start song) p)
     by true q =
         let d = start-done song p (eqb-true (openingOf song .number) 0 q) in
         relead (joined (hushes 16 (p .engine)) (freshens 16 (hushedTo 16 (p .engine))))
@@ -69,7 +69,7 @@ start-leads song p = by (eqb (openingOf song .number) 0) refl
 module _ (song bank : List ℕ) (ram rom : List ℤ) where
   -- a render that is done
   pub play-done : (to room : ℕ) (p : Player) → renderNumber to ram rom room (p .engine) ≡ 0
-      → answered song bank ram rom to room p ≡ reported (after song bank ram rom (distance (p .engine) to) (opened p))
+      → answered song bank ram rom to room p ≡ reported (later song bank ram rom (distance (p .engine) to) (opened p))
   unfolding answered
   play-done to room p h = rw (eq-eqb (renderNumber to ram rom room (p .engine)) 0 h) refl
 
@@ -115,18 +115,18 @@ module _ (song bank : List ℕ) (ram rom : List ℤ) where
       simp length-append (omega (arith, out-length ram rom (y .player .engine) 1, numbers-length n (forward ram rom 1 y)))
 
   -- the frames and numbers of a done render
-  pub play-frames : (to : ℕ) (out : List Float) (p : Player) → renderNumber to ram rom (length out) (p .engine) ≡ 0 → framesIn (Play song bank ram rom to out) p ≡ distance (p .engine) to
+  pub play-frames : (to : ℕ) (out : List Float) (p : Player) → renderNumber to ram rom (length out) (p .engine) ≡ 0 → framesOfTurn (Play song bank ram rom to out) p ≡ distance (p .engine) to
   play-frames to out p h = ap (λ (n : ℕ). cond (eqb n 0) (distance (p .engine) to) 0) (play-number to (length out) p ∙ h)
 
   pub play-numbers : (to : ℕ) (out : List Float) (p : Player) → renderNumber to ram rom (length out) (p .engine) ≡ 0
-      → numbersIn (Play song bank ram rom to out) p ≡ numbers song bank ram rom (distance (p .engine) to) (opened p)
+      → numbersOfTurn (Play song bank ram rom to out) p ≡ numbers song bank ram rom (distance (p .engine) to) (opened p)
   play-numbers to out p h =
       let n = distance (p .engine) to in
       let os = numbers song bank ram rom n (opened p) in
       ap₂ (λ (m : ℕ) (l : List Float). take (2 * m) l) (play-frames to out p h) (sounded-done to out p h) ∙ take-at os (drop (2 * n) out) (2 * n) (numbers-length n (opened p))
 
   pub play-leads : (to : ℕ) (out : List Float) (p : Player) → p .engine .clock < 4294967296
-      → Leads (p .engine) (callsOf (Play song bank ram rom to out) p) (nextTurn (Play song bank ram rom to out) p .engine) (numbersIn (Play song bank ram rom to out) p) (framesIn (Play song bank ram rom to out) p)
+      → Leads (p .engine) (callsOf (Play song bank ram rom to out) p) (nextTurn (Play song bank ram rom to out) p .engine) (numbersOfTurn (Play song bank ram rom to out) p) (framesOfTurn (Play song bank ram rom to out) p)
   play-leads to out p h = by (eqb (renderNumber to ram rom (length out) (p .engine)) 0) refl
     where
       x : Turn
@@ -138,7 +138,7 @@ module _ (song bank : List ℕ) (ram rom : List ℤ) where
       number : answered song bank ram rom to (length out) p .number ≡ renderNumber to ram rom (length out) (p .engine)
       number = play-number to (length out) p
 
-      by : (b : Bool) → eqb (renderNumber to ram rom (length out) (p .engine)) 0 ≡ b → Leads (p .engine) (callsOf x p) (nextTurn x p .engine) (numbersIn x p) (framesIn x p)
+      by : (b : Bool) → eqb (renderNumber to ram rom (length out) (p .engine)) 0 ≡ b → Leads (p .engine) (callsOf x p) (nextTurn x p .engine) (numbersOfTurn x p) (framesOfTurn x p)
       by true q =
           let z = eqb-true (renderNumber to ram rom (length out) (p .engine)) 0 q in
           relead (frames-go ram rom song bank n (opened p) h (done-clear to out (p .engine) z) .leads)
@@ -146,14 +146,14 @@ module _ (song bank : List ℕ) (ram rom : List ℤ) where
           (ap (λ (a : Answer). a .player .engine) (play-done to (length out) p z)) (play-numbers to out p z) (play-frames to out p z)
       by false q =
           let z = eqb-false (renderNumber to ram rom (length out) (p .engine)) 0 q in
-          let f : framesIn x p ≡ 0 = ap (λ (m : ℕ). cond (eqb m 0) n 0) number ∙ ap (λ (b : Bool). cond b n 0) q in
+          let f : framesOfTurn x p ≡ 0 = ap (λ (m : ℕ). cond (eqb m 0) n 0) number ∙ ap (λ (b : Bool). cond b n 0) q in
           relead (no-calls (p .engine))
           (ap (λ (m : ℕ). cond (eqb m 0) (frameCalls song bank ram rom n (opened p)) []) number ∙ ap (λ (b : Bool). cond b (frameCalls song bank ram rom n (opened p)) []) q)
           (ap (λ (a : Answer). a .player .engine) (play-refused to (length out) p z)) (ap (λ (m : ℕ). take (2 * m) (soundedInto song bank ram rom to out p)) f) f
 
 -- ---- every turn
 
-is-calls : (x : Turn) (p : Player) → Leads (p .engine) (callsOf x p) (nextTurn x p .engine) (numbersIn x p) (framesIn x p) → OwnDone x p → IsCalls x p
+is-calls : (x : Turn) (p : Player) → Leads (p .engine) (callsOf x p) (nextTurn x p .engine) (numbersOfTurn x p) (framesOfTurn x p) → OwnDone x p → IsCalls x p
 is-calls x p l o = record { engine = l .state; numbers = l .numbers; frames = l .frames; renders = o }
 
 pub turn-is-calls : PlayerIsEngine

@@ -1,5 +1,5 @@
 pub mod Turns
-pub mod Pauses
-pub mod Cut
+pub mod Borders
+pub mod Parts
 pub mod Recital
-pub mod Silence
+pub mod Endings

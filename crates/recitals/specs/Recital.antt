@@ -15,7 +15,7 @@ use Rattle.player.specs.declared.Player.{Player}
 use Rattle.player.specs.Playing.{answered}
 use Rattle.promises.specs.Calls.{Call, run}
 use Rattle.promises.specs.Cuts.{ahead, numbersOf}
-use Rattle.recitals.specs.Turns.{Turn, Start, Play, nextTurn, framesIn, hushCalls, freshCalls, callOf, oneFrame, runTurns, numbersTurns, appliedTurns}
+use Rattle.recitals.specs.Turns.{Turn, Start, Play, nextTurn, framesOfTurn, hushCalls, freshCalls, callOf, oneFrame, runTurns, numbersTurns, appliedTurns}
 
 -- ---- the run of calls that a song names
 
@@ -55,7 +55,7 @@ startedCalls bank ram rom vs began n = (hushCalls 16 ++ freshCalls 16) ++ recita
 -- done renders of one song, with one bank and the same memories, that have n frames together; any turn that changes nothing and renders nothing may come between
 pub data Plays (song bank : List ℕ) (ram rom : List ℤ) : List Turn → ℕ → Player → Type 0 where
   rests : {p : Player} → Plays song bank ram rom [] 0 p
-  waits : {xs : List Turn} {n : ℕ} {p : Player} (x : Turn) → nextTurn x p ≡ p → framesIn x p ≡ 0 → Plays song bank ram rom xs n p
+  waits : {xs : List Turn} {n : ℕ} {p : Player} (x : Turn) → nextTurn x p ≡ p → framesOfTurn x p ≡ 0 → Plays song bank ram rom xs n p
       → Plays song bank ram rom (x ∷ xs) n p
   plays : {xs : List Turn} {n : ℕ} {p : Player} (to : ℕ) (out : List Float) → answered song bank ram rom to (length out) p .number ≡ 0
       → Plays song bank ram rom xs n (nextTurn (Play song bank ram rom to out) p)

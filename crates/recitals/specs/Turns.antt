@@ -49,15 +49,15 @@ writtenIn (Play song bank ram rom to out) p = soundedInto song bank ram rom to o
 writtenIn (Direct x) p = written x (p .engine)
 
 -- the frames that it renders: its distance, where it is done
-abbrev pub framesIn : Turn → Player → ℕ
-framesIn (Start song) p = 0
-framesIn Stop p = 0
-framesIn (Play song bank ram rom to out) p = cond (eqb (answered song bank ram rom to (length out) p .number) 0) (distance (p .engine) to) 0
-framesIn (Direct x) p = framesOf x (p .engine)
+abbrev pub framesOfTurn : Turn → Player → ℕ
+framesOfTurn (Start song) p = 0
+framesOfTurn Stop p = 0
+framesOfTurn (Play song bank ram rom to out) p = cond (eqb (answered song bank ram rom to (length out) p .number) 0) (distance (p .engine) to) 0
+framesOfTurn (Direct x) p = framesOf x (p .engine)
 
 -- the numbers that it renders: the first two for each of its frames
-abbrev pub numbersIn : Turn → Player → List Float
-numbersIn x p = take (2 * framesIn x p) (writtenIn x p)
+abbrev pub numbersOfTurn : Turn → Player → List Float
+numbersOfTurn x p = take (2 * framesOfTurn x p) (writtenIn x p)
 
 -- how many events it applies
 abbrev pub appliedIn : Turn → Player → ℕ
@@ -143,8 +143,8 @@ OwnDone (Direct x) p = Unit {0}
 -- a turn is its calls: the engine after it, the numbers and frames that it renders; and none of its renders is refused
 pub record IsCalls (x : Turn) (p : Player) : Type 0 where
   pub engine : nextTurn x p .engine ≡ run (callsOf x p) (p .engine)
-  pub numbers : numbersIn x p ≡ numbersOf (callsOf x p) (p .engine)
-  pub frames : framesIn x p ≡ framesRun (callsOf x p) (p .engine)
+  pub numbers : numbersOfTurn x p ≡ numbersOf (callsOf x p) (p .engine)
+  pub frames : framesOfTurn x p ≡ framesRun (callsOf x p) (p .engine)
   pub renders : OwnDone x p
 
 -- every turn is, of every player. (A clock has 32 bits.)
@@ -161,12 +161,12 @@ runTurns (x ∷ xs) p = runTurns xs (nextTurn x p)
 -- all numbers that it renders, one behind the other
 unfoldable pub numbersTurns : List Turn → Player → List Float
 numbersTurns [] p = []
-numbersTurns (x ∷ xs) p = numbersIn x p ++ numbersTurns xs (nextTurn x p)
+numbersTurns (x ∷ xs) p = numbersOfTurn x p ++ numbersTurns xs (nextTurn x p)
 
 -- its frames
 unfoldable pub framesTurns : List Turn → Player → ℕ
 framesTurns [] p = 0
-framesTurns (x ∷ xs) p = framesIn x p + framesTurns xs (nextTurn x p)
+framesTurns (x ∷ xs) p = framesOfTurn x p + framesTurns xs (nextTurn x p)
 
 -- the events that it applies
 unfoldable pub appliedTurns : List Turn → Player → ℕ

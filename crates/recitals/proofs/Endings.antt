@@ -33,11 +33,11 @@ use Rattle.promises.proofs.Pedal.{no-mark}
 use Rattle.promises.proofs.Voices.{from-fresh}
 use Rattle.recitals.specs.Turns.{Turn, Start, nextTurn, hushCalls, freshCalls, callOf, oneFrame, frameCalls, runTurns, callsTurns}
 use Rattle.recitals.specs.Recital.{eventsAt, frameByFrame, callsFor, recital, Recited}
-use Rattle.recitals.specs.Silence.{pedalAfter, PlayedOut, SongIsReleased, SongEndsInSilence, SongEndsAlways}
+use Rattle.recitals.specs.Endings.{pedalAfter, PlayedOut, SongIsReleased, SongEndsInSilence, SongEndsAlways}
 use Rattle.recitals.proofs.Acts.{run-append, frames-go}
 use Rattle.recitals.proofs.Turns.{turns-clock, idle-run}
 use Rattle.recitals.proofs.Hushes.{many-channels}
-use Rattle.recitals.proofs.Pauses.{channels-begin-fresh, start-releases}
+use Rattle.recitals.proofs.Borders.{channels-begin-fresh, start-releases}
 use Rattle.recitals.proofs.Recital.{up-none, song-each, start-calls, plays-give, plays-clear, each-once, song-is-played}
 use Rattle.recitals.proofs.Pedals.{recital-pedal}
 

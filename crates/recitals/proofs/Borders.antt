@@ -24,7 +24,7 @@ use Rattle.player.specs.Playing.{opened, numbers, soundedInto, answered}
 use Rattle.promises.specs.Night.{AllReleased}
 use Rattle.promises.proofs.Kept.{run-keeps}
 use Rattle.recitals.specs.Turns.{Turn, Start, nextTurn, runTurns, callsTurns, InClocks}
-use Rattle.recitals.specs.Pauses.{StartAnswers, StartIsTested, Unplayed, PlayIsTested, ChannelsBeginFresh, ClockStands, Stands, VoicesStand, StartReleases, StopEnds}
+use Rattle.recitals.specs.Borders.{StartAnswers, StartIsTested, Unplayed, PlayIsTested, ChannelsBeginFresh, ClockStands, Stands, VoicesStand, StartReleases, StopEnds}
 use Rattle.recitals.proofs.Acts.{hushes, hush-clock, freshen-clock, cued-engine}
 use Rattle.recitals.proofs.Turns.{start-done, start-refused, play-refused, play-number, render-number, sounded-done, numbers-length, idle-run}
 use Rattle.recitals.proofs.Hushes.{many-channels, hushed-pedals, freshened-channels, hushed-stands, freshened-slots, all-hushed, all-freshened}
