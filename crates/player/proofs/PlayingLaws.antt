@@ -25,7 +25,7 @@ use Rattle.player.specs.declared.Tally.{Tally}
 use Rattle.player.specs.Acting.{heeded}
 use Rattle.player.specs.Cues.{withEngine, since, isDue}
 use Rattle.player.specs.Internal.Cues.{gapOf}
-use Rattle.player.specs.Playing.{ticked, forward, applying, caughtUp, prepared, later, numbers}
+use Rattle.player.specs.Playing.{ticked, forward, applying, caughtUp, prepared, performed, numbers}
 use Rattle.player.proofs.CuesLaws.{left, left-most, Fewer, fewer, due-open, reached-due, Quiet, quiet-still, gap-most, gap-quiet, gap-less}
 
 -- frames are left behind so many where they are among those that were left
@@ -252,9 +252,9 @@ module _ (song bank : List ℕ) (ram rom : List ℤ) where
 
   -- n frames from a state in front of which an event is due
   pub after-one : (n : ℕ) (x : Tally) → isDue (x .player) ≡ true
-      → later song bank ram rom (suc n) (applying song bank ram rom x) ≡ later song bank ram rom (suc n) x
-  unfolding later
-  after-one n x e = ap (λ (y : Tally). later song bank ram rom n (forward ram rom 1 y)) (prepared-one x e)
+      → performed song bank ram rom (suc n) (applying song bank ram rom x) ≡ performed song bank ram rom (suc n) x
+  unfolding performed
+  after-one n x e = ap (λ (y : Tally). performed song bank ram rom n (forward ram rom 1 y)) (prepared-one x e)
 
   -- their numbers
   pub numbers-one : (n : ℕ) (x : Tally) → isDue (x .player) ≡ true
@@ -265,14 +265,14 @@ module _ (song bank : List ℕ) (ram rom : List ℤ) where
 
   -- frames in front of which no event is due go together
   pub after-quiet : (m r : ℕ) (x : Tally) → Bounded (x .player) → Quiet m (x .player)
-      → later song bank ram rom (m + r) x ≡ later song bank ram rom r (forward ram rom m x)
-  unfolding later
-  after-quiet zero r x b q = ap (λ (n : ℕ). later song bank ram rom n x) (zero-add r) ∙ ap (later song bank ram rom r) (sym (forward-none ram rom x))
+      → performed song bank ram rom (m + r) x ≡ performed song bank ram rom r (forward ram rom m x)
+  unfolding performed
+  after-quiet zero r x b q = ap (λ (n : ℕ). performed song bank ram rom n x) (zero-add r) ∙ ap (performed song bank ram rom r) (sym (forward-none ram rom x))
   after-quiet (suc m) r x b q =
-      ap (λ (n : ℕ). later song bank ram rom n x) (suc-add m r)
-      ∙ ap (λ (y : Tally). later song bank ram rom (m + r) (forward ram rom 1 y)) (prepared-none x (quiet-still m (x .player) q))
+      ap (λ (n : ℕ). performed song bank ram rom n x) (suc-add m r)
+      ∙ ap (λ (y : Tally). performed song bank ram rom (m + r) (forward ram rom 1 y)) (prepared-none x (quiet-still m (x .player) q))
       ∙ after-quiet m r (forward ram rom 1 x) (bounded-on ram rom 1 x b) (quiet-on ram rom m x b q)
-      ∙ ap (later song bank ram rom r) (forward-on ram rom m x)
+      ∙ ap (performed song bank ram rom r) (forward-on ram rom m x)
 
   -- and so do their numbers
   pub numbers-quiet : (m r : ℕ) (x : Tally) → Bounded (x .player) → Quiet m (x .player)
@@ -296,11 +296,11 @@ module _ (song bank : List ℕ) (ram rom : List ℤ) where
 
   -- the frames of a gap go together
   gap-after : (m r : ℕ) (x : Tally) → Bounded (x .player) → Quiet m (x .player) ⊎ (m ≡ 0)
-      → later song bank ram rom (m + r) x ≡ later song bank ram rom r (forward ram rom m x)
+      → performed song bank ram rom (m + r) x ≡ performed song bank ram rom r (forward ram rom m x)
   gap-after m r x b q = ⊎-elim (λ (q : Quiet m (x .player)). after-quiet m r x b q) (none m) q
     where
-      none : (m : ℕ) → m ≡ 0 → later song bank ram rom (m + r) x ≡ later song bank ram rom r (forward ram rom m x)
-      none zero z = ap (λ (n : ℕ). later song bank ram rom n x) (zero-add r) ∙ ap (later song bank ram rom r) (sym (forward-none ram rom x))
+      none : (m : ℕ) → m ≡ 0 → performed song bank ram rom (m + r) x ≡ performed song bank ram rom r (forward ram rom m x)
+      none zero z = ap (λ (n : ℕ). performed song bank ram rom n x) (zero-add r) ∙ ap (performed song bank ram rom r) (sym (forward-none ram rom x))
       none (suc m) z = absurd (suc-ne-zero m z)
 
   -- and so do their numbers
@@ -328,12 +328,12 @@ module _ (song bank : List ℕ) (ram rom : List ℤ) where
 
   -- where frames are left, the event that is applied is due
   turn-rest : (m r : ℕ) (x : Tally) → isDue (forward ram rom m x .player) ≡ true
-      → later song bank ram rom (suc r) (forward ram rom m x) ≡ later song bank ram rom (suc r) (turned true m x)
+      → performed song bank ram rom (suc r) (forward ram rom m x) ≡ performed song bank ram rom (suc r) (turned true m x)
   turn-rest m r x e = sym (after-one r (forward ram rom m x) e)
 
   -- from there the frames that are left give the same
   pub turn-after : (most : ℕ) (x : Tally) (more : Bool) → Bounded (x .player) → ltb (gapOf (x .player) most) most ≡ more
-      → later song bank ram rom most x ≡ later song bank ram rom (most - gapOf (x .player) most) (turned more (gapOf (x .player) most) x)
+      → performed song bank ram rom most x ≡ performed song bank ram rom (most - gapOf (x .player) most) (turned more (gapOf (x .player) most) x)
   turn-after most x more b f = by more f (most - m) refl
     where
       m : ℕ
@@ -342,10 +342,10 @@ module _ (song bank : List ℕ) (ram rom : List ℤ) where
       whole : m + (most - m) ≡ most
       whole = omega (arith, gap-most (x .player) most)
 
-      gone : later song bank ram rom most x ≡ later song bank ram rom (most - m) (forward ram rom m x)
-      gone = ap (λ (n : ℕ). later song bank ram rom n x) (sym whole) ∙ gap-after m (most - m) x b (gap-quiet (x .player) most)
+      gone : performed song bank ram rom most x ≡ performed song bank ram rom (most - m) (forward ram rom m x)
+      gone = ap (λ (n : ℕ). performed song bank ram rom n x) (sym whole) ∙ gap-after m (most - m) x b (gap-quiet (x .player) most)
 
-      by : (t : Bool) → ltb m most ≡ t → (r : ℕ) → most - m ≡ r → later song bank ram rom most x ≡ later song bank ram rom (most - m) (turned t m x)
+      by : (t : Bool) → ltb m most ≡ t → (r : ℕ) → most - m ≡ r → performed song bank ram rom most x ≡ performed song bank ram rom (most - m) (turned t m x)
       by false f r e = gone
       by true f zero e = absurd (omega (arith, ltb-true m most f))
       by true f (suc r) e =

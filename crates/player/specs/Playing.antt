@@ -58,10 +58,10 @@ module _ (song bank : List ℕ) (ram rom : List ℤ) where
   abbrev pub prepared : Tally → Tally
   prepared x = caughtUp (turns song) x
 
-  -- later n frames
-  unfoldable pub later : ℕ → Tally → Tally
-  later zero x = x
-  later (suc n) x = later n (forward ram rom 1 (prepared x))
+  -- performed n frames
+  unfoldable pub performed : ℕ → Tally → Tally
+  performed zero x = x
+  performed (suc n) x = performed n (forward ram rom 1 (prepared x))
 
   -- the numbers of n frames
   unfoldable pub numbers : ℕ → Tally → List Float
@@ -72,7 +72,7 @@ module _ (song bank : List ℕ) (ram rom : List ℤ) where
   unfoldable pub answered : ℕ → ℕ → Player → Answer
   answered to room p =
       cond (eqb (renderNumber to ram rom room (p .engine)) 0)
-      (reported (later (distance (p .engine) to) (opened p)))
+      (reported (performed (distance (p .engine) to) (opened p)))
       (record { number = renderNumber to ram rom room (p .engine); applied = 0; refused = 0; player = p })
 
   -- and all of the lent output: done, its first 2n numbers are written and no other; refused, none

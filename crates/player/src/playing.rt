@@ -5,7 +5,7 @@ ghost use mathlib.Core.List.{_++_};
 ghost use Prim.Native.Nat.{_+_, _*_, _<_, _≤_};
 ghost use lib.ListN.{length, take, drop};
 ghost use Rattle.engine.specs.Rendering.{output};
-ghost use Rattle.player.specs.Playing.{opened, refusal, applying, forward, later, numbers, answered, soundedInto};
+ghost use Rattle.player.specs.Playing.{opened, refusal, applying, forward, performed, numbers, answered, soundedInto};
 use crate::Answer;
 use crate::Player;
 use crate::Tally;
@@ -99,7 +99,7 @@ fn play_on<'a>(
     n: u32,
 ) -> Tally
     requires { ⌜ (n ≤ 4096) × (2 * n ≤ length (now out)) ⌝ }
-    ensures tally { λ r. ⌜ r ≡ later (now (file .entry)) (now (bank .entry)) (now (ram .entry)) (now (rom .entry)) n (opened p) ⌝ }
+    ensures tally { λ r. ⌜ r ≡ performed (now (file .entry)) (now (bank .entry)) (now (ram .entry)) (now (rom .entry)) n (opened p) ⌝ }
     ensures output { λ _. ⌜ now (out .exit) ≡ numbers (now (file .entry)) (now (bank .entry)) (now (ram .entry)) (now (rom .entry)) n (opened p) ++ drop (2 * n) (now (out .entry)) ⌝ }
 {
     let mut x = open(p);

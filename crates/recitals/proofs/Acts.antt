@@ -21,7 +21,7 @@ use Rattle.player.specs.declared.Tally.{Tally}
 use Rattle.player.specs.Acting.{heededAs, heeded, kindOf}
 use Rattle.player.specs.Cues.{withEngine, coming, cued, isDue}
 use Rattle.player.specs.Pauses.{hushed, hushedTo, freshened, freshenedTo}
-use Rattle.player.specs.Playing.{ticked, forward, applying, caughtUp, prepared, later, numbers}
+use Rattle.player.specs.Playing.{ticked, forward, applying, caughtUp, prepared, performed, numbers}
 use Rattle.promises.specs.Calls.{Call, does, next, run, written, framesOf, framesRun}
 use Rattle.promises.specs.Cuts.{ahead, numbersOf}
 use Rattle.promises.proofs.Cuts.{done-frames, done-numbers}
@@ -230,8 +230,8 @@ module _ (ram rom : List ℤ) where
 
   module _ (song bank : List ℕ) where
     pub frames-go : (n : ℕ) (x : Tally) → x .player .engine .clock < 4294967296 → Clear ram rom (x .player .engine)
-        → Goes (x .player .engine) (frameCalls song bank ram rom n x) (later song bank ram rom n x .player .engine) (numbers song bank ram rom n x) n
-    unfolding frameCalls later numbers forward
+        → Goes (x .player .engine) (frameCalls song bank ram rom n x) (performed song bank ram rom n x .player .engine) (numbers song bank ram rom n x) n
+    unfolding frameCalls performed numbers forward
     frames-go zero x h c = record { leads = no-calls (x .player .engine); clock = omega arith; clear = c }
     frames-go (suc n) x h c =
         let q = caught-acts song bank (turns song) x in
@@ -241,7 +241,7 @@ module _ (ram rom : List ℤ) where
         let f = frame-leads (y .player .engine) k d in
         let t = frame-clock (y .player .engine) in
         let r = frames-go n (forward ram rom 1 y) (omega (arith, t)) (frame-clear (y .player .engine) k d) in
-        record { leads = relead (joined (q .leads) (joined f (r .leads))) refl refl refl (omega arith); clock = clocked (x .player .engine .clock) (y .player .engine .clock) (ticked ram rom 1 (y .player .engine) .clock) (later song bank ram rom n (forward ram rom 1 y) .player .engine .clock) n (q .clock) t (r .clock); clear = r .clear }
+        record { leads = relead (joined (q .leads) (joined f (r .leads))) refl refl refl (omega arith); clock = clocked (x .player .engine .clock) (y .player .engine .clock) (ticked ram rom 1 (y .player .engine) .clock) (performed song bank ram rom n (forward ram rom 1 y) .player .engine .clock) n (q .clock) t (r .clock); clear = r .clear }
       where
         clocked : (a b c z m : ℕ) → b ≡ a → c ≡ (b + 1) % 4294967296 → z ≡ (c + m) % 4294967296 → z ≡ (a + suc m) % 4294967296
         clocked a b c z m h k l = omega arith

@@ -31,7 +31,7 @@ use Rattle.player.specs.declared.Player.{Player}
 use Rattle.player.specs.declared.Tally.{Tally}
 use Rattle.player.specs.Acting.{heeded}
 use Rattle.player.specs.Cues.{withEngine, coming, cued, since, isDue}
-use Rattle.player.specs.Playing.{opened, forward, applying, caughtUp, prepared, later, numbers, ticked}
+use Rattle.player.specs.Playing.{opened, forward, applying, caughtUp, prepared, performed, numbers, ticked}
 use Rattle.promises.specs.Calls.{Call, run}
 use Rattle.promises.specs.Cuts.{numbersOf, ahead}
 use Rattle.recitals.specs.Turns.{Turn, Start, Play, nextTurn, hushCalls, freshCalls, oneFrame, dueCalls, runTurns, numbersTurns, appliedTurns, refusedTurns}
@@ -74,7 +74,7 @@ Each P (v ∷ vs) = P v × Each P vs
 abbrev InHour : List Event → Type 0
 InHour vs = Each (λ (v : Event). v .frame ≤ 158760000) vs
 
--- none of frame n where all come later, and none is passed over by it
+-- none of frame n where all come performed, and none is passed over by it
 none-yet : (n low : ℕ) (vs : List Event) → n < low → Up low vs → (eventsAt n vs ≡ []) × (eventsBefore n vs ≡ []) × (eventsFrom n vs ≡ vs) × (eventsFrom (suc n) vs ≡ vs) × (eventsBefore (suc n) vs ≡ [])
 unfolding eventsAt eventsBefore eventsFrom
 none-yet n low [] h r = (refl, refl, refl, refl, refl)
@@ -357,7 +357,7 @@ module _ (song bank : List ℕ) (ram rom : List ℤ) (vs : List Event) (is : eve
     (here : p .engine .clock ≡ p .began) (small : p .began < 4294967296) (holds : Holds song vs p) where
   -- after n frames
   abbrev pub then : ℕ → Tally
-  then n = later song bank ram rom n (opened p)
+  then n = performed song bank ram rom n (opened p)
 
   -- the player in front of frame n, and the calls that have led to it
   pub record Now (n : ℕ) : Type 0 where
@@ -380,8 +380,8 @@ module _ (song bank : List ℕ) (ram rom : List ℤ) (vs : List Event) (is : eve
 
   -- one frame on
   then-next : (n : ℕ) → then (suc n) ≡ forward ram rom 1 (prepared song bank ram rom (then n))
-  unfolding later
-  then-next n = ap (λ (m : ℕ). later song bank ram rom m (opened p)) (sym (add-one n)) ∙ after-cut song bank ram rom n 1 (opened p)
+  unfolding performed
+  then-next n = ap (λ (m : ℕ). performed song bank ram rom m (opened p)) (sym (add-one n)) ∙ after-cut song bank ram rom n 1 (opened p)
 
   numbers-next : (n : ℕ) → numbers song bank ram rom (suc n) (opened p)
       ≡ numbers song bank ram rom n (opened p) ++ ([] ++ output ram rom (prepared song bank ram rom (then n) .player .engine) 1)
@@ -420,7 +420,7 @@ module _ (song bank : List ℕ) (ram rom : List ℤ) (vs : List Event) (is : eve
       }
 
   pub now : (n : ℕ) → (0 < n → Clear ram rom (p .engine)) → Now n
-  unfolding later numbers recital
+  unfolding performed numbers recital
   now zero c =
       let t = at-first vs in
       record {
@@ -437,7 +437,7 @@ module _ (song bank : List ℕ) (ram rom : List ℤ) (vs : List Event) (is : eve
 module _ (song bank : List ℕ) (ram rom : List ℤ) where
   -- they are frames one behind the other
   pub plays-give : (ts : List Turn) (n : ℕ) (p : Player) → Plays song bank ram rom ts n p → Gives song bank ram rom ts p n
-  unfolding later numbers runTurns numbersTurns appliedTurns refusedTurns
+  unfolding performed numbers runTurns numbersTurns appliedTurns refusedTurns
   plays-give [] _ p rests = record { player = refl; numbered = refl; applied = refl; refused = refl }
   plays-give (x ∷ ts) n p (waits y s f q) = idle-gives song bank ram rom x ts p n s f (plays-give ts n p q)
   plays-give (x ∷ ts) _ p (plays {n = n} to out ok q) =

@@ -22,7 +22,7 @@ use Rattle.player.specs.declared.Player.{Player}
 use Rattle.player.specs.declared.Tally.{Tally}
 use Rattle.player.specs.Cues.{idle, cued}
 use Rattle.player.specs.Pauses.{hushedTo, readied, started, stopped}
-use Rattle.player.specs.Playing.{opened, forward, prepared, later, numbers, reported, answered, soundedInto}
+use Rattle.player.specs.Playing.{opened, forward, prepared, performed, numbers, reported, answered, soundedInto}
 use Rattle.promises.specs.Calls.{Call, does, next, run, framesRun}
 use Rattle.promises.specs.Cuts.{numbersOf}
 use Rattle.promises.proofs.EachSlot.{either}
@@ -69,7 +69,7 @@ start-leads song p = by (eqb (openingOf song .number) 0) refl
 module _ (song bank : List ℕ) (ram rom : List ℤ) where
   -- a render that is done
   pub play-done : (to room : ℕ) (p : Player) → renderNumber to ram rom room (p .engine) ≡ 0
-      → answered song bank ram rom to room p ≡ reported (later song bank ram rom (distance (p .engine) to) (opened p))
+      → answered song bank ram rom to room p ≡ reported (performed song bank ram rom (distance (p .engine) to) (opened p))
   unfolding answered
   play-done to room p h = rw (eq-eqb (renderNumber to ram rom room (p .engine)) 0 h) refl
 
