@@ -3,6 +3,7 @@ pub mod Acts
 pub mod Turns
 pub mod Hushes
 pub mod Borders
+pub mod Counts
 pub mod Parts
 pub mod Recital
 pub mod Pedals

@@ -1,4 +1,5 @@
 pub mod Turns
+pub mod Counts
 pub mod Borders
 pub mod Parts
 pub mod Recital
