@@ -8,6 +8,10 @@ use std::{fs, str};
 
 const ENGINE_BYTES: usize = number(env!("ENGINE_BYTES"));
 const ANSWER_BYTES: usize = number(env!("ANSWER_BYTES"));
+const PLAYER_BYTES: usize = number(env!("PLAYER_BYTES"));
+/// What the player's start and render answer.
+const BEGUN_BYTES: usize = number(env!("BEGUN_BYTES"));
+const TOLD_BYTES: usize = number(env!("TOLD_BYTES"));
 
 const fn number(text: &str) -> usize {
     let mut n = 0;
@@ -19,9 +23,9 @@ const fn number(text: &str) -> usize {
     n
 }
 
-/// The calls: their letters in a case, and the functions.
-const CALLS: [(char, &str); 11] = [
-    ('F', "state::quiet::fresh"),
+/// The calls: their letters in a case (a fresh engine has none, and is made beside each fresh player), and the functions.
+const CALLS: [(char, &str); 16] = [
+    ('f', "state::quiet::fresh"),
     ('n', "events::striking::note_on"),
     ('o', "events::keys::note_off"),
     ('c', "events::controls::control_change"),
@@ -32,6 +36,11 @@ const CALLS: [(char, &str); 11] = [
     ('u', "state::board::voice_count"),
     ('a', "engine::banks::admit"),
     ('l', "engine::banks::list"),
+    ('F', "player::cues::fresh"),
+    ('G', "player::pauses::start"),
+    ('H', "player::pauses::stop"),
+    ('V', "player::playing::render"),
+    ('E', "player::asking::is_over"),
 ];
 
 fn main() -> ExitCode {
@@ -47,6 +56,9 @@ fn main() -> ExitCode {
             let painter = std::thread::Builder::new().stack_size(4 * PAINTED);
             let deepest = painter.spawn(move || Player::new(true).play(&case, &trace)).unwrap().join().unwrap();
             println!("the state has {ENGINE_BYTES} bytes, and an answer {ANSWER_BYTES}, both the caller's");
+            println!(
+                "a player has {PLAYER_BYTES}, and what start and render of it answer {BEGUN_BYTES} and {TOLD_BYTES}"
+            );
             println!("how far down the calls of all stored cases have written:");
             for (letter, name) in CALLS {
                 println!("{:8} bytes  {name}", deepest.get(&letter).copied().unwrap_or(0));
@@ -99,9 +111,14 @@ extern "C" {
     #[link_name = "state::board::voice_count"] fn voice_count(engine: *const u8) -> u32;
     #[link_name = "engine::banks::admit"] fn admit(bank: *const Lent) -> u8;
     #[link_name = "engine::banks::list"] fn list(listed: *mut u8, bank: *const Lent, place: u32);
+    #[link_name = "player::cues::fresh"] fn fresh_player(player: *mut u8);
+    #[link_name = "player::pauses::start"] fn start(begun: *mut u8, player: *const u8, song: *const Lent);
+    #[link_name = "player::pauses::stop"] fn stop(after: *mut u8, player: *const u8);
+    #[link_name = "player::playing::render"] fn render_song(told: *mut u8, player: *const u8, song: *const Lent, bank: *const Lent, ram: *const Lent, rom: *const Lent, out: *const Lent, to: u32);
+    #[link_name = "player::asking::is_over"] fn is_over(player: *const u8) -> bool;
 }
 
-/// Room that is aligned for a state.
+/// Room that is aligned for a state or a player.
 #[repr(C, align(16))]
 struct Room([u8; 4 * ANSWER_BYTES]);
 
@@ -127,12 +144,14 @@ fn whole(bytes: &[u8]) -> u32 {
     bytes.iter().rev().fold(0, |n, byte| 256 * n + u32::from(*byte))
 }
 
-/// The engine and what is lent to it, as a case goes on: the bank, and of each memory the bytes and how many samples.
+/// The player, whose first field is the engine, and what is lent to it, as a case goes on: the bank, the song, and of each memory the
+/// bytes and how many samples.
 struct Player {
     paint: bool,
-    engine: Box<Room>,
+    player: Box<Room>,
     answer: Box<Room>,
     bank: Vec<u8>,
+    song: Vec<u8>,
     ram: (Vec<u8>, usize),
     rom: (Vec<u8>, usize),
     output: Vec<f32>,
@@ -142,8 +161,11 @@ struct Player {
 impl Player {
     fn new(paint: bool) -> Player {
         let room = || Box::new(Room([0; 4 * ANSWER_BYTES]));
-        let (bank, ram, rom, deepest) = Default::default();
-        Player { paint, engine: room(), answer: room(), bank, ram, rom, output: vec![0.0; 8_448], deepest }
+        let (bank, song, ram, rom, deepest) = Default::default();
+        let mut player =
+            Player { paint, player: room(), answer: room(), bank, song, ram, rom, output: vec![0.0; 8_448], deepest };
+        player.make('F', &[0; 4]);
+        player
     }
 
     /// Plays a case; each call that answers a number has to answer that of the trace.
@@ -157,7 +179,7 @@ impl Player {
                 continue;
             }
             let bytes = case.bytes(match letter {
-                'r' => 8,
+                'r' | 'V' => 8,
                 'F' | 'l' | 'j' | 'h' => 4,
                 'n' | 'c' | 'b' => 3,
                 'o' | 'p' => 2,
@@ -186,6 +208,7 @@ impl Player {
                 case.bytes(n);
             }
             'B' => self.bank = case.counted(1).0,
+            'L' => self.song = case.counted(1).0,
             'M' => self.ram = case.counted(2),
             'O' => self.rom = case.counted(2),
             'm' => self.ram.1 = (self.ram.0.len() / 2).min(whole(case.bytes(4)) as usize),
@@ -197,16 +220,17 @@ impl Player {
 
     /// Makes the call of a letter, and gives the number that it answers; nothing for one that answers in another form.
     fn make(&mut self, letter: char, a: &[u8]) -> Option<u32> {
-        let bank = Lent(self.bank.as_ptr(), self.bank.len());
+        let (bank, song) = (Lent(self.bank.as_ptr(), self.bank.len()), Lent(self.song.as_ptr(), self.song.len()));
         let (ram, rom) = (Lent(self.ram.0.as_ptr(), self.ram.1), Lent(self.rom.0.as_ptr(), self.rom.1));
         let mut number = None;
         // SAFETY: each function takes what is declared above, and all that is lent lives on.
         unsafe {
             match letter {
                 'F' => {
-                    self.call(letter, |_, e| fresh(e));
+                    self.call('f', |_, e| fresh(e));
+                    self.call(letter, |_, p| fresh_player(p));
                     // the clock is the state's last field
-                    self.engine.0[ENGINE_BYTES - 4..ENGINE_BYTES].copy_from_slice(a);
+                    self.player.0[ENGINE_BYTES - 4..ENGINE_BYTES].copy_from_slice(a);
                 }
                 'n' => self.call(letter, |r, e| note_on(r, e, &bank, &ram, &rom, a[0], a[1], a[2])),
                 'o' => self.call(letter, |r, e| note_off(r, e, a[0], a[1])),
@@ -223,27 +247,44 @@ impl Player {
                 }),
                 'a' => self.call(letter, |_, _| number = Some(u32::from(admit(&bank)))),
                 'l' => self.call(letter, |r, _| list(r, &bank, whole(a))),
+                'G' => self.call(letter, |r, p| start(r, p, &song)),
+                'H' => self.call(letter, |r, p| stop(r, p)),
+                'V' => {
+                    let out = Lent(self.output.as_mut_ptr().cast(), whole(&a[4..]) as usize);
+                    self.call(letter, |r, p| render_song(r, p, &song, &bank, &ram, &rom, &out, whole(&a[..4])));
+                }
+                'E' => self.call(letter, |_, p| {
+                    std::hint::black_box(is_over(p));
+                }),
                 _ => {}
             }
         }
-        if "nocpbr".contains(letter) {
-            // an answer begins with the number, and ends with the state
+        // an answer ends with the state, or with the player
+        let (end, size) = match letter {
+            'n' | 'o' | 'c' | 'p' | 'b' | 'r' => (ANSWER_BYTES, ENGINE_BYTES),
+            'G' => (BEGUN_BYTES, PLAYER_BYTES),
+            'V' => (TOLD_BYTES, PLAYER_BYTES),
+            'H' => (PLAYER_BYTES, PLAYER_BYTES),
+            _ => return number,
+        };
+        self.player.0[..size].copy_from_slice(&self.answer.0[end - size..end]);
+        // and begins with the number, which a stop has none of
+        if size < end {
             number = Some(u32::from(self.answer.0[0]));
-            self.engine.0[..ENGINE_BYTES].copy_from_slice(&self.answer.0[ANSWER_BYTES - ENGINE_BYTES..ANSWER_BYTES]);
         }
         number
     }
 
     /// Makes a call, painted or not.
     fn call(&mut self, letter: char, mut call: impl FnMut(*mut u8, *mut u8)) {
-        let (answer, engine) = (self.answer.0.as_mut_ptr(), self.engine.0.as_mut_ptr());
+        let (answer, player) = (self.answer.0.as_mut_ptr(), self.player.0.as_mut_ptr());
         if !self.paint {
-            return call(answer, engine);
+            return call(answer, player);
         }
         let without = depth(&mut || {
             std::hint::black_box(());
         });
-        let with = depth(&mut || call(answer, engine));
+        let with = depth(&mut || call(answer, player));
         let most = self.deepest.entry(letter).or_default();
         *most = (*most).max(with - without);
     }

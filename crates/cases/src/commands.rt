@@ -4,7 +4,7 @@ use crate::input::Place;
 use crate::input::next_byte;
 use crate::input::next_bytes;
 
-// A command. What its letter does not have is 0, and the bytes of a bank, a memory or a name are still to be read.
+// A command. What its letter does not have is 0, and the bytes of a bank, a song, a memory or a name are still to be read.
 pub struct Command {
     // 0, which nobody knows, where the command is cut off
     pub letter: u8,
@@ -23,7 +23,7 @@ pub struct Command {
     pub over: bool,
 }
 
-// How many bytes stand behind a letter before those of a bank, a memory or a name.
+// How many bytes stand behind a letter before those of a bank, a song, a memory or a name.
 fn bytes_behind(letter: u8) -> usize
     ensures { λ r. ⌜ r ≤ 8 ⌝ }
 {
@@ -31,8 +31,8 @@ fn bytes_behind(letter: u8) -> usize
         b's' | b't' => 1,
         b'o' | b'p' => 2,
         b'n' | b'c' | b'b' => 3,
-        b'B' | b'M' | b'O' | b'm' | b'x' | b'F' | b'l' | b'j' | b'h' => 4,
-        b'r' => 8,
+        b'B' | b'L' | b'M' | b'O' | b'm' | b'x' | b'F' | b'l' | b'j' | b'h' => 4,
+        b'r' | b'V' => 8,
         _ => 0,
     }
 }

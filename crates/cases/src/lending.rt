@@ -16,9 +16,10 @@ pub struct Held {
     pub place: Place,
 }
 
-// How many bytes of the bank are lent and how many samples of each memory; and how many samples each memory holds.
+// How many bytes of the bank and of the song are lent and how many samples of each memory; and how many samples each memory holds.
 pub struct Lent {
     pub bank: usize,
+    pub song: usize,
     pub ram: usize,
     pub rom: usize,
     pub ram_held: usize,
@@ -51,7 +52,7 @@ pub fn first_samples(samples: &[i16], n: usize) -> &[i16]
     samples
 }
 
-// A bank of n bytes. One that is longer than what is lent for it is bad before its bytes are looked at, and holds nothing.
+// A bank or a song of n bytes. One that is longer than what is lent for it is bad before its bytes are looked at, and holds nothing.
 pub fn next_bank(room: &mut [u8], from: Place, into: &mut [u8], n: u32) -> Held
     ensures { λ r. ⌜ r .count ≤ length (now (into .entry)) ⌝ }
 {
@@ -87,6 +88,7 @@ pub fn nothing() -> Lent
 {
     Lent {
         bank: 0,
+        song: 0,
         ram: 0,
         rom: 0,
         ram_held: 0,
@@ -107,6 +109,15 @@ fn lend_bank(bank: &mut [u8], room: &mut [u8], c: Command, lent: Lent) -> Loan {
     let place = held.place;
     let mut next = lent;
     next.bank = held.count;
+    Loan { lent: next, place }
+}
+
+// L: a song.
+fn lend_song(song: &mut [u8], room: &mut [u8], c: Command, lent: Lent) -> Loan {
+    let held = next_bank(room, c.place, song, c.first);
+    let place = held.place;
+    let mut next = lent;
+    next.song = held.count;
     Loan { lent: next, place }
 }
 
@@ -142,9 +153,10 @@ fn cut(c: Command, lent: Lent) -> Loan {
     Loan { lent: next, place }
 }
 
-// The commands that say what is lent: B, M, O, m and x.
+// The commands that say what is lent: B, L, M, O, m and x.
 pub fn lend(
     bank: &mut [u8],
+    song: &mut [u8],
     ram: &mut [i16],
     rom: &mut [i16],
     room: &mut [u8],
@@ -154,6 +166,7 @@ pub fn lend(
     let letter = c.letter;
     match letter {
         b'B' => lend_bank(bank, room, c, lent),
+        b'L' => lend_song(song, room, c, lent),
         b'M' => lend_ram(ram, room, c, lent),
         b'O' => lend_rom(rom, room, c, lent),
         _ => cut(c, lent),

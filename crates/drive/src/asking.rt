@@ -1,11 +1,11 @@
-// The calls that leave the state as it is: admission, listing and fault of a bank; panel and count of the engine.
+// The calls that leave the state as it is: admission, listing and fault of a bank; panel and count of the engine; whether the song is over.
 use crate::tapes;
 use crate::tapes::Tape;
 use crate::trace;
 use bank::Fault;
 use bank::Listed;
 use cases::Command;
-use engine::Engine;
+use player::Player;
 use voice::Shown;
 
 // What a listing gives at a place.
@@ -79,19 +79,28 @@ fn shown(text: &mut [u8; 65536], at: usize, s: Shown) -> usize {
     }
 }
 
+// Whether no event of the song is left, and how many voices sound.
+fn ending(text: &mut [u8; 65536], at: usize, p: Player) -> usize {
+    let over = if player::is_over(p) { 1 } else { 0 };
+    let to = cases::counted(text, at, b'E', 0, over);
+    cases::spaced(text, to, engine::voice_count(p.engine) as u64)
+}
+
 // What is asked, by its letter.
-fn asked(bank: &[u8], text: &mut [u8; 65536], at: usize, c: Command, e: Engine) -> usize {
+fn asked(bank: &[u8], text: &mut [u8; 65536], at: usize, c: Command, p: Player) -> usize {
     let letter = c.letter;
+    let e = p.engine;
     match letter {
         b's' => shown(text, at, engine::panel(e, c.one)),
         b'u' => cases::counted(text, at, letter, 0, engine::voice_count(e)),
+        b'E' => ending(text, at, p),
         _ => of_bank(bank, text, at, c),
     }
 }
 
-// a, i, d, j, l, s, u: the call and its line.
-pub fn ask(bank: &[u8; 66000], text: &mut [u8; 65536], c: Command, e: Engine, tape: Tape) -> Tape {
+// a, i, d, j, l, s, u, E: the call and its line.
+pub fn ask(bank: &[u8; 66000], text: &mut [u8; 65536], c: Command, p: Player, tape: Tape) -> Tape {
     let lent = tape.lent;
-    let at = asked(cases::first_bytes(bank, lent.bank), text, tape.at, c, e);
-    tapes::written(tape, c, trace::state(text, at, e))
+    let at = asked(cases::first_bytes(bank, lent.bank), text, tape.at, c, p);
+    tapes::written(tape, c, trace::state(text, at, p.engine))
 }

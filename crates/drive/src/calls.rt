@@ -1,42 +1,39 @@
-// The calls that may change the state, with their lines: note-on, note-off, control change, program change, pitch bend; and a fresh engine.
+// The calls that may change the state and are no renders, with their lines: n, o, c, p, b, G, H; and F, which has none.
 use crate::Played;
 use crate::tapes::Tape;
 use crate::trace;
 use cases::Command;
-use engine::Answered;
-use engine::Engine;
+use player::Player;
+use ringer::Called;
 
-// The line of a call that answers a count.
-fn answered(text: &mut [u8; 65536], at: usize, letter: u8, a: Answered) -> Played {
-    let after = a.engine;
-    let to = cases::counted(text, at, letter, a.status, a.count);
+// The line of a call that answers a count or a place.
+fn answered(text: &mut [u8; 65536], at: usize, letter: u8, a: Called) -> Played {
+    let after = a.player;
+    let to = cases::counted(text, at, letter, a.number, a.count);
     Played {
-        engine: after,
-        at: trace::state(text, to, after),
+        player: after,
+        at: trace::state(text, to, after.engine),
     }
 }
 
-// n: the call and its line.
-pub fn strike<'a>(
+// The call and its line.
+pub fn call<'a>(
     bank: &[u8; 66000],
+    song: &[u8; 66000],
     ram: &'a [i16; 65536],
     rom: &'a [i16; 65536],
     text: &mut [u8; 65536],
     c: Command,
-    e: Engine,
+    p: Player,
     tape: Tape,
 ) -> Played {
-    let a = ringer::note_on(bank, ram, rom, tape.lent, c, e);
-    answered(text, tape.at, b'n', a)
-}
-
-// F, and o, c, p, b with their lines.
-pub fn call(text: &mut [u8; 65536], c: Command, e: Engine, at: usize) -> Played {
+    let a = ringer::call(bank, song, ram, rom, tape.lent, c, p);
     if c.letter == b'F' {
+        let after = a.player;
         return Played {
-            engine: ringer::fresh_at(c.first),
-            at,
+            player: after,
+            at: tape.at,
         };
     }
-    answered(text, at, c.letter, ringer::answer(c, e))
+    answered(text, tape.at, c.letter, a)
 }

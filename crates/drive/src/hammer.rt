@@ -39,7 +39,7 @@ fn strike(b: &[u8], text: &mut [u8; 65536], at: usize, c: Command) -> usize {
     none(text, at)
 }
 
-// The call and its lines; the engine has no part in it.
+// The call and its lines; the player has no part in it.
 pub fn hit(bank: &[u8; 66000], text: &mut [u8; 65536], c: Command, tape: Tape) -> Tape {
     let lent = tape.lent;
     let at = strike(cases::first_bytes(bank, lent.bank), text, tape.at, c);

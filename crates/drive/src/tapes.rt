@@ -3,7 +3,7 @@ use cases::Command;
 use cases::Lent;
 use cases::Place;
 
-// What a run has beside its engine.
+// What a run has beside its player.
 pub struct Tape {
     pub lent: Lent,
     // what is still to be read of the case; where it is cut, nothing more is played
@@ -47,16 +47,17 @@ pub fn spoilt(tape: Tape, c: Command) -> Tape {
     next
 }
 
-// B, M, O, m, x: what is lent from here on.
+// B, L, M, O, m, x: what is lent from here on.
 pub fn lend(
     bank: &mut [u8; 66000],
+    song: &mut [u8; 66000],
     ram: &mut [i16; 65536],
     rom: &mut [i16; 65536],
     room: &mut [u8; 65536],
     c: Command,
     tape: Tape,
 ) -> Tape {
-    let loan = cases::lend(bank, ram, rom, room, c, tape.lent);
+    let loan = cases::lend(bank, song, ram, rom, room, c, tape.lent);
     let place = loan.place;
     let lent = loan.lent;
     let mut next = tape;

@@ -1,7 +1,8 @@
 // The engine: the calls that a host makes. The state and the events stand in crates of their own, and are passed on here.
 mod banks;
 mod mixer;
-mod rendering;
+// its tests and its frames are the player's too
+pub mod rendering;
 mod sums;
 
 pub use banks::admit;
@@ -11,10 +12,7 @@ pub use events::note_off;
 pub use events::note_on;
 pub use events::pitch_bend;
 pub use events::program_change;
-pub use rendering::distance_to;
-pub use rendering::play;
 pub use rendering::render;
-pub use rendering::render_number;
 pub use state::Answered;
 pub use state::Engine;
 pub use state::fresh;

@@ -2,8 +2,8 @@
 use mathlib.Core.Bool.{Bool, true, false, cond, not, _&&_}
 use mathlib.Core.List.{List}
 use mathlib.Core.Logic.{_⊎_, inl, inr, ⊎-elim}
-use mathlib.Core.Path.{_≡_, refl, sym, ap, _∙_, subst}
-use Prim.Native.Nat.{ℕ, zero, suc, _+_, _-_, _*_, _<_, _≤_}
+use mathlib.Core.Path.{_≡_, refl, ap, _∙_}
+use Prim.Native.Nat.{ℕ, suc, _+_, _-_, _*_, _<_, _≤_}
 use native.Mathlib.Nat.{min-le-left}
 use native.Mathlib.Omega.{arith}
 use borrow.Author.Tests.{ltb-true, ltb-false, leb-true, leb-false, le-leb, lt-ltb, le-ltb}
@@ -13,12 +13,16 @@ use Rattle.smf.specs.declared.Cursor.{Cursor}
 use Rattle.smf.specs.declared.Offer.{Offer}
 use Rattle.smf.specs.declared.Offer.the-variants.{End, Given}
 use Rattle.smf.specs.Track.{edgeOf}
-use Rattle.smf.proofs.TrackLaws.{LedTo, edge-in}
+use Rattle.smf.proofs.TrackLaws.{LedTo, edge-in, further-edge}
 use Rattle.player.specs.declared.Player.{Player}
 use Rattle.player.specs.Cues.{coming, since, isDue}
-use Rattle.player.specs.Internal.Cues.{waitOf, gapOf, left}
+use Rattle.player.specs.Internal.Cues.{waitOf, gapOf}
 
 -- ---- how many are left
+
+-- events and bytes that are left: the event that comes, and each byte behind it
+unfoldable pub left : List ℕ → Player → ℕ
+left song p = cond (p .ended) 0 (suc (edgeOf song (p .cursor) - p .cursor .at))
 
 -- a song that has ended has none left
 pub left-none : (song : List ℕ) (p : Player) → p .ended ≡ true → left song p ≡ 0
@@ -46,14 +50,6 @@ left-low song p h = by (p .ended) refl
     by true e = omega (arith, left-none song p e)
     by false e = omega (arith, left-some song p e, min-le-left (p .cursor .end) (length song))
 
--- where one is left, the song has not ended
-pub left-open : (song : List ℕ) (p : Player) → 0 < left song p → p .ended ≡ false
-left-open song p h = by (p .ended) refl
-  where
-    by : (t : Bool) → p .ended ≡ t → p .ended ≡ false
-    by true e = absurd (omega (arith, left-none song p e))
-    by false e = e
-
 -- fewer are left: each event takes two bytes or more
 pub record Fewer (before after : ℕ) : Type 0 where
   pub less : after < before
@@ -68,7 +64,7 @@ fewer song p c End l e =
 fewer song p c (Given v) l e =
     let n = left-some song (coming p c (Given v)) refl in
     let s = left-some song p e in
-    let same : edgeOf song c ≡ edgeOf song (p .cursor) = Rattle.smf.proofs.TrackLaws.further-edge song (p .cursor) c l in
+    let same : edgeOf song c ≡ edgeOf song (p .cursor) = further-edge song (p .cursor) c l in
     record { less = omega (arith, l .after, l .before); halves = λ k h. omega (arith, l .after, l .before) }
 
 -- ---- when it is due

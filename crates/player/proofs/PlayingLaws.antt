@@ -1,8 +1,8 @@
 -- Laws of a render by the player: the turns are enough for all events that are due, an event that is due may be applied at once, and frames in which none is due go together.
 use mathlib.Core.Bool.{Bool, true, false, cond}
-use mathlib.Core.List.{List, [], _++_, append-assoc, append-nil}
+use mathlib.Core.List.{List, _++_, append-assoc, append-nil}
 use mathlib.Core.Logic.{_⊎_, inl, inr, ⊎-elim}
-use mathlib.Core.Path.{_≡_, refl, sym, ap, _∙_, subst}
+use mathlib.Core.Path.{_≡_, refl, sym, ap, _∙_}
 use Prim.Native.Nat.{ℕ, zero, suc, _+_, _-_, _*_, _%_, _<_, _≤_}
 use native.Mathlib.Nat.{zero-add, suc-add, suc-ne-zero}
 use native.Mathlib.Numerals.{add-one}
@@ -24,9 +24,9 @@ use Rattle.player.specs.declared.Player.{Player}
 use Rattle.player.specs.declared.Tally.{Tally}
 use Rattle.player.specs.Acting.{heeded}
 use Rattle.player.specs.Cues.{withEngine, since, isDue}
-use Rattle.player.specs.Internal.Cues.{waitOf, gapOf, left}
-use Rattle.player.specs.Playing.{moved, forward, applying, caughtUp, prepared, after, numbers}
-use Rattle.player.proofs.CuesLaws.{left-none, left-most, left-open, Fewer, fewer, due-open, reached-due, Quiet, quiet-still, gap-most, gap-quiet, gap-less}
+use Rattle.player.specs.Internal.Cues.{gapOf}
+use Rattle.player.specs.Playing.{ticked, forward, applying, caughtUp, prepared, performed, numbers}
+use Rattle.player.proofs.CuesLaws.{left, left-most, Fewer, fewer, due-open, reached-due, Quiet, quiet-still, gap-most, gap-quiet, gap-less}
 
 -- frames are left behind so many where they are among those that were left
 pub left-behind : (k m n : ℕ) → k ≤ n → ltb (k + m) n ≡ ltb m (n - k)
@@ -82,10 +82,10 @@ written-on k m before out next os room long same new =
 -- ---- the engine's own frames
 
 -- one frame and then m are m + 1
-pub moved-on : (ram rom : List ℤ) (m : ℕ) (e : Engine) → moved ram rom m (moved ram rom 1 e) ≡ moved ram rom (suc m) e
-unfolding moved
-moved-on ram rom zero e = refl
-moved-on ram rom (suc k) e =
+pub ticked-on : (ram rom : List ℤ) (m : ℕ) (e : Engine) → ticked ram rom m (ticked ram rom 1 e) ≡ ticked ram rom (suc m) e
+unfolding ticked
+ticked-on ram rom zero e = refl
+ticked-on ram rom (suc k) e =
     let t = (e .clock + 1) % 4294967296 in
     let c : (t + suc k) % 4294967296 ≡ (e .clock + suc (suc k)) % 4294967296 = omega arith in
     let n : 1 + suc k ≡ suc (suc k) = omega arith in
@@ -94,28 +94,28 @@ moved-on ram rom (suc k) e =
     ∙ ap (withClock (played ram rom (suc (suc k)) e)) c
 
 -- and so are their numbers
-pub output-on : (ram rom : List ℤ) (m : ℕ) (e : Engine) → output ram rom e 1 ++ output ram rom (moved ram rom 1 e) m ≡ output ram rom e (suc m)
-unfolding moved
+pub output-on : (ram rom : List ℤ) (m : ℕ) (e : Engine) → output ram rom e 1 ++ output ram rom (ticked ram rom 1 e) m ≡ output ram rom e (suc m)
+unfolding ticked
 output-on ram rom m e =
     let n : 1 + m ≡ suc m = omega arith in
     ap (λ (os : List Float). output ram rom e 1 ++ os) (output-clock ram rom (played ram rom 1 e) ((e .clock + 1) % 4294967296) m)
     ∙ sym (output-cut ram rom e 1 m) ∙ ap (output ram rom e) n
 
 -- frames of which there are some
-pub moved-some : (ram rom : List ℤ) (m : ℕ) (e : Engine) → (m ≡ 0 → ⊥) → moved ram rom m e ≡ withClock (played ram rom m e) ((e .clock + m) % 4294967296)
-unfolding moved
-moved-some ram rom zero e h = absurd (h refl)
-moved-some ram rom (suc m) e h = refl
+pub ticked-some : (ram rom : List ℤ) (m : ℕ) (e : Engine) → (m ≡ 0 → ⊥) → ticked ram rom m e ≡ withClock (played ram rom m e) ((e .clock + m) % 4294967296)
+unfolding ticked
+ticked-some ram rom zero e h = absurd (h refl)
+ticked-some ram rom (suc m) e h = refl
 
 -- of a player
 pub forward-none : (ram rom : List ℤ) (x : Tally) → forward ram rom 0 x ≡ x
-unfolding forward moved
+unfolding forward ticked
 forward-none ram rom x = refl
 
 forward-on : (ram rom : List ℤ) (m : ℕ) (x : Tally) → forward ram rom m (forward ram rom 1 x) ≡ forward ram rom (suc m) x
 unfolding forward
 forward-on ram rom m x =
-    ap (λ (e : Engine). with x e) (moved-on ram rom m (x .player .engine))
+    ap (λ (e : Engine). with x e) (ticked-on ram rom m (x .player .engine))
   where
     with : Tally → Engine → Tally
     with x e = record { player = withEngine (x .player) e; applied = x .applied; refused = x .refused }
@@ -137,13 +137,13 @@ pub record Bounded (p : Player) : Type 0 where
 -- m frames on, as long as the count of frames does not wrap
 pub since-on : (ram rom : List ℤ) (m : ℕ) (x : Tally) → Bounded (x .player) → since (x .player) + m < 4294967296
     → since (forward ram rom m x .player) ≡ since (x .player) + m
-unfolding since forward moved
+unfolding since forward ticked
 since-on ram rom zero x b h = omega (arith, b .clock, b .began)
 since-on ram rom (suc m) x b h = omega (arith, b .clock, b .began)
 
 -- the bounds hold on
 pub bounded-on : (ram rom : List ℤ) (m : ℕ) (x : Tally) → Bounded (x .player) → Bounded (forward ram rom m x .player)
-unfolding forward moved
+unfolding forward ticked
 bounded-on ram rom zero x b = record { clock = b .clock; began = b .began; frame = b .frame }
 bounded-on ram rom (suc m) x b = record { clock = omega arith; began = b .began; frame = b .frame }
 
@@ -252,9 +252,9 @@ module _ (song bank : List ℕ) (ram rom : List ℤ) where
 
   -- n frames from a state in front of which an event is due
   pub after-one : (n : ℕ) (x : Tally) → isDue (x .player) ≡ true
-      → after song bank ram rom (suc n) (applying song bank ram rom x) ≡ after song bank ram rom (suc n) x
-  unfolding after
-  after-one n x e = ap (λ (y : Tally). after song bank ram rom n (forward ram rom 1 y)) (prepared-one x e)
+      → performed song bank ram rom (suc n) (applying song bank ram rom x) ≡ performed song bank ram rom (suc n) x
+  unfolding performed
+  after-one n x e = ap (λ (y : Tally). performed song bank ram rom n (forward ram rom 1 y)) (prepared-one x e)
 
   -- their numbers
   pub numbers-one : (n : ℕ) (x : Tally) → isDue (x .player) ≡ true
@@ -265,14 +265,14 @@ module _ (song bank : List ℕ) (ram rom : List ℤ) where
 
   -- frames in front of which no event is due go together
   pub after-quiet : (m r : ℕ) (x : Tally) → Bounded (x .player) → Quiet m (x .player)
-      → after song bank ram rom (m + r) x ≡ after song bank ram rom r (forward ram rom m x)
-  unfolding after
-  after-quiet zero r x b q = ap (λ (n : ℕ). after song bank ram rom n x) (zero-add r) ∙ ap (after song bank ram rom r) (sym (forward-none ram rom x))
+      → performed song bank ram rom (m + r) x ≡ performed song bank ram rom r (forward ram rom m x)
+  unfolding performed
+  after-quiet zero r x b q = ap (λ (n : ℕ). performed song bank ram rom n x) (zero-add r) ∙ ap (performed song bank ram rom r) (sym (forward-none ram rom x))
   after-quiet (suc m) r x b q =
-      ap (λ (n : ℕ). after song bank ram rom n x) (suc-add m r)
-      ∙ ap (λ (y : Tally). after song bank ram rom (m + r) (forward ram rom 1 y)) (prepared-none x (quiet-still m (x .player) q))
+      ap (λ (n : ℕ). performed song bank ram rom n x) (suc-add m r)
+      ∙ ap (λ (y : Tally). performed song bank ram rom (m + r) (forward ram rom 1 y)) (prepared-none x (quiet-still m (x .player) q))
       ∙ after-quiet m r (forward ram rom 1 x) (bounded-on ram rom 1 x b) (quiet-on ram rom m x b q)
-      ∙ ap (after song bank ram rom r) (forward-on ram rom m x)
+      ∙ ap (performed song bank ram rom r) (forward-on ram rom m x)
 
   -- and so do their numbers
   pub numbers-quiet : (m r : ℕ) (x : Tally) → Bounded (x .player) → Quiet m (x .player)
@@ -296,11 +296,11 @@ module _ (song bank : List ℕ) (ram rom : List ℤ) where
 
   -- the frames of a gap go together
   gap-after : (m r : ℕ) (x : Tally) → Bounded (x .player) → Quiet m (x .player) ⊎ (m ≡ 0)
-      → after song bank ram rom (m + r) x ≡ after song bank ram rom r (forward ram rom m x)
+      → performed song bank ram rom (m + r) x ≡ performed song bank ram rom r (forward ram rom m x)
   gap-after m r x b q = ⊎-elim (λ (q : Quiet m (x .player)). after-quiet m r x b q) (none m) q
     where
-      none : (m : ℕ) → m ≡ 0 → after song bank ram rom (m + r) x ≡ after song bank ram rom r (forward ram rom m x)
-      none zero z = ap (λ (n : ℕ). after song bank ram rom n x) (zero-add r) ∙ ap (after song bank ram rom r) (sym (forward-none ram rom x))
+      none : (m : ℕ) → m ≡ 0 → performed song bank ram rom (m + r) x ≡ performed song bank ram rom r (forward ram rom m x)
+      none zero z = ap (λ (n : ℕ). performed song bank ram rom n x) (zero-add r) ∙ ap (performed song bank ram rom r) (sym (forward-none ram rom x))
       none (suc m) z = absurd (suc-ne-zero m z)
 
   -- and so do their numbers
@@ -328,12 +328,12 @@ module _ (song bank : List ℕ) (ram rom : List ℤ) where
 
   -- where frames are left, the event that is applied is due
   turn-rest : (m r : ℕ) (x : Tally) → isDue (forward ram rom m x .player) ≡ true
-      → after song bank ram rom (suc r) (forward ram rom m x) ≡ after song bank ram rom (suc r) (turned true m x)
+      → performed song bank ram rom (suc r) (forward ram rom m x) ≡ performed song bank ram rom (suc r) (turned true m x)
   turn-rest m r x e = sym (after-one r (forward ram rom m x) e)
 
   -- from there the frames that are left give the same
   pub turn-after : (most : ℕ) (x : Tally) (more : Bool) → Bounded (x .player) → ltb (gapOf (x .player) most) most ≡ more
-      → after song bank ram rom most x ≡ after song bank ram rom (most - gapOf (x .player) most) (turned more (gapOf (x .player) most) x)
+      → performed song bank ram rom most x ≡ performed song bank ram rom (most - gapOf (x .player) most) (turned more (gapOf (x .player) most) x)
   turn-after most x more b f = by more f (most - m) refl
     where
       m : ℕ
@@ -342,10 +342,10 @@ module _ (song bank : List ℕ) (ram rom : List ℤ) where
       whole : m + (most - m) ≡ most
       whole = omega (arith, gap-most (x .player) most)
 
-      gone : after song bank ram rom most x ≡ after song bank ram rom (most - m) (forward ram rom m x)
-      gone = ap (λ (n : ℕ). after song bank ram rom n x) (sym whole) ∙ gap-after m (most - m) x b (gap-quiet (x .player) most)
+      gone : performed song bank ram rom most x ≡ performed song bank ram rom (most - m) (forward ram rom m x)
+      gone = ap (λ (n : ℕ). performed song bank ram rom n x) (sym whole) ∙ gap-after m (most - m) x b (gap-quiet (x .player) most)
 
-      by : (t : Bool) → ltb m most ≡ t → (r : ℕ) → most - m ≡ r → after song bank ram rom most x ≡ after song bank ram rom (most - m) (turned t m x)
+      by : (t : Bool) → ltb m most ≡ t → (r : ℕ) → most - m ≡ r → performed song bank ram rom most x ≡ performed song bank ram rom (most - m) (turned t m x)
       by false f r e = gone
       by true f zero e = absurd (omega (arith, ltb-true m most f))
       by true f (suc r) e =

@@ -10,7 +10,7 @@ use Rattle.events.specs.Programs.{programChange}
 use Rattle.events.specs.Bends.{pitchBend}
 use Rattle.player.specs.declared.Player.{Player}
 use Rattle.player.specs.declared.Begun.{Begun}
-use Rattle.player.specs.Cues.{withEngine, cued}
+use Rattle.player.specs.Cues.{cued}
 
 -- a channel let go: control 64 with 0, and then control 123
 unfoldable pub hushed : ℕ → Engine → Engine

@@ -29,14 +29,14 @@ abbrev pub refusal : ℕ → ℕ
 refusal status = cond (eqb status 0) 0 1
 
 -- the engine's own n frames: its voices, and its clock
-unfoldable pub moved : List ℤ → List ℤ → ℕ → Engine → Engine
-moved ram rom zero e = e
-moved ram rom (suc n) e = withClock (played ram rom (suc n) e) ((e .clock + suc n) % 4294967296)
+unfoldable pub ticked : List ℤ → List ℤ → ℕ → Engine → Engine
+ticked ram rom zero e = e
+ticked ram rom (suc n) e = withClock (played ram rom (suc n) e) ((e .clock + suc n) % 4294967296)
 
 -- .. of a player's engine
 unfoldable pub forward : List ℤ → List ℤ → ℕ → Tally → Tally
 forward ram rom n x =
-    record { player = withEngine (x .player) (moved ram rom n (x .player .engine)); applied = x .applied; refused = x .refused }
+    record { player = withEngine (x .player) (ticked ram rom n (x .player .engine)); applied = x .applied; refused = x .refused }
 
 module _ (song bank : List ℕ) (ram rom : List ℤ) where
   -- that event applied: it acts and is counted, and the one behind it, in the song that is lent, comes next
@@ -58,10 +58,10 @@ module _ (song bank : List ℕ) (ram rom : List ℤ) where
   abbrev pub prepared : Tally → Tally
   prepared x = caughtUp (turns song) x
 
-  -- after n frames
-  unfoldable pub after : ℕ → Tally → Tally
-  after zero x = x
-  after (suc n) x = after n (forward ram rom 1 (prepared x))
+  -- performed n frames
+  unfoldable pub performed : ℕ → Tally → Tally
+  performed zero x = x
+  performed (suc n) x = performed n (forward ram rom 1 (prepared x))
 
   -- the numbers of n frames
   unfoldable pub numbers : ℕ → Tally → List Float
@@ -72,7 +72,7 @@ module _ (song bank : List ℕ) (ram rom : List ℤ) where
   unfoldable pub answered : ℕ → ℕ → Player → Answer
   answered to room p =
       cond (eqb (renderNumber to ram rom room (p .engine)) 0)
-      (reported (after (distance (p .engine) to) (opened p)))
+      (reported (performed (distance (p .engine) to) (opened p)))
       (record { number = renderNumber to ram rom room (p .engine); applied = 0; refused = 0; player = p })
 
   -- and all of the lent output: done, its first 2n numbers are written and no other; refused, none

@@ -1,7 +1,6 @@
 // The event that comes next: when it is due, and how the one behind it is read.
 ghost use mathlib.Core.Path.{_≡_};
-ghost use Rattle.smf.specs.Songs.{handedOf};
-ghost use Rattle.player.specs.Cues.{idle, withEngine, cued, since};
+ghost use Rattle.player.specs.Cues.{noEvent, idle, withEngine, cued, since};
 ghost use Rattle.player.specs.Internal.Cues.{gapOf};
 use crate::Player;
 use engine::Engine;
@@ -32,7 +31,7 @@ pub fn fresh() -> Player
 
 // What stands in the event's place where none comes.
 fn no_event() -> Event
-    ensures { λ r. ⌜ r ≡ Rattle.player.specs.Cues.noEvent ⌝ }
+    ensures { λ r. ⌜ r ≡ noEvent ⌝ }
 {
     Event {
         frame: 0,

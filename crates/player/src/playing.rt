@@ -5,7 +5,7 @@ ghost use mathlib.Core.List.{_++_};
 ghost use Prim.Native.Nat.{_+_, _*_, _<_, _≤_};
 ghost use lib.ListN.{length, take, drop};
 ghost use Rattle.engine.specs.Rendering.{output};
-ghost use Rattle.player.specs.Playing.{opened, applying, forward, after, numbers, answered, soundedInto};
+ghost use Rattle.player.specs.Playing.{opened, refusal, applying, forward, performed, numbers, answered, soundedInto};
 use crate::Answer;
 use crate::Player;
 use crate::Tally;
@@ -27,7 +27,7 @@ fn open(p: Player) -> Tally
 
 // 1 where a call was refused.
 fn one_unless_done(status: u8) -> u32
-    ensures { λ r. ⌜ r ≡ Rattle.player.specs.Playing.refusal status ⌝ }
+    ensures { λ r. ⌜ r ≡ refusal status ⌝ }
 {
     if status == 0 { 0 } else { 1 }
 }
@@ -79,7 +79,7 @@ fn go_on<'a>(x: Tally, ram: &'a [i16], rom: &'a [i16], out: &mut [f32], at: usiz
     }
     let p = x.player;
     let e = p.engine;
-    let mut y = engine::play(e, ram, rom, &mut out[at..], m as usize);
+    let mut y = engine::rendering::play(e, ram, rom, &mut out[at..], m as usize);
     y.clock = std::num::wrapping_add_u32(e.clock, m);
     Tally {
         player: with_engine(p, y),
@@ -99,7 +99,7 @@ fn play_on<'a>(
     n: u32,
 ) -> Tally
     requires { ⌜ (n ≤ 4096) × (2 * n ≤ length (now out)) ⌝ }
-    ensures tally { λ r. ⌜ r ≡ after (now (file .entry)) (now (bank .entry)) (now (ram .entry)) (now (rom .entry)) n (opened p) ⌝ }
+    ensures tally { λ r. ⌜ r ≡ performed (now (file .entry)) (now (bank .entry)) (now (ram .entry)) (now (rom .entry)) n (opened p) ⌝ }
     ensures output { λ _. ⌜ now (out .exit) ≡ numbers (now (file .entry)) (now (bank .entry)) (now (ram .entry)) (now (rom .entry)) n (opened p) ++ drop (2 * n) (now (out .entry)) ⌝ }
 {
     let mut x = open(p);
@@ -128,7 +128,7 @@ pub fn render<'a>(
     ensures output { λ _. ⌜ now (out .exit) ≡ soundedInto (now (file .entry)) (now (bank .entry)) (now (ram .entry)) (now (rom .entry)) to (now (out .entry)) p ⌝ }
 {
     let e = p.engine;
-    let number = engine::render_number(e, to, ram, rom, out.len());
+    let number = engine::rendering::render_number(e, to, ram, rom, out.len());
     if number != 0 {
         return Answer {
             number,
@@ -137,7 +137,7 @@ pub fn render<'a>(
             player: p,
         };
     }
-    let n = engine::distance_to(e, to);
+    let n = engine::rendering::distance_to(e, to);
     let x = play_on(p, file, bank, ram, rom, out, n);
     let q = x.player;
     Answer {

@@ -17,6 +17,11 @@ use Rattle.reader.specs.Reader.{openedOf, nextOf, nthListed}
 use Rattle.reader.specs.declared.Taken.{Taken}
 use Rattle.reader.specs.declared.Step.{Step}
 use lib.ListN.{length}
+use Rattle.player.specs.declared.Begun.{Begun}
+use Rattle.player.specs.declared.Player.{Player}
+use Rattle.player.specs.Asking.{isSilent, heldCount}
+use Rattle.player.specs.Cues.{idle, withEngine}
+use Rattle.player.specs.Pauses.{started, stopped}
 use Rattle.smf.specs.declared.Handed.{Handed}
 use Rattle.smf.specs.declared.Opening.{Opening}
 use Rattle.smf.specs.declared.Tested.{Tested}
@@ -105,6 +110,31 @@ write-determined numbers out o p h k = ends o p (h .0 ∙ sym (k .0)) (h .1 ∙ 
 
 pub read-determined : D.ReadDetermined
 read-determined file out o p h k = ends o p (h .0 ∙ sym (k .0)) (h .1 ∙ sym (k .1))
+
+-- ---- player
+pub idle-determined : D.IdleDetermined
+idle-determined = equation Player idle
+
+pub with-engine-determined : D.WithEngineDetermined
+with-engine-determined p e = equation Player (withEngine p e)
+
+pub start-determined : D.StartDetermined
+start-determined p file = equation Begun (started file p)
+
+pub stop-determined : D.StopDetermined
+stop-determined p = equation Player (stopped p)
+
+pub play-determined : D.PlayDetermined
+play-determined p file bank ram rom out to x y h k = ends x y (h .0 ∙ sym (k .0)) (h .1 ∙ sym (k .1))
+
+pub over-determined : D.OverDetermined
+over-determined p = equation Bool (p .ended)
+
+pub silent-determined : D.SilentDetermined
+silent-determined p = equation Bool (isSilent p)
+
+pub held-count-determined : D.HeldCountDetermined
+held-count-determined p = equation ℕ (heldCount p)
 
 -- ---- records
 pub window-determined : D.WindowDetermined

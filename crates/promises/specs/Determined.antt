@@ -27,6 +27,13 @@ use Rattle.smf.specs.declared.Handed.{Handed}
 use Rattle.smf.specs.declared.Opening.{Opening}
 use Rattle.smf.specs.declared.Tested.{Tested}
 use Rattle.smf.specs.Songs.{testOf, openingOf, handedOf, bytesOf}
+use Rattle.player.specs.declared.Answer.{Answer}
+use Rattle.player.specs.declared.Begun.{Begun}
+use Rattle.player.specs.declared.Player.{Player}
+use Rattle.player.specs.Asking.{isSilent, heldCount}
+use Rattle.player.specs.Cues.{idle, withEngine}
+use Rattle.player.specs.Pauses.{started, stopped}
+use Rattle.player.specs.Playing.{answered, soundedInto}
 use Rattle.wave.specs.declared.Heard.{Heard}
 use Rattle.wave.specs.Headings.{headingNumber, headed}
 use Rattle.wave.specs.Pours.{pourNumber, pouredInto}
@@ -187,6 +194,50 @@ abbrev pub ReadDetermined : Type 0
 ReadDetermined =
     (file : List ℕ) (out : List ℤ) → Settles (Ends Heard (List ℤ))
     (λ o. (o .answer ≡ heardOf file (length out)) × (o .output ≡ replayed file out))
+
+-- ---- player
+
+-- the player at the beginning
+-- contract of player::fresh()
+abbrev pub IdleDetermined : Type 0
+IdleDetermined = Settles Player (λ r. r ≡ idle)
+
+-- the player with another engine, as a direct call leaves it
+-- contract of player::with_engine(p, e)
+abbrev pub WithEngineDetermined : Type 0
+WithEngineDetermined = (p : Player) (e : Engine) → Settles Player (λ r. r ≡ withEngine p e)
+
+-- a file's number and place, and the player with its song, or as it was
+-- contract of player::start(p, file)
+abbrev pub StartDetermined : Type 0
+StartDetermined = (p : Player) (file : List ℕ) → Settles Begun (λ r. r ≡ started file p)
+
+-- the player with all channels let go and no event left
+-- contract of player::stop(p)
+abbrev pub StopDetermined : Type 0
+StopDetermined = (p : Player) → Settles Player (λ r. r ≡ stopped p)
+
+-- 01's number, the events applied and refused and the player, and all of the output
+-- contract of player::render(p, file, bank, ram, rom, out, to)
+abbrev pub PlayDetermined : Type 0
+PlayDetermined =
+    (p : Player) (file bank : List ℕ) (ram rom : List ℤ) (out : List Float) (to : ℕ) → Settles (Ends Answer (List Float))
+    (λ o. (o .answer ≡ answered file bank ram rom to (length out) p) × (o .output ≡ soundedInto file bank ram rom to out p))
+
+-- whether no event is left
+-- contract of player::is_over(p)
+abbrev pub OverDetermined : Type 0
+OverDetermined = (p : Player) → Settles Bool (λ r. r ≡ p .ended)
+
+-- whether no voice sounds
+-- contract of player::is_silent(p)
+abbrev pub SilentDetermined : Type 0
+SilentDetermined = (p : Player) → Settles Bool (λ r. r ≡ isSilent p)
+
+-- how many voices are held
+-- contract of player::held_count(p)
+abbrev pub HeldCountDetermined : Type 0
+HeldCountDetermined = (p : Player) → Settles ℕ (λ r. r ≡ heldCount p)
 
 -- ---- records
 

@@ -6,71 +6,61 @@ mod renders;
 mod tapes;
 
 use cases::Command;
-use engine::Engine;
 use libc::STDIN_FILENO;
 use libc::STDOUT_FILENO;
+use player::Player;
 use tapes::Tape;
 
-// The engine and the tape behind a command.
+// The player and the tape behind a command.
 pub struct Played {
-    pub engine: Engine,
+    pub player: Player,
     pub tape: Tape,
 }
 
-// The engine behind a command that is no render.
-fn called<'a>(
-    bank: &[u8; 66000],
-    ram: &'a [i16; 524288],
-    rom: &'a [i16; 524288],
-    c: Command,
-    e: Engine,
-    tape: Tape,
-) -> Engine {
-    let letter = c.letter;
-    match letter {
-        b'n' => ringer::note_on(bank, ram, rom, tape.lent, c, e).engine,
-        b'F' => ringer::fresh_at(c.first),
-        _ => ringer::answer(c, e).engine,
-    }
-}
-
-// A command for the engine.
+// A command for the player.
 fn play<'a>(
     bank: &[u8; 66000],
+    song: &[u8; 66000],
     ram: &'a [i16; 524288],
     rom: &'a [i16; 524288],
     c: Command,
-    e: Engine,
+    p: Player,
     tape: Tape,
 ) -> Played {
-    if c.letter == b'r' {
-        return renders::render(ram, rom, c, e, tape);
-    }
-    Played {
-        engine: called(bank, ram, rom, c, e, tape),
-        tape: tapes::passed(tape, c),
+    let letter = c.letter;
+    match letter {
+        b'r' | b'V' => renders::render(bank, song, ram, rom, c, p, tape),
+        _ => {
+            let a = ringer::call(bank, song, ram, rom, tape.lent, c, p);
+            let after = a.player;
+            Played {
+                player: after,
+                tape: tapes::passed(tape, c),
+            }
+        }
     }
 }
 
-// All of the case, from a fresh engine on, with nothing lent. A proved loop has to end: it counts down from a number that no case uses up.
+// All of the case, from a fresh player on, with nothing lent. A proved loop has to end: it counts down from a number that no case uses up.
 fn run(
     bank: &mut [u8; 66000],
+    song: &mut [u8; 66000],
     ram: &mut [i16; 524288],
     rom: &mut [i16; 524288],
     room: &mut [u8; 4194304],
     first: Tape,
 ) -> Tape {
-    let mut e = engine::fresh();
+    let mut p = player::fresh();
     let mut tape = first;
     let mut turns = u64::MAX;
     while turns > 0 && !tape.place.cut {
         let c = cases::next_command(room, tape.place);
         if ringer::moves(c) {
-            let p = play(bank, ram, rom, c, e, tape);
-            e = p.engine;
-            tape = p.tape;
+            let done = play(bank, song, ram, rom, c, p, tape);
+            p = done.player;
+            tape = done.tape;
         } else {
-            tape = tapes::tell(bank, ram, rom, room, c, tape);
+            tape = tapes::tell(bank, song, ram, rom, room, c, tape);
         }
         turns -= 1;
     }
@@ -89,6 +79,7 @@ fn begin_file(frames: u64) -> bool {
 // The file of a case of n bytes that was counted: its heading, and the numbers of its renders.
 fn pour(
     bank: &mut [u8; 66000],
+    song: &mut [u8; 66000],
     ram: &mut [i16; 524288],
     rom: &mut [i16; 524288],
     room: &mut [u8; 4194304],
@@ -99,7 +90,7 @@ fn pour(
         complaints::lost();
         return;
     }
-    let poured = run(bank, ram, rom, room, tapes::begin(n, true));
+    let poured = run(bank, song, ram, rom, room, tapes::begin(n, true));
     if poured.lost {
         complaints::lost();
     }
@@ -108,9 +99,17 @@ fn pour(
 // A case of n bytes: counted, and written where it can be.
 fn record(room: &mut [u8; 4194304], n: usize) {
     let mut bank = [0u8; 66000];
+    let mut song = [0u8; 66000];
     let mut ram = [0i16; 524288];
     let mut rom = [0i16; 524288];
-    let counted = run(&mut bank, &mut ram, &mut rom, room, tapes::begin(n, false));
+    let counted = run(
+        &mut bank,
+        &mut song,
+        &mut ram,
+        &mut rom,
+        room,
+        tapes::begin(n, false),
+    );
     if counted.bad {
         complaints::bad(counted.begun);
         return;
@@ -119,7 +118,15 @@ fn record(room: &mut [u8; 4194304], n: usize) {
         complaints::endless();
         return;
     }
-    pour(&mut bank, &mut ram, &mut rom, room, n, counted.frames);
+    pour(
+        &mut bank,
+        &mut song,
+        &mut ram,
+        &mut rom,
+        room,
+        n,
+        counted.frames,
+    );
 }
 
 // The case is read whole into the room. One that fills it to the last byte may go on behind it, and is refused.

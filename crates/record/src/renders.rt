@@ -1,10 +1,10 @@
-// r: a render, counted and, the second time, poured.
+// r, V: a render, counted and, the second time, poured.
 use crate::Played;
 use crate::tapes;
 use crate::tapes::Tape;
 use cases::Command;
-use engine::Engine;
 use libc::STDOUT_FILENO;
+use player::Player;
 
 // So many frames more. Above what a file can hold the count stays.
 fn more(frames: u64, d: u32) -> u64 {
@@ -45,37 +45,41 @@ fn heard(out: &[f32], frames: u32, c: Command, tape: Tape) -> Tape {
 
 // A render into the output that is lent. A done one has as many frames as the clock went on.
 fn sounded<'a>(
+    bank: &[u8],
+    song: &[u8],
     ram: &'a [i16],
     rom: &'a [i16],
     out: &mut [f32],
     c: Command,
-    e: Engine,
+    p: Player,
     tape: Tape,
 ) -> Played {
-    let a = ringer::render(ram, rom, tape.lent, out, c, e);
-    let after = a.engine;
-    if a.status != 0 {
+    let a = ringer::render(bank, song, ram, rom, tape.lent, out, c, p);
+    let after = a.player;
+    if a.number != 0 {
         return Played {
-            engine: after,
+            player: after,
             tape: tapes::passed(tape, c),
         };
     }
-    let frames = std::num::wrapping_sub_u32(after.clock, e.clock);
+    let frames = std::num::wrapping_sub_u32(after.engine.clock, p.engine.clock);
     Played {
-        engine: after,
+        player: after,
         tape: heard(out, frames, c, tape),
     }
 }
 
 // The same with an output of the length that is asked for.
 pub fn render<'a>(
+    bank: &[u8; 66000],
+    song: &[u8; 66000],
     ram: &'a [i16; 524288],
     rom: &'a [i16; 524288],
     c: Command,
-    e: Engine,
+    p: Player,
     tape: Tape,
 ) -> Played {
     let mut out = [0f32; 8448];
     let n = ringer::lent_numbers(c.second);
-    sounded(ram, rom, &mut out[..n], c, e, tape)
+    sounded(bank, song, ram, rom, &mut out[..n], c, p, tape)
 }

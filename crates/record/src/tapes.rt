@@ -4,7 +4,7 @@ use cases::Lent;
 use cases::Place;
 use ringer::Kind;
 
-// What a run has beside its engine.
+// What a run has beside its player.
 pub struct Tape {
     pub lent: Lent,
     // what is still to be read of the case; where it is cut, nothing more is played
@@ -55,16 +55,17 @@ fn spoilt(tape: Tape, c: Command) -> Tape {
     next
 }
 
-// B, M, O, m, x: what is lent from here on.
+// B, L, M, O, m, x: what is lent from here on.
 fn lend(
     bank: &mut [u8; 66000],
+    song: &mut [u8; 66000],
     ram: &mut [i16; 524288],
     rom: &mut [i16; 524288],
     room: &mut [u8; 4194304],
     c: Command,
     tape: Tape,
 ) -> Tape {
-    let loan = cases::lend(bank, ram, rom, room, c, tape.lent);
+    let loan = cases::lend(bank, song, ram, rom, room, c, tape.lent);
     let lent = loan.lent;
     let mut next = behind(tape, loan.place);
     next.lent = lent;
@@ -78,9 +79,10 @@ fn name(room: &mut [u8; 4194304], c: Command, tape: Tape) -> Tape {
     behind(tape, held.place)
 }
 
-// What leaves the engine as it is. What is asked is not recorded.
+// What leaves the player as it is. What is asked is not recorded.
 pub fn tell(
     bank: &mut [u8; 66000],
+    song: &mut [u8; 66000],
     ram: &mut [i16; 524288],
     rom: &mut [i16; 524288],
     room: &mut [u8; 4194304],
@@ -89,7 +91,7 @@ pub fn tell(
 ) -> Tape {
     let kind = ringer::kind_of(c);
     match kind {
-        Kind::Lends => lend(bank, ram, rom, room, c, tape),
+        Kind::Lends => lend(bank, song, ram, rom, room, c, tape),
         Kind::Asks => passed(tape, c),
         Kind::Strikes => passed(tape, c),
         Kind::Names => name(room, c, tape),

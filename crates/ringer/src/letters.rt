@@ -2,11 +2,11 @@
 ghost use Prim.Native.Nat.{_≤_};
 use cases::Command;
 
-// What a command is that is not for the engine.
+// What a command is that is not for the player.
 pub enum Kind {
-    // B, M, O, m, x: something is lent
+    // B, L, M, O, m, x: something is lent
     Lends,
-    // a, i, d, j, l, s, u: something is asked
+    // a, i, d, j, l, s, u, E: something is asked
     Asks,
     // h: a key is struck on the bank by itself
     Strikes,
@@ -33,12 +33,12 @@ fn playable(key: u8, velocity: u8) -> bool {
     key <= 127 && 0 < velocity && velocity <= 127
 }
 
-// Whether a command is one for the engine: n, o, c, p, b, F, and r into an output that there is room for.
+// Whether a command is one for the player: n, o, c, p, b of its engine, F, G, H, and r and V into an output that there is room for.
 pub fn moves(c: Command) -> bool {
     let letter = c.letter;
     match letter {
-        b'n' | b'o' | b'c' | b'p' | b'b' | b'F' => true,
-        b'r' => has_room(c.second),
+        b'n' | b'o' | b'c' | b'p' | b'b' | b'F' | b'G' | b'H' => true,
+        b'r' | b'V' => has_room(c.second),
         _ => false,
     }
 }
@@ -56,8 +56,8 @@ fn struck(c: Command) -> Kind {
 pub fn kind_of(c: Command) -> Kind {
     let letter = c.letter;
     match letter {
-        b'B' | b'M' | b'O' | b'm' | b'x' => Kind::Lends,
-        b'a' | b'i' | b'd' | b'j' | b'l' | b's' | b'u' => Kind::Asks,
+        b'B' | b'L' | b'M' | b'O' | b'm' | b'x' => Kind::Lends,
+        b'a' | b'i' | b'd' | b'j' | b'l' | b's' | b'u' | b'E' => Kind::Asks,
         b'h' => struck(c),
         b't' => Kind::Names,
         _ => Kind::Bad,

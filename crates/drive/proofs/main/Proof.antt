@@ -5,10 +5,10 @@ use Rattle.drive.proofs.main.Statement.{statement}
 use Rattle.drive.proofs.main.Tie as tie
 
 abbrev Inv-loop : tie.InvT-loop
-Inv-loop bank₀ ram₀ rom₀ room₀ text₀ e₀ tape₀ turns₀ bank ram rom room text e tape turns = Unit {0}
+Inv-loop bank₀ song₀ ram₀ rom₀ room₀ text₀ p₀ tape₀ turns₀ bank song ram rom room text p tape turns = Unit {0}
 
 abbrev μ-loop : tie.MeasureT-loop
-μ-loop bank₀ ram₀ rom₀ room₀ text₀ e₀ tape₀ turns₀ bank ram rom room text e tape turns = turns
+μ-loop bank₀ song₀ ram₀ rom₀ room₀ text₀ p₀ tape₀ turns₀ bank song ram rom room text p tape turns = turns
 
 large-buffer-requires : tie.Need-large-buffer-requires Inv-loop μ-loop
 large-buffer-requires c κs = search needs

@@ -1,9 +1,7 @@
--- What the loop of a render asks: how far it is to the next event, and how many may be left.
+-- What the loop of a render asks: how far it is to the next event.
 use mathlib.Core.Bool.{cond}
-use mathlib.Core.List.{List}
-use Prim.Native.Nat.{ℕ, suc, _-_}
+use Prim.Native.Nat.{ℕ, _-_}
 use lib.Dec.{ltb}
-use Rattle.smf.specs.Track.{edgeOf}
 use Rattle.player.specs.declared.Player.{Player}
 use Rattle.player.specs.Cues.{since}
 
@@ -14,7 +12,3 @@ waitOf p = p .event .frame - since p
 -- the same, at most so many; all of them where none comes
 unfoldable pub gapOf : Player → ℕ → ℕ
 gapOf p most = cond (p .ended) most (cond (ltb (waitOf p) most) (waitOf p) most)
-
--- events and bytes that are left: the event that comes, and each byte behind it
-unfoldable pub left : List ℕ → Player → ℕ
-left song p = cond (p .ended) 0 (suc (edgeOf song (p .cursor) - p .cursor .at))

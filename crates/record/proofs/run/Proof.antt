@@ -5,10 +5,10 @@ use Rattle.record.proofs.run.Statement.{statement}
 use Rattle.record.proofs.run.Tie as tie
 
 abbrev Inv-loop : tie.InvT-loop
-Inv-loop bank₀ ram₀ rom₀ room₀ e₀ tape₀ turns₀ bank ram rom room e tape turns = Unit {0}
+Inv-loop bank₀ song₀ ram₀ rom₀ room₀ p₀ tape₀ turns₀ bank song ram rom room p tape turns = Unit {0}
 
 abbrev μ-loop : tie.MeasureT-loop
-μ-loop bank₀ ram₀ rom₀ room₀ e₀ tape₀ turns₀ bank ram rom room e tape turns = turns
+μ-loop bank₀ song₀ ram₀ rom₀ room₀ p₀ tape₀ turns₀ bank song ram rom room p tape turns = turns
 
 fresh-requires : tie.Need-fresh-requires Inv-loop μ-loop
 fresh-requires c κs = search needs

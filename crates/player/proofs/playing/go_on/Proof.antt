@@ -1,15 +1,12 @@
 -- No frame, or so many by the engine, into the part of the output.
 use native.Mathlib.Omega.{arith}
-use mathlib.Core.Path.{_≡_, refl, sym, ap, _∙_}
-use Prim.Native.Nat.{ℕ, _*_, _-_, _≤_}
-use lib.Ieee.{Float}
-use mathlib.Core.List.{List}
+use mathlib.Core.Path.{sym, ap, _∙_}
+use Prim.Native.Nat.{ℕ, _*_, _-_}
 use lib.ListN.{length}
 use borrow.Rule.Slice.PartMut.{putMid, mid-len}
 use Rattle.engine.specs.Rendering.{output}
-use Rattle.player.specs.declared.Tally.{Tally}
 use Rattle.player.specs.Playing.{forward}
-use Rattle.player.proofs.PlayingLaws.{written-none, part-put, moved-some, forward-none}
+use Rattle.player.proofs.PlayingLaws.{written-none, part-put, ticked-some, forward-none}
 use borrow.Author.Needs.{needs}
 use Rattle.player.proofs.playing.go_on.Statement.{statement}
 use Rattle.player.proofs.playing.go_on.Tie as tie
@@ -56,7 +53,7 @@ returns-2 c =
     let s = i .before .before in
     let a = s .args in
     let e = a .x .player .engine in (
-      simp (c .with-engine .ensures, p .play .ensures .0, c .before .wrapping-add-u32 .ensures, moved-some (a .ram .now) (a .rom .now) (a .m) e (i .if1 .left)),
+      simp (c .with-engine .ensures, p .play .ensures .0, c .before .wrapping-add-u32 .ensures, ticked-some (a .ram .now) (a .rom .now) (a .m) e (i .if1 .left)),
       ap (putMid (a .at) (length (a .out .now) - a .at) (a .out .now)) (p .play .ensures .1)
           ∙ part-put (a .at) (2 * a .m) (a .out .now) (output (a .ram .now) (a .rom .now) e (a .m)) (omega (arith, s .pre .1)),
     )

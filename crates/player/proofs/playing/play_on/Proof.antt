@@ -9,9 +9,9 @@ use lib.Ieee.{Float}
 use lib.ListN.{length, take, drop}
 use Rattle.engine.specs.Rendering.{output}
 use Rattle.player.specs.declared.Tally.{Tally}
-use Rattle.player.specs.Internal.Cues.{gapOf, left}
-use Rattle.player.specs.Playing.{opened, forward, applying, after, numbers}
-use Rattle.player.proofs.CuesLaws.{gap-most, left-low}
+use Rattle.player.specs.Internal.Cues.{gapOf}
+use Rattle.player.specs.Playing.{opened, forward, applying, performed, numbers}
+use Rattle.player.proofs.CuesLaws.{left, gap-most, left-low}
 use Rattle.player.proofs.PlayingLaws.{left-behind, output-length, written-on, forward-counts, Bounded, turned, turn-after, turn-numbers, turn-less, turn-counts}
 use borrow.Author.Needs.{needs}
 use Rattle.player.proofs.playing.play_on.Statement.{statement}
@@ -21,7 +21,7 @@ abbrev Inv-loop : tie.InvT-loop
 Inv-loop file bank ram rom out₀ n x₀ k₀ out x k =
     (k ≤ n)
     × (length out ≡ length out₀)
-    × (after file bank ram rom n x₀ ≡ after file bank ram rom (n - k) x)
+    × (performed file bank ram rom n x₀ ≡ performed file bank ram rom (n - k) x)
     × (numbers file bank ram rom n x₀ ≡ take (2 * k) out ++ numbers file bank ram rom (n - k) x)
     × (out ≡ take (2 * k) out ++ drop (2 * k) out₀)
     × ((2 * x .applied + left file (x .player) ≤ 4294967296) × (x .refused ≤ x .applied))
@@ -73,7 +73,7 @@ loop-holds c =
     let n : a .n ≡ a .n - 0 = omega arith in (
       omega arith,
       refl,
-      ap (λ (j : ℕ). after (a .file .now) (a .bank .now) (a .ram .now) (a .rom .now) j (c .«open» .result)) n,
+      ap (λ (j : ℕ). performed (a .file .now) (a .bank .now) (a .ram .now) (a .rom .now) j (c .«open» .result)) n,
       ap (λ (j : ℕ). numbers (a .file .now) (a .bank .now) (a .ram .now) (a .rom .now) j (c .«open» .result)) n,
       refl,
       subst (λ (x : Tally). (2 * x .applied + left (a .file .now) (x .player) ≤ 4294967296) × (x .refused ≤ x .applied)) (sym o)
@@ -153,7 +153,7 @@ loop-again c =
       omega (arith, g, few, i .0),
       search needs,
       i .2 ∙ turn-after f b (a .ram .now) (a .rom .now) most x (ltb m most) (i .6) refl
-          ∙ ap₂ (λ (j : ℕ) (y : Tally). after f b (a .ram .now) (a .rom .now) j y) rest (sym (state c)),
+          ∙ ap₂ (λ (j : ℕ) (y : Tally). performed f b (a .ram .now) (a .rom .now) j y) rest (sym (state c)),
       i .3
           ∙ ap (λ (xs : List Float). take (2 * l .loop .k) (l .loop .out) ++ xs)
           (turn-numbers f b (a .ram .now) (a .rom .now) most x (ltb m most) (i .6) refl
@@ -171,7 +171,7 @@ same-length : tie.Need-same-length Inv-loop μ-loop
 same-length c = search needs
 
 returns : tie.Need-returns Inv-loop μ-loop
-unfolding after numbers
+unfolding performed numbers
 returns c =
     let l = c .before in
     let a = l .before .before .before .before .before .args in
@@ -184,7 +184,7 @@ returns c =
     let front = take (2 * l .loop .k) (l .loop .out) in
     let sung : numbers f b (a .ram .now) (a .rom .now) (a .n) (opened (a .p)) ≡ front =
     ap (numbers f b (a .ram .now) (a .rom .now) (a .n)) (sym o) ∙ i .3 ∙ ap (λ (j : ℕ). front ++ numbers f b (a .ram .now) (a .rom .now) j (l .loop .x)) none ∙ append-nil front in (
-      sym (ap (after f b (a .ram .now) (a .rom .now) (a .n)) (sym o) ∙ i .2 ∙ ap (λ (j : ℕ). after f b (a .ram .now) (a .rom .now) j (l .loop .x)) none),
+      sym (ap (performed f b (a .ram .now) (a .rom .now) (a .n)) (sym o) ∙ i .2 ∙ ap (λ (j : ℕ). performed f b (a .ram .now) (a .rom .now) j (l .loop .x)) none),
       i .4 ∙ ap₂ (λ (xs : List Float) (j : ℕ). xs ++ drop (2 * j) (a .out .now)) (sym sung) all,
     )
 

@@ -7,7 +7,7 @@ use borrow.Author.Tests.{eq-eqb, ne-eqb}
 use lib.Dec.{eqb}
 use lib.ListN.{length, drop}
 use Rattle.engine.proofs.RenderingLaws.{zero-low}
-use Rattle.player.specs.Playing.{opened, reported, after, numbers, answered, soundedInto}
+use Rattle.player.specs.Playing.{opened, reported, performed, numbers, answered, soundedInto}
 use borrow.Author.Needs.{needs}
 use Rattle.player.proofs.playing.render.Statement.{statement}
 use Rattle.player.proofs.playing.render.Tie as tie
@@ -48,7 +48,7 @@ returns-2 c =
     let q = d .distance-to .ensures in
     let f = a .file .now in
     let b = a .bank .now in (
-      ap reported (p .play-on .ensures .0 ∙ ap (λ (k : ℕ). after f b (a .ram .now) (a .rom .now) k (opened (a .p))) q) ∙ simp z,
+      ap reported (p .play-on .ensures .0 ∙ ap (λ (k : ℕ). performed f b (a .ram .now) (a .rom .now) k (opened (a .p))) q) ∙ simp z,
       p .play-on .ensures .1 ∙ ap (λ (k : ℕ). numbers f b (a .ram .now) (a .rom .now) k (opened (a .p)) ++ drop (2 * k) (a .out .now)) q ∙ simp z,
     )
 

@@ -12,7 +12,7 @@ array-borrow-prefix-out : tie.Need-array-borrow-prefix-out
 array-borrow-prefix-out c = search needs
 
 slice-aggregate-sounded : tie.Need-slice-aggregate-sounded
-slice-aggregate-sounded c = sym (length-take-le _ _ (c .before .before .before .lent-numbers .ensures))
+slice-aggregate-sounded c = sym (length-take-le _ _ (c .before .before .before .before .before .lent-numbers .ensures))
 
 sounded-requires : tie.Need-sounded-requires
 sounded-requires c κs = search needs

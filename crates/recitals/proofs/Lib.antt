@@ -1,0 +1,11 @@
+pub mod Clocks
+pub mod Acts
+pub mod Turns
+pub mod Hushes
+pub mod Borders
+pub mod Counts
+pub mod Parts
+pub mod Recital
+pub mod Pedals
+pub mod Endings
+pub mod Example

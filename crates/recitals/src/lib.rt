@@ -1,0 +1,1 @@
+// What was promised of the player, as theorems over its definitions: statements in specs/, proofs in proofs/.
