@@ -10,7 +10,7 @@ use lib.Dec.{eqb}
 use Rattle.arith.specs.Bytes.{u32At}
 use Rattle.riff.specs.Chunks.{listName, leastSize, typeAt, isWhole, isNamed, nextAt, stopFrom, stopAt, firstFrom, firstAt}
 use Rattle.riff.specs.Form.{samplesName}
-use Rattle.riff.specs.Faults.{WholeChunk, Walked, at-start, behind-whole, Broken, Stands, FirstOf, IsList, IsSamples}
+use Rattle.riff.specs.Faults.{WholeChunk, Walked, at-start, behind-whole, Broken, ChunkOf, FirstOf, IsList, IsSamples}
 use Rattle.riff.proofs.ChunksLaws
 
 module _ (b : List ℕ) (end at : ℕ) where
@@ -134,7 +134,7 @@ hit-reached (suc n) b end name kind from h =
 -- a kind of chunk, by its name and type
 module _ (b : List ℕ) (end name kind from : ℕ) (Is : ℕ → Type 0) (to : (at : ℕ) → isNamed b name kind at ≡ true → Is at) (of : (at : ℕ) → Is at → isNamed b name kind at ≡ true) where
   -- a search finds no later chunk than any of its kind
-  pub first-least : (at : ℕ) → Stands b end from Is at → firstAt b end name kind from ≤ at
+  pub first-least : (at : ℕ) → ChunkOf b end from Is at → firstAt b end name kind from ≤ at
   first-least at s =
       let e = ChunksLaws.first-here b end at name kind (of-whole b end at (s .whole)) (of at (s .is)) in
       ⊎-elim (λ k. omega (arith, k, e)) (λ l. omega (arith, l)) (first-past b end name kind from at (s .reached))
@@ -150,13 +150,13 @@ module _ (b : List ℕ) (end name kind from : ℕ) (Is : ℕ → Type 0) (to : (
       }
 
   -- it finds nothing where there is none, and only there
-  pub none-found : ((at : ℕ) → Stands b end from Is at → ⊥) → firstAt b end name kind from ≡ end
+  pub none-found : ((at : ℕ) → ChunkOf b end from Is at → ⊥) → firstAt b end name kind from ≡ end
   none-found h =
       ChunksLaws.by-test (eqb (firstAt b end name kind from) end) (λ e. eqb-true _ _ e)
       (λ e. absurd (h _ (found-first (eqb-false _ _ e) .stands)))
 
   -- .. and the other way round
-  pub found-none : firstAt b end name kind from ≡ end → (at : ℕ) → Stands b end from Is at → ⊥
+  pub found-none : firstAt b end name kind from ≡ end → (at : ℕ) → ChunkOf b end from Is at → ⊥
   found-none e at s = omega (arith, e, first-least at s, s .whole .body-in)
 
   -- the first of its kind is what it finds

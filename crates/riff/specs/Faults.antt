@@ -25,19 +25,19 @@ pub record Broken (b : List ℕ) (end from at : ℕ) : Type 0 where
   pub not-whole : WholeChunk b end at → ⊥
 
 -- a whole chunk of a kind
-pub record Stands (b : List ℕ) (end from : ℕ) (Is : ℕ → Type 0) (at : ℕ) : Type 0 where
+pub record ChunkOf (b : List ℕ) (end from : ℕ) (Is : ℕ → Type 0) (at : ℕ) : Type 0 where
   pub reached : Walked b end from at
   pub whole : WholeChunk b end at
   pub is : Is at
 
 -- the first of its kind
 pub record FirstOf (b : List ℕ) (end from : ℕ) (Is : ℕ → Type 0) (at : ℕ) : Type 0 where
-  pub stands : Stands b end from Is at
-  pub first : (other : ℕ) → Stands b end from Is other → at ≤ other
+  pub stands : ChunkOf b end from Is at
+  pub first : (other : ℕ) → ChunkOf b end from Is other → at ≤ other
 
 -- none of its kind
 abbrev pub NoneOf : List ℕ → ℕ → ℕ → (ℕ → Type 0) → Type 0
-NoneOf b end from Is = (at : ℕ) → Stands b end from Is at → ⊥
+NoneOf b end from Is = (at : ℕ) → ChunkOf b end from Is at → ⊥
 
 -- a list of a type
 abbrev pub IsList : List ℕ → ℕ → ℕ → Type 0
