@@ -17,6 +17,8 @@ use Rattle.reader.specs.Reader.{openedOf, nextOf, nthListed}
 use Rattle.reader.specs.declared.Taken.{Taken}
 use Rattle.reader.specs.declared.Step.{Step}
 use lib.ListN.{length}
+use Rattle.riff.specs.declared.Found.{Found}
+use Rattle.riff.specs.Form.{findOf}
 use Rattle.player.specs.declared.Begun.{Begun}
 use Rattle.player.specs.declared.Player.{Player}
 use Rattle.player.specs.Asking.{isSilent, heldCount}
@@ -110,6 +112,10 @@ write-determined numbers out o p h k = ends o p (h .0 ∙ sym (k .0)) (h .1 ∙ 
 
 pub read-determined : D.ReadDetermined
 read-determined file out o p h k = ends o p (h .0 ∙ sym (k .0)) (h .1 ∙ sym (k .1))
+
+-- ---- riff
+pub find-determined : D.FindDetermined
+find-determined file = equation Found (findOf file)
 
 -- ---- player
 pub idle-determined : D.IdleDetermined

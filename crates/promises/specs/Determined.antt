@@ -27,6 +27,8 @@ use Rattle.smf.specs.declared.Handed.{Handed}
 use Rattle.smf.specs.declared.Opening.{Opening}
 use Rattle.smf.specs.declared.Tested.{Tested}
 use Rattle.smf.specs.Songs.{testOf, openingOf, handedOf, bytesOf}
+use Rattle.riff.specs.declared.Found.{Found}
+use Rattle.riff.specs.Form.{findOf}
 use Rattle.player.specs.declared.Answer.{Answer}
 use Rattle.player.specs.declared.Begun.{Begun}
 use Rattle.player.specs.declared.Player.{Player}
@@ -194,6 +196,13 @@ abbrev pub ReadDetermined : Type 0
 ReadDetermined =
     (file : List ℕ) (out : List ℤ) → Settles (Ends Heard (List ℤ))
     (λ o. (o .answer ≡ heardOf file (length out)) × (o .output ≡ replayed file out))
+
+-- ---- riff
+
+-- the number and place of a file's first fault, or where its bank and its samples lie
+-- contract of riff::find(file)
+abbrev pub FindDetermined : Type 0
+FindDetermined = (file : List ℕ) → Settles Found (λ r. r ≡ findOf file)
 
 -- ---- player
 
