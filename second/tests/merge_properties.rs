@@ -245,7 +245,7 @@ fn a_broken_event_is_at_fault_unless_one_in_front_of_it_is_too_late() {
         let mut plan = plan(c, if round % 3 == 0 { Kind::Still } else { Kind::Ordinary });
         if c.once_in(2) {
             let track = c.from(0, plan.tracks.len() as i64 - 1) as usize;
-            let delta = c.pick(&[HOUR_OF_24 / 2, HOUR_OF_24, HOUR_OF_24 + 1, 100 * HOUR_OF_24]);
+            let delta = HOUR_OF_24 * c.pick(&[1, 4, 20, 100, 1_500]);
             plan.tracks[track].insert(0, (delta, NOTE.to_vec()));
         }
         let (mut file, places) = file(c, &plan);

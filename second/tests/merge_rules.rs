@@ -258,7 +258,7 @@ fn a_tempo_counts_only_where_it_lies_in_front_of_the_fault() {
     let bad = [0, 0xf1];
     // The last note is in time only by the fast tempo, which the other track has.
     assert_eq!(refused(&tracks(&[&note, &[&fast[..], &bad].concat()])), (9, second + fast.len() + 1));
-    assert_eq!(refused(&tracks(&[&note, &[&bad, &fast[..]].concat()])), (11, TRACK + 8));
+    assert_eq!(refused(&tracks(&[&note, &[&bad, &fast[..]].concat()])), (11, TRACK + 7));
     // A note after less than an hour is late only by the slow one.
     let note = then(HOUR - 1, &NOTE).then(0, &END).bytes;
     let second = TRACK + note.len() + 8;
