@@ -4,6 +4,8 @@
 use second::make::song_builder::*;
 use second::merge_file::{merge, song as merged_song};
 use second::midi_file::{read, Fault};
+use std::io::Write;
+use std::process::{Command, Output, Stdio};
 
 const END_NOW: [u8; 4] = [0, 0xff, 0x2f, 0];
 const ROOM: usize = 1 << 20;
@@ -387,5 +389,46 @@ fn the_merged_song_has_to_fit_and_this_is_tested_last() {
         [(&late, 11, TRACK + 3), (&bad, 9, TRACK + 4 + 8 + 1), (&with(late.clone(), 9, 2), 10, 8)]
     {
         assert_eq!(merge(file, 0), Err(Fault { number, place }));
+    }
+}
+
+/// Two tracks that alternate have no status that runs when they are one.
+#[test]
+fn a_merged_song_can_be_longer_than_its_file() {
+    let notes = |status: u8| (0..40).fold(then(1, &[status, 60, 64]), |piece, _| piece.then(2, &[60, 64]));
+    let file = ended(&[notes(0x90), notes(0x91)]);
+    let merged = merge(&file, ROOM).expect("a right song");
+    assert!(merged.len() > file.len());
+    assert_eq!(merge(&file, file.len()), Err(Fault { number: 43, place: 0 }));
+}
+
+// The command
+
+fn command(file: &[u8]) -> Output {
+    let mut command = Command::new(env!("CARGO_BIN_EXE_second"));
+    let piped = command.arg("merge").stdin(Stdio::piped()).stdout(Stdio::piped()).stderr(Stdio::piped());
+    let mut running = piped.spawn().expect("the program is built");
+    running.stdin.take().expect("it is piped").write_all(file).expect("it is read to its end");
+    running.wait_with_output().expect("it ends")
+}
+
+#[test]
+fn the_command_writes_the_merged_file_or_says_why_not() {
+    let done = command(&two_notes());
+    assert!(done.status.success() && done.stderr.is_empty());
+    assert_eq!(Ok(done.stdout), merge(&two_notes(), ROOM));
+    let late = ended(&[then(HOUR + 1, &NOTE)]);
+    for (file, line) in [
+        (&b""[..], "merge: refused with 9 at place 0: not well formed, or longer than 16,777,216 bytes\n"),
+        (
+            &with(two_notes(), 9, 2),
+            "merge: refused with 10 at place 8: a format other than 0 and 1, or a division in SMPTE frames\n",
+        ),
+        (&with(two_notes(), 10, 2), "merge: refused with 44 at place 10: more than 256 tracks\n"),
+        (&late, "merge: refused with 11 at place 25: an event later than an hour\n"),
+    ] {
+        let done = command(file);
+        assert_eq!((done.status.code(), done.stdout.len()), (Some(1), 0));
+        assert_eq!(String::from_utf8_lossy(&done.stderr), line);
     }
 }
