@@ -1,14 +1,15 @@
 #!/usr/bin/env python3
 """real_merge.py SECOND FOLDER LIST: merges each of the files of FOLDER that LIST names by the program SECOND, and holds
-the result to what python3-mido (1.2) makes of the same file: its merge_tracks gives all tracks in one, and here ticks are
-only summed. Merging the result again may change no byte, and M-101's reader has to find as many events in it. A line for
-each file that is not plainly the same, then the counts; the status is 1 where a file differs.
+the result to what python3-mido (1.2) makes of the same file: its merge_tracks gives all tracks in one, and here ticks
+are only summed. Merging the result again may change no byte, and M-101's reader has to find as many events in it. A
+line for each file that is not plainly the same, then the counts; the status is 1 where a file differs.
 
 What mido does in other ways (tools/real_songs.py): it is laxer (running status behind a meta event, quantities of any
 length, events past the track), so that it reads files that are refused with 9; it is stricter (chunks other than MTrk,
 odd key signatures, bytes of F7 events), so that it raises where a file is merged. Both are listed, to be looked at. It
-reads on behind an end of track, which is cut off here, and forgets the delta time of a meta event of a type that it does
-not know, which is put back here."""
+reads on behind an end of track, which is cut off here, and forgets the delta time of a meta event of a type that it
+does not know, which is put back here. A gap that has to be bridged would differ too; no real song has had one.
+"""
 import collections
 import io
 import re
@@ -101,7 +102,7 @@ def main():
     if len(sys.argv) != 4:
         sys.exit('real_merge.py SECOND FOLDER LIST')
     second, folder, names = sys.argv[1:]
-    counts, formats, short, total = collections.Counter(), collections.Counter(), 0, 0
+    counts, formats, short, total = collections.Counter(), collections.Counter(), [0, 0], 0
     with open(names) as listed:
         for name in listed.read().splitlines():
             with open(name, 'rb') as file:
@@ -111,14 +112,15 @@ def main():
             total += 1
             if length:
                 formats['format %d' % data[9]] += 1
-                short += length <= LIMIT
+                short[0] += len(data) <= LIMIT
+                short[1] += length <= LIMIT
             if more:
                 print('%s: %s, %s' % (name[len(folder) + 1:], word, more))
     for word, count in sorted(counts.items()):
         print('%s: %d' % (word, count))
     kinds = ', '.join('%d of %s' % (count, form) for form, count in sorted(formats.items()))
-    print('%d files, %d merged (%s), %d of these now of at most %d bytes, %d differ'
-          % (total, sum(formats.values()), kinds, short, LIMIT, counts['differs']))
+    print('%d files, %d merged (%s); of at most %d bytes: %d before and %d after; %d differ'
+          % (total, sum(formats.values()), kinds, LIMIT, *short, counts['differs']))
     sys.exit(1 if counts['differs'] else 0)
 
 

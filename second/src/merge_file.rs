@@ -1,5 +1,5 @@
-//! Songs of several tracks: a file of format 0 or 1 gives one of format 0 that M-101 reads, with the same channel events
-//! at the same frames, or the number and place of its first fault.
+//! Songs of several tracks: a file of format 0 or 1 gives one of format 0 that M-101 reads, with the same channel
+//! events at the same frames, or the number and place of its first fault.
 //!
 //! The file is walked once, and all well-formed events in front of its first fault are listed with their ticks, track
 //! behind track. A sort that keeps the order of equals makes one sequence of them: by tick, then by track, then in the
