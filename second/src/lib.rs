@@ -1,5 +1,5 @@
 //! The second program as a library: one module for each section of document 01 and each change request, the player, the
-//! structures of a bank, and what reads and makes cases.
+//! merging of tracks, the structures of a bank, and what reads and makes cases.
 
 pub mod bank;
 pub mod bank_admission;
@@ -9,6 +9,7 @@ pub mod case;
 pub mod fonts;
 pub mod key_to_layers;
 pub mod make;
+pub mod merge_file;
 pub mod midi_file;
 pub mod player;
 pub mod real;

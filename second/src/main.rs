@@ -1,16 +1,17 @@
-//! The second program's commands: play a case, record one, read songs, damage songs, write and read waves, make waves by
-//! chance, find the parts of fonts, make the stored cases and their traces, make cases of real files, make the carillon
-//! and its piece.
+//! The second program's commands: play a case, record one, read songs, merge a song's tracks, damage songs, write and
+//! read waves, make waves by chance, find the parts of fonts, make the stored cases and their traces, make cases of real
+//! files, make the carillon and its piece.
 
-use second::{bells, case, fonts, make, real, record, songs, waves};
+use second::{bells, case, fonts, make, merge_file, real, record, songs, waves};
 use std::fs;
-use std::io::{self, BufReader, BufWriter, Write};
+use std::io::{self, BufReader, BufWriter, Read, Write};
 use std::path::Path;
 use std::process::ExitCode;
 
 const USAGE: &str = "usage: second play < CASE > TRACE
        second record < CASE > FILE.wav
        second songs < FILES > LINES
+       second merge < FILE.mid > MERGED.mid
        second waves < COMMANDS > LINES
        second fonts < FILES > LINES
        second damage SEED COUNT [FILE.mid ..] > FILES
@@ -23,13 +24,14 @@ const USAGE: &str = "usage: second play < CASE > TRACE
        second bells DIR";
 
 /// The status is 0 for a damaged case too, whose trace ends with `bad`; 1 where reading or writing fails, and for a damaged
-/// case that has no recording; 2 for usage.
+/// case that has no recording or a song that is not merged; 2 for usage.
 fn main() -> ExitCode {
     let arguments: Vec<String> = std::env::args().skip(1).collect();
     let words: Vec<&str> = arguments.iter().map(String::as_str).collect();
     let done = match words.as_slice() {
         ["play"] => case::play(BufReader::new(io::stdin().lock()), BufWriter::new(io::stdout().lock())),
         ["record"] => return recorded(),
+        ["merge"] => return status("merge", merged()),
         ["songs"] => songs::play(BufReader::new(io::stdin().lock()), BufWriter::new(io::stdout().lock())),
         ["waves"] => waves::play(BufReader::new(io::stdin().lock()), BufWriter::new(io::stdout().lock())),
         ["fonts"] => fonts::play(BufReader::new(io::stdin().lock()), BufWriter::new(io::stdout().lock())),
@@ -65,6 +67,17 @@ fn status(name: &str, done: io::Result<()>) -> ExitCode {
 fn recorded() -> ExitCode {
     let file = record::file(BufReader::new(io::stdin().lock()));
     status("record", file.and_then(|file| put(&file)))
+}
+
+/// The room is that of the longest file, so that whatever is written can be merged again.
+fn merged() -> io::Result<()> {
+    let mut file = Vec::new();
+    io::stdin().lock().read_to_end(&mut file)?;
+    let merged = merge_file::merge(&file, merge_file::LONGEST_FILE).map_err(|fault| {
+        let words = merge_file::words(fault.number);
+        io::Error::other(format!("refused with {} at place {}: {words}", fault.number, fault.place))
+    });
+    put(&merged?)
 }
 
 fn put(bytes: &[u8]) -> io::Result<()> {

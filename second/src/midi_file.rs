@@ -18,7 +18,7 @@ pub const LONGEST_FILE: usize = 65_536;
 
 const FRAMES_A_SECOND: u128 = 44_100;
 const MICROS_A_SECOND: u128 = 1_000_000;
-const TEMPO_AT_START: u128 = 500_000;
+pub(crate) const TEMPO_AT_START: u128 = 500_000;
 
 /// An hour in microseconds: U may be so many times the division.
 const LATEST_MICROS: u128 = 3_600_000_000;
@@ -30,7 +30,7 @@ pub struct Fault {
     pub place: usize,
 }
 
-fn not_well_formed(place: usize) -> Fault {
+pub(crate) fn not_well_formed(place: usize) -> Fault {
     Fault { number: NOT_WELL_FORMED, place }
 }
 
@@ -38,8 +38,8 @@ fn not_well_formed(place: usize) -> Fault {
 pub type Struck = (u128, Vec<u8>);
 
 /// What an event is to a reader. Other meta events and system exclusive events are stepped over.
-#[derive(Debug, PartialEq, Eq)]
-enum Event {
+#[derive(Clone, Debug, PartialEq, Eq)]
+pub enum Event {
     Channel(Vec<u8>),
     Tempo(u128),
     EndOfTrack,
@@ -47,10 +47,10 @@ enum Event {
 }
 
 /// An event with its place, which is behind its delta time.
-struct Placed {
-    delta: u128,
-    place: usize,
-    event: Event,
+pub(crate) struct Placed {
+    pub(crate) delta: u128,
+    pub(crate) place: usize,
+    pub(crate) event: Event,
 }
 
 /// The channel events of a file in their order, or its first fault.
@@ -65,12 +65,12 @@ pub fn read(file: &[u8]) -> Result<Vec<Struck>, Fault> {
     fault.map_or(Ok(struck), Err)
 }
 
-fn u16_at(file: &[u8], at: usize) -> u16 {
+pub(crate) fn u16_at(file: &[u8], at: usize) -> u16 {
     u16::from_be_bytes([file[at], file[at + 1]])
 }
 
 /// The name of the chunk that begins here, and where its body lies.
-fn chunk(file: &[u8], at: usize) -> Result<(&[u8], Range<usize>), Fault> {
+pub(crate) fn chunk(file: &[u8], at: usize) -> Result<(&[u8], Range<usize>), Fault> {
     let name = file.get(at..at + 4).ok_or(not_well_formed(at))?;
     let length = file.get(at + 4..at + 8).ok_or(not_well_formed(at + 4))?;
     let length = length.iter().fold(0u64, |n, byte| n << 8 | *byte as u64);
@@ -103,8 +103,8 @@ fn head(file: &[u8]) -> Result<(u128, usize), Fault> {
     }
 }
 
-/// Where the first track's bytes lie; chunks of other names in front of it are stepped over.
-fn first_track(file: &[u8], mut at: usize) -> Result<Range<usize>, Fault> {
+/// Where the bytes of the first track from here on lie; chunks of other names in front of it are stepped over.
+pub(crate) fn first_track(file: &[u8], mut at: usize) -> Result<Range<usize>, Fault> {
     loop {
         let (name, body) = chunk(file, at)?;
         if name == b"MTrk" {
@@ -116,15 +116,15 @@ fn first_track(file: &[u8], mut at: usize) -> Result<Range<usize>, Fault> {
 
 /// The bytes of the file up to the track's end, and how far they are read. What is cut off or otherwise not well formed
 /// is nothing, and the caller knows the place.
-struct Track<'a> {
-    bytes: &'a [u8],
-    at: usize,
-    running: Option<u8>,
+pub(crate) struct Track<'a> {
+    pub(crate) bytes: &'a [u8],
+    pub(crate) at: usize,
+    pub(crate) running: Option<u8>,
 }
 
 impl Track<'_> {
     /// The events up to the end of track, or those in front of the first that is not well formed, and that fault.
-    fn events(mut self) -> (Vec<Placed>, Option<Fault>) {
+    pub(crate) fn events(mut self) -> (Vec<Placed>, Option<Fault>) {
         let mut list = Vec::new();
         loop {
             let begin = self.at;
@@ -211,24 +211,24 @@ impl Track<'_> {
 
 /// The time in a track: U sums the ticks of every event times the tempo then in force.
 #[derive(Clone, Debug, PartialEq, Eq)]
-struct Time {
+pub(crate) struct Time {
     division: u128,
-    tempo: u128,
+    pub(crate) tempo: u128,
     u: u128,
 }
 
 impl Time {
-    fn at_start(division: u128) -> Time {
+    pub(crate) fn at_start(division: u128) -> Time {
         Time { division, tempo: TEMPO_AT_START, u: 0 }
     }
 
     /// So many ticks on, nothing where U is then above its limit.
-    fn pass(&mut self, ticks: u128) -> Option<()> {
+    pub(crate) fn pass(&mut self, ticks: u128) -> Option<()> {
         self.u += ticks * self.tempo;
         (self.u <= LATEST_MICROS * self.division).then_some(())
     }
 
-    fn frame(&self) -> u128 {
+    pub(crate) fn frame(&self) -> u128 {
         self.u * FRAMES_A_SECOND / (self.division * MICROS_A_SECOND)
     }
 }
