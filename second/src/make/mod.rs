@@ -67,7 +67,7 @@
 //! - each fault of a track alone, and with each other behind it; 9 before 11 at one place; a song cut off at every byte:
 //!   song_fault_cases
 //! - songs from fixed seeds, whole and damaged: song_chance, over song_damage
-//! - inputs that are themselves damaged: song_streams
+//! - inputs that are themselves damaged: song_streams, over file_streams
 //!
 //! What the waves must reach (M-107):
 //!
@@ -102,7 +102,7 @@
 //! - parts of no byte and of more than 65,536: font_cases::sizes_of_parts
 //! - a font cut off at every byte and changed at every byte: font_cases (cut_at_every_byte, one_byte_off); by chance:
 //!   font_chance
-//! - inputs that are themselves damaged: font_streams
+//! - inputs that are themselves damaged: font_streams, over file_streams
 
 mod admission;
 pub mod bad_cases;
@@ -112,6 +112,7 @@ pub mod chance_cases;
 mod count_cases;
 mod drawn;
 mod fault_cases;
+mod file_streams;
 pub mod font_builder;
 mod font_cases;
 pub mod font_chance;
