@@ -15,8 +15,8 @@ const MTHD: u32 = 1297377380;
 const MTRK: u32 = 1297379947;
 
 // Where the chunk at a place ends, by its length field.
-fn chunk_end(b: &[u8], at: usize) -> usize
-    requires { ⌜ at ≤ 65536 ⌝ }
+pub fn chunk_end(b: &[u8], at: usize) -> usize
+    requires { ⌜ at ≤ 16777216 ⌝ }
     ensures { λ r. ⌜ r ≡ chunkEnd (now (b .entry)) at ⌝ }
 {
     at + 8 + (four_at(b, at + 4) as usize)
@@ -24,7 +24,7 @@ fn chunk_end(b: &[u8], at: usize) -> usize
 
 // A fault of the head or of a chunk.
 fn refused(number: u8, place: usize) -> Header
-    requires { ⌜ place ≤ 65540 ⌝ }
+    requires { ⌜ place ≤ 16777220 ⌝ }
     ensures { λ r. ⌜ r ≡ Header.Refused number place ⌝ }
 {
     Header::Refused {
@@ -34,8 +34,8 @@ fn refused(number: u8, place: usize) -> Header
 }
 
 // The first chunk from a place on that is named MTrk.
-fn track_from(b: &[u8], from: usize) -> Header
-    requires { ⌜ (length (now b) ≤ 65536) × (from ≤ length (now b)) ⌝ }
+pub fn track_from(b: &[u8], from: usize) -> Header
+    requires { ⌜ (length (now b) ≤ 16777216) × (from ≤ length (now b)) ⌝ }
     ensures { λ r. ⌜ r ≡ trackFrom (length (now (b .entry))) (now (b .entry)) from ⌝ }
 {
     let mut at = from;

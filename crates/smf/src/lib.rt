@@ -5,11 +5,11 @@ ghost use lib.ListN.{length};
 ghost use Rattle.smf.specs.Head.{headOf};
 ghost use Rattle.smf.specs.Songs.{testOf, openingOf, handedOf, bytesOf, trackCursor};
 
-mod head;
-mod items;
-mod quantities;
+pub mod head;
+pub mod items;
+pub mod quantities;
 mod ticks;
-mod track;
+pub mod track;
 
 // A variable-length quantity and the place behind it.
 pub enum Quantity {

@@ -58,7 +58,7 @@ fn event_of(m: Message, further: Cursor) -> Event
 }
 
 // Whether an event is not well formed.
-fn is_bad(it: Item) -> bool
+pub fn is_bad(it: Item) -> bool
     ensures { λ r. ⌜ r ≡ isBad it ⌝ }
 {
     match it {

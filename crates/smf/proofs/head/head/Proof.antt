@@ -4,6 +4,8 @@ use Rattle.smf.specs.Quantities.{twoAt}
 use mathlib.Core.List.{List}
 use Prim.Native.Nat.{ℕ}
 use Rattle.smf.proofs.HeadLaws.{Named, Held, Formatted, Single, head-unnamed, head-short, head-long, head-format, head-tracks, head-undivided, head-smpte, head-good}
+use native.Mathlib.Nat.{le-trans}
+use lib.Dec.{lit≤}
 use borrow.Author.Needs.{needs}
 use Rattle.smf.proofs.head.head.Statement.{statement}
 use Rattle.smf.proofs.head.head.Tie as tie
@@ -113,7 +115,7 @@ returns-7 c =
     c .refused7 .ensures ∙ sym (head-smpte _ h (rw (k .two-at3 .ensures) at (c .before .if7 .taken)))
 
 track-from-requires : tie.Need-track-from-requires
-track-from-requires c κs = (c .before .before .before .before .before .before .before .before .before .before .before .before .before .before .pre, c .before .before .before .before .before .before .before .if3 .left)
+track-from-requires c κs = (le-trans (c .before .before .before .before .before .before .before .before .before .before .before .before .before .before .pre) (lit≤ tt), c .before .before .before .before .before .before .before .if3 .left)
 
 returns-8 : tie.Need-returns-8
 returns-8 c =

@@ -1,0 +1,9 @@
+pub mod Fronts
+pub mod Entries
+pub mod Lanes
+pub mod Order
+pub mod Lateness
+pub mod Bridges
+pub mod Marks
+pub mod Merging
+pub mod Internal
