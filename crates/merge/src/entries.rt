@@ -110,7 +110,8 @@ fn goes_on(item: Item) -> bool
 fn flaw_at(e: Entry) -> Spot
     ensures { λ r. ⌜ r ≡ flawAt e ⌝ }
 {
-    if is_bad(e.item) {
+    let item = e.item;
+    if is_bad(item) {
         return Spot::At { place: e.place };
     }
     Spot::None
@@ -122,8 +123,10 @@ pub fn flaw(b: &[u8], e: Entry) -> Spot
     ensures { λ r. ⌜ r ≡ flawFrom (turns (now (b .entry))) (now (b .entry)) e ⌝ }
 {
     let mut x = e;
-    while goes_on(x.item) {
+    let mut item = e.item;
+    while goes_on(item) {
         x = advanced(b, x);
+        item = x.item;
     }
     flaw_at(x)
 }

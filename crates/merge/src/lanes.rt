@@ -29,6 +29,7 @@ pub fn lanes(b: &[u8], count: u16, from: u32) -> Tracks
     ensures lined { λ r. ⌜ Lined (now (b .entry)) r ⌝ }
     ensures flaw { λ r. ⌜ r .flaw ≡ flawIn count (now (b .entry)) from ⌝ }
 {
+    let mut ticks = [entries::NO_TICK; 256];
     let mut entries = [no_lane(); 256];
     let mut at = from;
     let mut k = 0;
@@ -37,6 +38,7 @@ pub fn lanes(b: &[u8], count: u16, from: u32) -> Tracks
         match h {
             Header::Refused { number: _, place } => {
                 return Tracks {
+                    ticks,
                     entries,
                     count: k,
                     flaw: Spot::At { place },
@@ -44,12 +46,14 @@ pub fn lanes(b: &[u8], count: u16, from: u32) -> Tracks
             }
             Header::Track { at: begin, end } => {
                 let e = entries::settled(b, end, 0, begin, 0);
+                ticks[k] = e.tick;
                 entries[k] = e;
                 k += 1;
                 let flaw = entries::flaw(b, e);
                 match flaw {
                     Spot::At { place: _ } => {
                         return Tracks {
+                            ticks,
                             entries,
                             count: k,
                             flaw,
@@ -61,6 +65,7 @@ pub fn lanes(b: &[u8], count: u16, from: u32) -> Tracks
         }
     }
     Tracks {
+        ticks,
         entries,
         count: k,
         flaw: Spot::None,

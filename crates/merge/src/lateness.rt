@@ -75,7 +75,8 @@ pub fn hour_after(h: Hour, e: Entry, limit: u64) -> Hour
     ensures { λ r. ⌜ r ≡ hourAfter h e limit ⌝ }
 {
     let sum = sum_behind(limit, h.sum, gap(h.tick, e.tick), h.tempo);
-    let tempo = tempo_after(h.tempo, e.item);
+    let item = e.item;
+    let tempo = tempo_after(h.tempo, item);
     let late = h.late;
     if limit < sum {
         return Hour {

@@ -35,8 +35,9 @@ pub struct Entry {
     pub item: Item,
 }
 
-// The next event of each track, of which `count` are there, and the first fault by 9.
+// The next event of each track, of which `count` are there, with their ticks beside them, and the first fault by 9.
 pub struct Tracks {
+    pub ticks: [u64; 256],
     pub entries: [Entry; 256],
     pub count: usize,
     pub flaw: Spot,
@@ -110,7 +111,8 @@ fn join(file: &[u8], out: &mut [u8], count: u16, division: u16, at: u32) -> Merg
 {
     let l = lanes::lanes(file, count, at);
     let t = order::tally(file, l, division);
-    let late = t.hour.late;
+    let hour = t.hour;
+    let late = hour.late;
     match late {
         Spot::At { place } => return refused(11, place),
         Spot::None => {}

@@ -23,15 +23,15 @@ use crate::sizes::entry_size;
 use crate::sizes::grown;
 
 // The first of the tracks whose next event is earliest; their number where all are over.
-fn earliest(entries: &[Entry; 256], count: usize) -> usize
+fn earliest(ticks: &[u64; 256], count: usize) -> usize
     requires { ⌜ count ≤ 256 ⌝ }
-    ensures { λ r. ⌜ Earliest (now (entries .entry)) count r ⌝ }
+    ensures { λ r. ⌜ Earliest (now (ticks .entry)) count r ⌝ }
 {
     let mut low = NO_TICK;
     let mut j = count;
     let mut i = 0;
     while i < count {
-        let tick = entries[i].tick;
+        let tick = ticks[i];
         if tick < low {
             low = tick;
             j = i;
@@ -75,14 +75,17 @@ pub fn tally(b: &[u8], l: Tracks, division: u16) -> Tally
     ensures { λ r. ⌜ r ≡ tallyOf tallyStart (laneSequence (now (b .entry)) l) (3600000000 * division) ⌝ }
 {
     let limit = 3600000000 * (division as u64);
+    let mut ticks = l.ticks;
     let mut entries = l.entries;
     let mut t = tally_start();
-    let mut j = earliest(&entries, l.count);
+    let mut j = earliest(&ticks, l.count);
     while j < l.count {
         let e = entries[j];
         t = told(t, e, limit);
-        entries[j] = advanced(b, e);
-        j = earliest(&entries, l.count);
+        let next = advanced(b, e);
+        ticks[j] = next.tick;
+        entries[j] = next;
+        j = earliest(&ticks, l.count);
     }
     t
 }
@@ -94,15 +97,18 @@ pub fn write(b: &[u8], out: &mut [u8], l: Tracks, division: u16, size: u32)
     ensures output { λ _. ⌜ now (out .exit) ≡ laidOver (now (out .entry)) 0 (headBytes division size ++ lineBytes lineStart (laneSequence (now (b .entry)) l)) ⌝ }
 {
     let mut at = put_head(out, division, size);
+    let mut ticks = l.ticks;
     let mut entries = l.entries;
     let mut line = line_start();
-    let mut j = earliest(&entries, l.count);
+    let mut j = earliest(&ticks, l.count);
     while j < l.count {
         let e = entries[j];
         at = put_entry(out, at, line, e);
         line = line_after(line, e);
-        entries[j] = advanced(b, e);
-        j = earliest(&entries, l.count);
+        let next = advanced(b, e);
+        ticks[j] = next.tick;
+        entries[j] = next;
+        j = earliest(&ticks, l.count);
     }
     put_end(out, at, line);
 }

@@ -1,9 +1,8 @@
 -- The tracks as the code holds them, and which of them is next.
-use mathlib.Core.List.{List, [], _∷_}
+use mathlib.Core.List.{List, [], _∷_, map}
 use mathlib.Core.Path.{_≡_}
 use Prim.Native.Nat.{ℕ, _<_, _≤_}
 use lib.ListN.{length, take, getD}
-use Rattle.smf.specs.declared.Item.the-variants.{Bad}
 use Rattle.merge.specs.declared.Entry.{Entry}
 use Rattle.merge.specs.declared.Tracks.{Tracks}
 use Rattle.merge.specs.Entries.{noTick}
@@ -16,27 +15,32 @@ abbrev pub AllSettled : List ℕ → List Entry → Type 0
 AllSettled b [] = Unit {0}
 AllSettled b (e ∷ es) = Settled b e × AllSettled b es
 
+-- the tick of an entry
+abbrev pub tickOf : Entry → ℕ
+tickOf e = e .tick
+
 -- the tracks that are there
 abbrev pub lanesOf : Tracks → List Entry
 lanesOf l = take (l .count) (l .entries)
 
--- there is room for them, and each is at an entry of a file
+-- there is room for them, their ticks are their own, and each is at an entry of a file
 pub record Lined (b : List ℕ) (l : Tracks) : Type 0 where
   pub room : l .count ≤ 256
+  pub ticks : l .ticks ≡ map tickOf (l .entries)
   pub settled : AllSettled b (lanesOf l)
 
 -- the one sequence of their events
 abbrev pub laneSequence : List ℕ → Tracks → List Entry
 laneSequence b l = inOrder (entriesOf b (lanesOf l))
 
--- the tick of entry i
-abbrev pub tickAt : List Entry → ℕ → ℕ
-tickAt es i = getD es i (record { tick = noTick; place = 0; end = 0; item = Bad }) .tick
+-- tick i
+abbrev pub tickAt : List ℕ → ℕ → ℕ
+tickAt ts i = getD ts i 0
 
--- entry j of the first n is the first of those with the smallest tick; j is n where none has a tick
-pub record Earliest (es : List Entry) (n j : ℕ) : Type 0 where
+-- tick j is the first of the smallest among the first n; j is n where none is there
+pub record Earliest (ts : List ℕ) (n j : ℕ) : Type 0 where
   pub in-lanes : j ≤ n
-  pub earlier : (i : ℕ) → i < j → i < n → j < n → tickAt es j < tickAt es i
-  pub later : (i : ℕ) → i < n → j < n → tickAt es j ≤ tickAt es i
-  pub found : j < n → tickAt es j < noTick
-  pub over : j ≡ n → (i : ℕ) → i < n → noTick ≤ tickAt es i
+  pub earlier : (i : ℕ) → i < j → i < n → j < n → tickAt ts j < tickAt ts i
+  pub later : (i : ℕ) → i < n → j < n → tickAt ts j ≤ tickAt ts i
+  pub found : j < n → tickAt ts j < noTick
+  pub over : j ≡ n → (i : ℕ) → i < n → noTick ≤ tickAt ts i

@@ -1,0 +1,67 @@
+use Rattle.merge.proofs.pages.put.Statement.{statement}
+use Rattle.merge.proofs.pages.put.Tie as tie
+use Rattle.merge.proofs.pages.put.Reads as reads
+use Rattle.merge.proofs.pages.put.Lts as lts
+
+abbrev Inv-loop : tie.InvT-loop
+Inv-loop out₀ at bytes i₀ out i = ?
+
+abbrev μ-loop : tie.MeasureT-loop
+μ-loop out₀ at bytes i₀ out i = ?
+
+-- src/pages.rt:19:5
+loop-holds : tie.Need-loop-holds Inv-loop μ-loop
+loop-holds c = ?
+
+-- src/pages.rt:20:23
+shared-slice-read-out : tie.Need-shared-slice-read-out Inv-loop μ-loop
+shared-slice-read-out c = ?
+
+-- src/pages.rt:20:13
+add-out : tie.Need-add-out Inv-loop μ-loop
+add-out c = ?
+
+-- src/pages.rt:20:9
+slice-write-out : tie.Need-slice-write-out Inv-loop μ-loop
+slice-write-out c = ?
+
+-- src/pages.rt:21:9
+add-i : tie.Need-add-i Inv-loop μ-loop
+add-i c = ?
+
+-- src/pages.rt:19:5
+loop-less : tie.Need-loop-less Inv-loop μ-loop
+loop-less c = ?
+
+-- src/pages.rt:19:5
+loop-again : tie.Need-loop-again Inv-loop μ-loop
+loop-again c = ?
+
+-- src/pages.rt:23:5
+add-result : tie.Need-add-result Inv-loop μ-loop
+add-result c = ?
+
+-- src/pages.rt:13:1
+same-length : tie.Need-same-length Inv-loop μ-loop
+same-length c = ?
+
+-- src/pages.rt:13:1
+returns : tie.Need-returns Inv-loop μ-loop
+returns c = ?
+
+pub put-spec : {M : Type 1} → statement M
+put-spec =
+    tie.close
+    (tie.spec
+    Inv-loop
+    μ-loop
+    loop-holds
+    shared-slice-read-out
+    add-out
+    slice-write-out
+    add-i
+    loop-less
+    loop-again
+    add-result
+    same-length
+    returns)
