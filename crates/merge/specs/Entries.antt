@@ -47,14 +47,15 @@ unfoldable pub entriesFrom : ℕ → List ℕ → Entry → List Entry
 entriesFrom zero b e = []
 entriesFrom (suc n) b e = cond (isBad (e .item)) [] (e ∷ entriesFrom n b (advancedOf b e))
 
+-- the fault of a track at an event, where those behind it have another
+abbrev pub flawBehind : Item → ℕ → Spot → Spot
+flawBehind Bad place more = At place
+flawBehind End place more = None
+flawBehind (Passed behind) place more = more
+flawBehind (Tempo tempo behind) place more = more
+flawBehind (Channel status first second behind) place more = more
+
 -- the track's first fault, within n events
 unfoldable pub flawFrom : ℕ → List ℕ → Entry → Spot
 flawFrom zero b e = None
-flawFrom (suc n) b e =
-    elim (e .item) [
-      | Bad ↦ At (e .place)
-      | End ↦ None
-      | Passed behind ↦ flawFrom n b (advancedOf b e)
-      | Tempo tempo behind ↦ flawFrom n b (advancedOf b e)
-      | Channel status first second behind ↦ flawFrom n b (advancedOf b e)
-    ]
+flawFrom (suc n) b e = flawBehind (e .item) (e .place) (flawFrom n b (advancedOf b e))

@@ -1,6 +1,6 @@
 // The events of one track, one after the other.
 ghost use mathlib.Core.Path.{_≡_};
-ghost use Prim.Native.Nat.{_≤_};
+ghost use Prim.Native.Nat.{_*_, _≤_};
 ghost use lib.ListN.{length};
 ghost use Rattle.smf.specs.Songs.{turns};
 ghost use Rattle.merge.specs.Entries.{noTick, noted, settledAt, gone, advancedOf, flawFrom};
@@ -38,8 +38,9 @@ fn noted_at(item: Item, tick: u64, place: u32, end: u32) -> Entry
 
 // The delta time at a place and the event behind it.
 pub fn settled(b: &[u8], end: u32, running: u8, at: u32, tick: u64) -> Entry
-    requires { ⌜ tick ≤ 4503599627370496 ⌝ }
+    requires { ⌜ (length (now b) ≤ 16777216) × (end ≤ length (now b)) × (tick ≤ at * 268435456) ⌝ }
     ensures { λ r. ⌜ r ≡ settledAt (now (b .entry)) end running at tick ⌝ }
+    ensures settled { λ r. ⌜ Settled (now (b .entry)) r ⌝ }
 {
     let q = quantity_at(b, end, at);
     match q {
@@ -69,6 +70,7 @@ fn gone_from(e: Entry) -> Entry
 pub fn advanced(b: &[u8], e: Entry) -> Entry
     requires { ⌜ Settled (now b) e ⌝ }
     ensures { λ r. ⌜ r ≡ advancedOf (now (b .entry)) e ⌝ }
+    ensures settled { λ r. ⌜ Settled (now (b .entry)) r ⌝ }
 {
     let item = e.item;
     match item {

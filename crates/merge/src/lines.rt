@@ -5,7 +5,7 @@ ghost use mathlib.Core.Path.{_≡_};
 ghost use Prim.Native.Nat.{_+_, _<_, _≤_};
 ghost use lib.ListN.{length};
 ghost use Rattle.smf.specs.Spelling.{Mark, eventBytes, dataBytes, twoBytes, fourBytes};
-ghost use Rattle.merge.specs.Internal.Lines.{laidOver, entryBytes, lineAfter, closingBytes, headBytes, lineStart, TempoIn};
+ghost use Rattle.merge.specs.Internal.Lines.{laidOver, entryBytes, lineAfter, closingBytes, headBytes, lineStart};
 use crate::Entry;
 use crate::Line;
 use crate::lateness::gap;
@@ -46,7 +46,7 @@ fn put_channel(out: &mut [u8], at: usize, running: u8, status: u8, first: u8, se
 
 // An event that is kept, with its gap.
 pub fn put_entry(out: &mut [u8], at: usize, l: Line, e: Entry) -> usize
-    requires { ⌜ (at + length (entryBytes l e) ≤ length (now out)) × (l .tempo < 16777216) × TempoIn (e .item) ⌝ }
+    requires { ⌜ at + length (entryBytes l e) ≤ length (now out) ⌝ }
     ensures { λ r. ⌜ r ≡ at + length (entryBytes l e) ⌝ }
     ensures output { λ r. ⌜ now (out .exit) ≡ laidOver (now (out .entry)) at (entryBytes l e) ⌝ }
 {
@@ -127,7 +127,7 @@ pub fn line_start() -> Line
 
 // The end of track.
 pub fn put_end(out: &mut [u8], at: usize, l: Line) -> usize
-    requires { ⌜ (at + length (closingBytes l) ≤ length (now out)) × (l .tempo < 16777216) ⌝ }
+    requires { ⌜ at + length (closingBytes l) ≤ length (now out) ⌝ }
     ensures { λ r. ⌜ r ≡ at + length (closingBytes l) ⌝ }
     ensures output { λ r. ⌜ now (out .exit) ≡ laidOver (now (out .entry)) at (closingBytes l) ⌝ }
 {

@@ -56,7 +56,7 @@ pub fn put_quantity(out: &mut [u8], at: usize, n: u32) -> usize
 
 // A tempo change.
 pub fn put_tempo(out: &mut [u8], at: usize, tempo: u32) -> usize
-    requires { ⌜ (at + 6 ≤ length (now out)) × (tempo < 16777216) ⌝ }
+    requires { ⌜ at + 6 ≤ length (now out) ⌝ }
     ensures { λ r. ⌜ r ≡ at + 6 ⌝ }
     ensures output { λ r. ⌜ now (out .exit) ≡ laidOver (now (out .entry)) at (255 ∷ 81 ∷ 3 ∷ threeBytes tempo) ⌝ }
 {
@@ -64,7 +64,7 @@ pub fn put_tempo(out: &mut [u8], at: usize, tempo: u32) -> usize
         255,
         81,
         3,
-        (tempo / 65536) as u8,
+        (tempo / 65536 % 256) as u8,
         (tempo / 256 % 256) as u8,
         (tempo % 256) as u8,
     ];
@@ -73,7 +73,7 @@ pub fn put_tempo(out: &mut [u8], at: usize, tempo: u32) -> usize
 
 // So many bridges.
 fn put_bridges(out: &mut [u8], at: usize, tempo: u32, n: u64) -> usize
-    requires { ⌜ (at + length (bridgeBytes tempo n) ≤ length (now out)) × (tempo < 16777216) ⌝ }
+    requires { ⌜ at + length (bridgeBytes tempo n) ≤ length (now out) ⌝ }
     ensures { λ r. ⌜ r ≡ at + length (bridgeBytes tempo n) ⌝ }
     ensures output { λ r. ⌜ now (out .exit) ≡ laidOver (now (out .entry)) at (bridgeBytes tempo n) ⌝ }
 {
@@ -89,7 +89,7 @@ fn put_bridges(out: &mut [u8], at: usize, tempo: u32, n: u64) -> usize
 
 // A gap: its bridges, and its delta time.
 pub fn put_gap(out: &mut [u8], at: usize, tempo: u32, ticks: u64) -> usize
-    requires { ⌜ (at + length (gapBytes tempo ticks) ≤ length (now out)) × (tempo < 16777216) ⌝ }
+    requires { ⌜ at + length (gapBytes tempo ticks) ≤ length (now out) ⌝ }
     ensures { λ r. ⌜ r ≡ at + length (gapBytes tempo ticks) ⌝ }
     ensures output { λ r. ⌜ now (out .exit) ≡ laidOver (now (out .entry)) at (gapBytes tempo ticks) ⌝ }
 {

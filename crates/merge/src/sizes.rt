@@ -4,8 +4,8 @@ ghost use mathlib.Core.List.{_++_};
 ghost use mathlib.Core.Path.{_≡_};
 ghost use Prim.Native.Nat.{ℕ, _+_, _-_, _≤_, min};
 ghost use lib.ListN.{length};
-ghost use Rattle.smf.specs.Spelling.{quantityBytes};
-ghost use Rattle.merge.specs.Internal.Lines.{gapBytes, runningAfter, itemBytes, entryBytes, closingBytes, heldCount};
+ghost use Rattle.smf.specs.Spelling.{Mark, quantityBytes, dataBytes, eventBytes};
+ghost use Rattle.merge.specs.Internal.Lines.{gapBytes, runningAfter, entryBytes, closingBytes, heldCount};
 use crate::Entry;
 use crate::Line;
 use crate::Tally;
@@ -48,15 +48,24 @@ pub fn running_after(running: u8, ticks: u64) -> u8
     0
 }
 
+// The bytes of a channel event's data.
+fn data_size(status: u8) -> u64
+    ensures { λ r. ⌜ ((first second : ℕ) → r ≡ length (dataBytes status first second)) × (r ≤ 2) ⌝ }
+{
+    if is_short(status) {
+        return 1;
+    }
+    2
+}
+
 // The bytes of a channel event, where a status runs.
 fn channel_size(running: u8, status: u8) -> u64
-    ensures { λ r. ⌜ ((first second behind : ℕ) → r ≡ length (itemBytes running (Item.Channel status first second behind))) × (r ≤ 3) ⌝ }
+    ensures { λ r. ⌜ ((first second : ℕ) → r ≡ length (eventBytes true running (Mark.Channel 0 status first second))) × (r ≤ 3) ⌝ }
 {
-    let data = if is_short(status) { 1 } else { 2 };
     if status == running {
-        return data;
+        return data_size(status);
     }
-    data + 1
+    1 + data_size(status)
 }
 
 // The bytes of an event with its gap.

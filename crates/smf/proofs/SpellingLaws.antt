@@ -57,7 +57,7 @@ next b at x rest e =
 -- ---- 2. Quantities
 
 -- a quantity that is read back, with the rest of the file behind it
-record Quantity-read (b : List ℕ) (at n : ℕ) (rest : List ℕ) : Type 0 where
+pub record Quantity-read (b : List ℕ) (at n : ℕ) (rest : List ℕ) : Type 0 where
   place : ℕ
   reads : quantityAt b (length b) at ≡ Good n place
   behind : drop place b ≡ rest
@@ -71,24 +71,24 @@ quantity-small b at n h e l =
     from-last 3 b (length b) at 0 h small ∙ ap (λ (v : ℕ). Good v (at + 1)) value
 
 -- a quantity below 128 is written in one byte
-one-byte : (n : ℕ) → n < 128 → quantityBytes n ≡ n ∷ []
+pub one-byte : (n : ℕ) → n < 128 → quantityBytes n ≡ n ∷ []
 unfolding quantityBytes
 one-byte n h = rw (lt-ltb n 128 h) refl
 
 -- .. below 16,384 in two
-two-bytes : (n : ℕ) → 128 ≤ n → n < 16384 → quantityBytes n ≡ (128 + n / 128) ∷ n % 128 ∷ []
+pub two-bytes : (n : ℕ) → 128 ≤ n → n < 16384 → quantityBytes n ≡ (128 + n / 128) ∷ n % 128 ∷ []
 unfolding quantityBytes
 two-bytes n h k = rw (le-ltb n 128 h, lt-ltb n 16384 k) refl
 
 -- .. below 2,097,152 in three
-three-bytes : (n : ℕ) → 16384 ≤ n → n < 2097152 → quantityBytes n ≡ (128 + n / 16384) ∷ (128 + n / 128 % 128) ∷ n % 128 ∷ []
+pub three-bytes : (n : ℕ) → 16384 ≤ n → n < 2097152 → quantityBytes n ≡ (128 + n / 16384) ∷ (128 + n / 128 % 128) ∷ n % 128 ∷ []
 unfolding quantityBytes
 three-bytes n h k =
     let l : 128 ≤ n = omega arith in
     rw (le-ltb n 128 l, le-ltb n 16384 h, lt-ltb n 2097152 k) refl
 
 -- .. and others in four
-four-bytes : (n : ℕ) → 2097152 ≤ n → quantityBytes n ≡ (128 + n / 2097152) ∷ (128 + n / 16384 % 128) ∷ (128 + n / 128 % 128) ∷ n % 128 ∷ []
+pub four-bytes : (n : ℕ) → 2097152 ≤ n → quantityBytes n ≡ (128 + n / 2097152) ∷ (128 + n / 16384 % 128) ∷ (128 + n / 128 % 128) ∷ n % 128 ∷ []
 unfolding quantityBytes
 four-bytes n h =
     let l : 128 ≤ n = omega arith in
@@ -306,16 +306,16 @@ module _ (b : List ℕ) (running at : ℕ) where
       meta-read 47 0 [] e (omega arith) (omega arith) (omega (arith, z .inside))
 
   -- a tempo
-  tempo-read : (tempo : ℕ) (rest : List ℕ) → drop at b ≡ (255 ∷ 81 ∷ 3 ∷ threeBytes tempo) ++ rest
+  tempo-read : (tempo : ℕ) (rest : List ℕ) → tempo < 16777216 → drop at b ≡ (255 ∷ 81 ∷ 3 ∷ threeBytes tempo) ++ rest
       → (itemAt b (length b) running at ≡ Item.Tempo tempo (at + 1 + 1 + 1 + 3)) × (drop (at + 1 + 1 + 1 + 3) b ≡ rest)
   unfolding metaOf threeAt twoAt threeBytes
-  tempo-read tempo rest e =
+  tempo-read tempo rest small e =
       let p = at + 1 + 1 + 1 in
-      let bytes = tempo / 65536 ∷ tempo / 256 % 256 ∷ tempo % 256 ∷ rest in
+      let bytes = tempo / 65536 % 256 ∷ tempo / 256 % 256 ∷ tempo % 256 ∷ rest in
       let x = next b at 255 (81 ∷ 3 ∷ bytes) e in
       let y = next b (at + 1) 81 (3 ∷ bytes) (x .behind) in
       let z = next b (at + 1 + 1) 3 bytes (y .behind) in
-      let u = next b p (tempo / 65536) (tempo / 256 % 256 ∷ tempo % 256 ∷ rest) (z .behind) in
+      let u = next b p (tempo / 65536 % 256) (tempo / 256 % 256 ∷ tempo % 256 ∷ rest) (z .behind) in
       let v = next b (p + 1) (tempo / 256 % 256) (tempo % 256 ∷ rest) (u .behind) in
       let w = next b (p + 1 + 1) (tempo % 256) rest (v .behind) in
       let two : p + 1 + 1 ≡ p + 2 = omega arith in
@@ -376,20 +376,20 @@ itemOf (Mark.Meta ticks kind bytes) p = Item.Passed p
 itemOf (Mark.Exclusive ticks status bytes) p = Item.Passed p
 
 -- a mark that is read back, with the rest of the file behind it
-record Mark-read (b : List ℕ) (running at : ℕ) (m : Mark) (rest : List ℕ) : Type 0 where
+pub record Mark-read (b : List ℕ) (running at : ℕ) (m : Mark) (rest : List ℕ) : Type 0 where
   place : ℕ
   reads : itemAt b (length b) running at ≡ itemOf m place
   behind : drop place b ≡ rest
 
 -- each mark is
-mark-read : (b : List ℕ) (omit : Bool) (running at : ℕ) (m : Mark) (rest : List ℕ) → GoodMark m → 1 ≤ length rest → drop at b ≡ eventBytes omit running m ++ rest
+pub mark-read : (b : List ℕ) (omit : Bool) (running at : ℕ) (m : Mark) (rest : List ℕ) → GoodMark m → 1 ≤ length rest → drop at b ≡ eventBytes omit running m ++ rest
     → Mark-read b running at m rest
 unfolding eventBytes
 mark-read b omit running at (Mark.Channel ticks status first second) rest g r e =
     let x = channel-read b status first second rest (g .1) (g .2) (g .3) (g .4) (g .5) omit running at e in
     record { place = x .place; reads = x .reads; behind = x .behind }
 mark-read b omit running at (Mark.Tempo ticks tempo) rest g r e =
-    let x = tempo-read b running at tempo rest e in
+    let x = tempo-read b running at tempo rest (g .1) e in
     record { place = at + 1 + 1 + 1 + 3; reads = x .0; behind = x .1 }
 mark-read b omit running at (Mark.Meta ticks kind bytes) rest g r e =
     let x = other-read b running at kind bytes rest (g .1) (g .2) (g .3) (g .4) r e in

@@ -115,9 +115,9 @@ inTime s = inTimeFrom (s .division) 500000 0 (s .marks) (s .last)
 unfoldable pub twoBytes : ℕ → List ℕ
 twoBytes n = n / 256 ∷ n % 256 ∷ []
 
--- .. in three
+-- .. in three, modulo 2^24
 unfoldable pub threeBytes : ℕ → List ℕ
-threeBytes n = n / 65536 ∷ n / 256 % 256 ∷ n % 256 ∷ []
+threeBytes n = n / 65536 % 256 ∷ n / 256 % 256 ∷ n % 256 ∷ []
 
 -- .. in four
 unfoldable pub fourBytes : ℕ → List ℕ

@@ -4,7 +4,6 @@ use mathlib.Core.List.{List}
 use mathlib.Core.Path.{_≡_}
 use Prim.Native.Nat.{ℕ, _*_, _<_, _≤_}
 use lib.ListN.{length}
-use Rattle.arith.specs.Bytes.{u8At}
 use Rattle.smf.specs.declared.Item.{Item}
 use Rattle.smf.specs.declared.Item.the-variants.{Bad, End, Passed, Tempo, Channel}
 use Rattle.smf.specs.Track.{isBad}
@@ -13,20 +12,23 @@ use Rattle.merge.specs.declared.Spot.{Spot}
 use Rattle.merge.specs.declared.Spot.the-variants.{None, At}
 use Rattle.merge.specs.Entries.{noTick}
 
--- an event ends behind its place and in front of its track's end; a tempo has three bytes
+-- an event ends behind its place and in front of its track's end
 abbrev pub EndsIn : ℕ → ℕ → Item → Type 0
 EndsIn place end Bad = Unit {0}
 EndsIn place end End = place < end
 EndsIn place end (Passed behind) = (place < behind) × (behind ≤ end)
-EndsIn place end (Tempo tempo behind) = (place < behind) × (behind ≤ end) × (tempo < 16777216)
+EndsIn place end (Tempo tempo behind) = (place < behind) × (behind ≤ end)
 EndsIn place end (Channel status first second behind) = (place < behind) × (behind ≤ end)
 
--- an entry of a file: each event takes a byte or more, so that its tick has a bound
-pub record Settled (b : List ℕ) (e : Entry) : Type 0 where
-  pub short : length b ≤ 16777216
-  pub bytes : (i : ℕ) → u8At b i < 256
+-- an entry lies in a file
+pub record Seated (b : List ℕ) (e : Entry) : Type 0 where
   pub held : e .end ≤ length b
   pub item-in : EndsIn (e .place) (e .end) (e .item)
+
+-- an entry of a file that is not too long: each event takes a byte or more, so that its tick has a bound
+pub record Settled (b : List ℕ) (e : Entry) : Type 0 where
+  pub seated : Seated b e
+  pub short : length b ≤ 16777216
   pub good : isBad (e .item) ≡ false → e .tick ≤ e .place * 268435456
   pub bad : isBad (e .item) ≡ true → e .tick ≡ noTick
 

@@ -1,7 +1,7 @@
 -- The line that is written: its bytes event by event, as the writer puts them down.
 use mathlib.Core.Bool.{cond, true}
 use mathlib.Core.List.{List, [], _∷_, _++_}
-use Prim.Native.Nat.{ℕ, zero, suc, _+_, _-_, _<_, min}
+use Prim.Native.Nat.{ℕ, zero, suc, _+_, _-_, min}
 use lib.Dec.{eqb}
 use lib.ListN.{length, take, drop}
 use Rattle.smf.specs.declared.Item.{Item}
@@ -13,7 +13,7 @@ use Rattle.merge.specs.Bridges.{longest, bridgesOf, restOf}
 
 -- some bytes over those of an output from a place on
 abbrev pub laidOver : List ℕ → ℕ → List ℕ → List ℕ
-laidOver out at bytes = take at out ++ (bytes ++ drop (at + length bytes) out)
+laidOver out at bytes = take at out ++ bytes ++ drop (at + length bytes) out
 
 -- n bridges
 unfoldable pub bridgeBytes : ℕ → ℕ → List ℕ
@@ -77,14 +77,6 @@ lineStart = record { tick = 0; tempo = 500000; running = 0; end = 0 }
 abbrev pub headBytes : ℕ → ℕ → List ℕ
 headBytes division size =
     77 ∷ 84 ∷ 104 ∷ 100 ∷ 0 ∷ 0 ∷ 0 ∷ 6 ∷ 0 ∷ 0 ∷ 0 ∷ 1 ∷ (twoBytes division ++ (77 ∷ 84 ∷ 114 ∷ 107 ∷ fourBytes size))
-
--- a tempo change has three bytes
-abbrev pub TempoIn : Item → Type 0
-TempoIn Bad = Unit {0}
-TempoIn End = Unit {0}
-TempoIn (Passed behind) = Unit {0}
-TempoIn (Tempo tempo behind) = tempo < 16777216
-TempoIn (Channel status first second behind) = Unit {0}
 
 -- a count of bytes, held where no room is left
 abbrev pub heldCount : ℕ → ℕ

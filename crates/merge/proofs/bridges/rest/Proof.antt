@@ -1,29 +1,27 @@
+-- `rest` meets its contract.
+use native.Mathlib.Omega.{arith}
+use Rattle.merge.specs.Bridges.{bridgesOf, restOf}
+use Rattle.merge.proofs.BridgesLaws.{bridges-most, rest-small}
 use borrow.Author.Needs.{needs}
 use Rattle.merge.proofs.bridges.rest.Statement.{statement}
 use Rattle.merge.proofs.bridges.rest.Tie as tie
-use Rattle.merge.proofs.bridges.rest.Reads as reads
-use Rattle.merge.proofs.bridges.rest.Lts as lts
-use Rattle.merge.proofs.bridges.bridges.Reads as bridges-reads
 
--- src/bridges.rt:23:12
 bridges-requires : tie.Need-bridges-requires
 bridges-requires c κs = search needs
 
--- src/bridges.rt:23:12
 mul-result : tie.Need-mul-result
 mul-result c = search needs
 
--- src/bridges.rt:23:6
 sub-result : tie.Need-sub-result
-sub-result c = ?
+sub-result c = omega (arith, c .bridges .ensures .0, bridges-most (c .before .args .gap))
 
--- src/bridges.rt:23:5
 cast-result : tie.Need-cast-result
-cast-result c = ?
+unfolding restOf
+cast-result c = let r = rest-small (c .before .args .gap) in rw (c .bridges .ensures .0) (omega (arith, r))
 
--- src/bridges.rt:20:1
 returns : tie.Need-returns
-returns c = ?
+unfolding restOf
+returns c = let r = rest-small (c .before .args .gap) in rw (c .bridges .ensures .0) (omega (arith, r))
 
 pub rest-spec : {M : Type 1} → statement M
 rest-spec = tie.close (tie.spec bridges-requires mul-result sub-result cast-result returns)

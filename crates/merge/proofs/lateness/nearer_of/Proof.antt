@@ -1,28 +1,26 @@
+-- `nearer_of` meets its contract.
+use Rattle.merge.specs.Lateness.{nearer}
+use mathlib.Core.Path.{refl, ap, sym, _∙_}
+use Rattle.merge.specs.declared.Spot.the-variants.{At}
+use native.Mathlib.Omega.{arith}
 use borrow.Author.Needs.{needs}
 use Rattle.merge.proofs.lateness.nearer_of.Statement.{statement}
 use Rattle.merge.proofs.lateness.nearer_of.Tie as tie
-use Rattle.merge.proofs.lateness.nearer_of.Reads as reads
-use Rattle.merge.proofs.lateness.nearer_of.Lts as lts
 
--- src/lateness.rt:62:23
 enum-told : tie.Need-enum-told
 enum-told c = search needs
 
--- src/lateness.rt:63:27
 enum-known-s : tie.Need-enum-known-s
 enum-known-s c = search needs
 
--- src/lateness.rt:65:17
 returns : tie.Need-returns
-returns c = ?
+returns c = let k = c .before .before in rw (k .s .given .1) (ap At (omega arith))
 
--- src/lateness.rt:58:1
 returns-2 : tie.Need-returns-2
-returns-2 c = ?
+returns-2 c = rw (c .enum-told .given .1) refl
 
--- src/lateness.rt:58:1
 returns-3 : tie.Need-returns-3
-returns-3 c = ?
+returns-3 c = let k = c .before .before in rw (k .s .given .1) (ap At (omega arith))
 
 pub nearer-of-spec : {M : Type 1} → statement M
 nearer-of-spec = tie.close (tie.spec enum-told enum-known-s returns returns-2 returns-3)

@@ -1,44 +1,46 @@
+-- `sum_behind` meets its contract.
+use native.Mathlib.Omega.{arith}
+use Rattle.merge.proofs.LatenessLaws.{passes, stays}
+use native.Mathlib.Nat.{mul-zero}
+use mathlib.Core.Path.{ap}
 use borrow.Author.Needs.{needs}
 use Rattle.merge.proofs.lateness.sum_behind.Statement.{statement}
 use Rattle.merge.proofs.lateness.sum_behind.Tie as tie
-use Rattle.merge.proofs.lateness.sum_behind.Reads as reads
-use Rattle.merge.proofs.lateness.sum_behind.Lts as lts
 
--- src/lateness.rt:26:16
 add-left : tie.Need-add-left
 add-left c = search needs
 
--- src/lateness.rt:26:16
 sub-left : tie.Need-sub-left
 sub-left c = search needs
 
--- src/lateness.rt:28:9
 returns : tie.Need-returns
-returns c = ?
+returns c = let a = c .before .args in rw (c .if1 .taken, mul-zero) (omega arith)
 
--- src/lateness.rt:30:8
 div-if2 : tie.Need-div-if2
 div-if2 c = search needs
 
--- src/lateness.rt:31:16
 add-result : tie.Need-add-result
 add-result c = search needs
 
--- src/lateness.rt:31:9
 returns-2 : tie.Need-returns-2
-returns-2 c = ?
+returns-2 c =
+    let a = c .before .before .args in
+    passes (a .limit) (a .sum) (a .ticks) (a .tempo) (omega arith) (omega arith) (c .if2 .taken)
 
--- src/lateness.rt:33:11
 mul-result : tie.Need-mul-result
-mul-result c = ?
+mul-result c =
+    let a = c .before .before .args in
+    omega (arith, stays (a .limit) (a .sum) (a .ticks) (a .tempo) (omega arith) (omega arith) (c .if2 .left))
 
--- src/lateness.rt:33:5
 add-result-2 : tie.Need-add-result-2
-add-result-2 c = ?
+add-result-2 c =
+    let a = c .before .before .args in
+    omega (arith, stays (a .limit) (a .sum) (a .ticks) (a .tempo) (omega arith) (omega arith) (c .if2 .left))
 
--- src/lateness.rt:22:1
 returns-3 : tie.Need-returns-3
-returns-3 c = ?
+returns-3 c =
+    let a = c .before .before .args in
+    omega (arith, stays (a .limit) (a .sum) (a .ticks) (a .tempo) (omega arith) (omega arith) (c .if2 .left))
 
 pub sum-behind-spec : {M : Type 1} → statement M
 sum-behind-spec =

@@ -1,25 +1,30 @@
+-- `channel_size` meets its contract.
+use mathlib.Core.Path.{refl, ap, sym, _∙_}
+use borrow.Author.Tests.{eq-eqb, ne-eqb}
+use native.Mathlib.Omega.{arith}
+use Rattle.smf.specs.Spelling.{eventBytes, statusBytes}
+use Prim.Native.Nat.{suc}
 use borrow.Author.Needs.{needs}
 use Rattle.merge.proofs.sizes.channel_size.Statement.{statement}
 use Rattle.merge.proofs.sizes.channel_size.Tie as tie
-use Rattle.merge.proofs.sizes.channel_size.Reads as reads
-use Rattle.merge.proofs.sizes.channel_size.Lts as lts
-use Rattle.smf.proofs.items.is_short.Reads as is-short-reads
 
--- src/sizes.rt:55:19
-is-short-requires : tie.Need-is-short-requires
-is-short-requires c κs = search needs
+data-size-requires : tie.Need-data-size-requires
+data-size-requires c κs = search needs
 
--- src/sizes.rt:57:9
 returns : tie.Need-returns
-returns c = ?
+unfolding eventBytes statusBytes
+returns c = ((λ first second. rw (eq-eqb _ _ (c .before .if1 .taken)) (c .data-size .ensures .0 first second)), omega (arith, c .data-size .ensures .1))
 
--- src/sizes.rt:59:5
+data-size-requires-2 : tie.Need-data-size-requires-2
+data-size-requires-2 c κs = search needs
+
 add-result : tie.Need-add-result
-add-result c = ?
+add-result c = search needs
 
--- src/sizes.rt:52:1
 returns-2 : tie.Need-returns-2
-returns-2 c = ?
+unfolding eventBytes statusBytes
+returns-2 c = ((λ first second. rw (ne-eqb _ _ (c .before .if1 .left)) (omega (arith, c .data-size2 .ensures .0 first second))), omega (arith, c .data-size2 .ensures .1))
 
 pub channel-size-spec : {M : Type 1} → statement M
-channel-size-spec = tie.close (tie.spec is-short-requires returns add-result returns-2)
+channel-size-spec =
+    tie.close (tie.spec data-size-requires returns data-size-requires-2 add-result returns-2)

@@ -1,21 +1,21 @@
+-- `running_after` meets its contract.
+use mathlib.Core.Path.{refl, sym, _∙_}
+use borrow.Author.Tests.{eq-eqb, ne-eqb}
+use Rattle.merge.specs.Internal.Lines.{runningAfter}
 use borrow.Author.Needs.{needs}
 use Rattle.merge.proofs.sizes.running_after.Statement.{statement}
 use Rattle.merge.proofs.sizes.running_after.Tie as tie
-use Rattle.merge.proofs.sizes.running_after.Reads as reads
-use Rattle.merge.proofs.sizes.running_after.Lts as lts
-use Rattle.merge.proofs.bridges.bridges.Reads as bridges-reads
 
--- src/sizes.rt:45:8
 bridges-requires : tie.Need-bridges-requires
 bridges-requires c κs = search needs
 
--- src/sizes.rt:46:9
 returns : tie.Need-returns
-returns c = ?
+unfolding runningAfter
+returns c = rw (eq-eqb _ _ (sym (c .before .bridges .ensures .0) ∙ c .if1 .taken)) refl
 
--- src/sizes.rt:42:1
 returns-2 : tie.Need-returns-2
-returns-2 c = ?
+unfolding runningAfter
+returns-2 c = rw (ne-eqb _ _ (λ e. c .if1 .left (c .before .bridges .ensures .0 ∙ e))) refl
 
 pub running-after-spec : {M : Type 1} → statement M
 running-after-spec = tie.close (tie.spec bridges-requires returns returns-2)

@@ -1,31 +1,30 @@
+-- `whole_size` meets its contract.
+use mathlib.Core.Path.{ap, _∙_}
+use Rattle.merge.proofs.LinesLaws.{closing-length}
+use Prim.Native.Nat.{ℕ, _+_}
+use Rattle.merge.specs.Internal.Lines.{heldCount}
+use native.Mathlib.Omega.{arith}
 use borrow.Author.Needs.{needs}
 use Rattle.merge.proofs.sizes.whole_size.Statement.{statement}
 use Rattle.merge.proofs.sizes.whole_size.Tie as tie
-use Rattle.merge.proofs.sizes.whole_size.Reads as reads
-use Rattle.merge.proofs.sizes.whole_size.Lts as lts
-use Rattle.merge.proofs.lateness.gap.Reads as gap-reads
-use Rattle.merge.proofs.sizes.gap_size.Reads as gap-size-reads
-use Rattle.merge.proofs.sizes.grown.Reads as grown-reads
 
--- src/sizes.rt:101:28
 gap-requires : tie.Need-gap-requires
 gap-requires c κs = search needs
 
--- src/sizes.rt:101:19
 gap-size-requires : tie.Need-gap-size-requires
 gap-size-requires c κs = search needs
 
--- src/sizes.rt:101:19
 add-grown : tie.Need-add-grown
 add-grown c = search needs
 
--- src/sizes.rt:101:5
 grown-requires : tie.Need-grown-requires
 grown-requires c κs = search needs
 
--- src/sizes.rt:97:1
 returns : tie.Need-returns
-returns c = ?
+returns c =
+    let t = c .before .before .before .args .t in
+    let g = rw (c .before .before .gap .ensures) at (c .before .gap-size .ensures .0 (t .line .tempo)) in
+    c .grown .ensures ∙ ap (λ (n : ℕ). heldCount (t .size + n)) (omega (arith, g, closing-length (t .line)))
 
 pub whole-size-spec : {M : Type 1} → statement M
 whole-size-spec =

@@ -1,0 +1,6 @@
+pub mod FrontsLaws
+pub mod EntriesLaws
+pub mod BridgesLaws
+pub mod LatenessLaws
+pub mod LinesLaws
+pub mod PagesLaws

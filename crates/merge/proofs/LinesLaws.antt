@@ -1,0 +1,52 @@
+-- Laws of the line that is written: how long its parts are.
+use mathlib.Core.Bool.{true}
+use mathlib.Core.List.{List, [], _∷_, _++_}
+use mathlib.Core.Path.{_≡_, refl, ap, _∙_}
+use Prim.Native.Nat.{ℕ, zero, suc, _+_, _*_, _-_}
+use native.Mathlib.Omega.{arith}
+use lib.ListN.{length, length-append}
+use Rattle.smf.specs.Spelling.{Mark, quantityBytes, eventBytes, threeBytes}
+use Rattle.smf.specs.declared.Item.{Item}
+use Rattle.merge.specs.declared.Entry.{Entry}
+use Rattle.merge.specs.declared.Line.{Line}
+use Rattle.merge.specs.Bridges.{longest, bridgesOf, restOf}
+use Rattle.merge.specs.Internal.Lines.{bridgeBytes, gapBytes, runningAfter, entryBytes, closingBytes}
+
+-- a bridge has ten bytes
+pub bridge-ten : (tempo : ℕ) → length (quantityBytes longest ++ eventBytes true 0 (Mark.Tempo longest tempo)) ≡ 10
+unfolding quantityBytes eventBytes threeBytes
+bridge-ten tempo = refl
+
+-- n bridges
+pub bridges-length : (tempo n : ℕ) → length (bridgeBytes tempo n) ≡ n * 10
+unfolding bridgeBytes
+bridges-length tempo zero = refl
+bridges-length tempo (suc n) =
+    length-append (bridgeBytes tempo n) (quantityBytes longest ++ eventBytes true 0 (Mark.Tempo longest tempo))
+    ∙ omega (arith, bridges-length tempo n, bridge-ten tempo)
+
+-- a gap, whatever the tempo
+pub gap-length : (tempo gap : ℕ) → length (gapBytes tempo gap) ≡ bridgesOf gap * 10 + length (quantityBytes (restOf gap))
+unfolding gapBytes
+gap-length tempo gap =
+    length-append (bridgeBytes tempo (bridgesOf gap)) (quantityBytes (restOf gap))
+    ∙ omega (arith, bridges-length tempo (bridgesOf gap))
+
+module _ (l : Line) (e : Entry) where
+  -- a tempo change behind its gap
+  pub tempo-length : (next behind n : ℕ) → e .item ≡ Item.Tempo next behind → n ≡ length (gapBytes (l .tempo) (e .tick - l .tick)) → n + 6 ≡ length (entryBytes l e)
+  unfolding entryBytes eventBytes threeBytes
+  tempo-length next behind n i h = rw i (omega (arith, h, length-append (gapBytes (l .tempo) (e .tick - l .tick)) (255 ∷ 81 ∷ 3 ∷ threeBytes next)))
+
+  -- a channel event behind its gap
+  pub channel-length : (status first second behind running n m : ℕ) → e .item ≡ Item.Channel status first second behind → running ≡ runningAfter (l .running) (e .tick - l .tick)
+      → n ≡ length (gapBytes (l .tempo) (e .tick - l .tick)) → ((x y : ℕ) → m ≡ length (eventBytes true running (Mark.Channel 0 status x y))) → n + m ≡ length (entryBytes l e)
+  unfolding entryBytes
+  channel-length status first second behind running n m i r h k =
+      let s = rw r at (k first second) in
+      rw i (omega (arith, h, s, length-append (gapBytes (l .tempo) (e .tick - l .tick)) (eventBytes true (runningAfter (l .running) (e .tick - l .tick)) (Mark.Channel 0 status first second))))
+
+-- the end of track
+pub closing-length : (l : Line) → length (closingBytes l) ≡ length (gapBytes (l .tempo) (l .end - l .tick)) + 3
+unfolding closingBytes
+closing-length l = length-append (gapBytes (l .tempo) (l .end - l .tick)) (255 ∷ 47 ∷ 0 ∷ [])
