@@ -4,3 +4,4 @@ pub mod BridgesLaws
 pub mod LatenessLaws
 pub mod LinesLaws
 pub mod PagesLaws
+pub mod OrderLaws

@@ -30,9 +30,9 @@ laid-both out at xs ys h =
     let all : length xs ≤ length xs = omega arith in
     let front = ap (take (at + length xs)) (sym is) ∙ take-paste out at xs (length xs) few all ∙ ap (λ (zs : List ℕ). take at out ++ zs) (take-length xs) in
     let back =
-        sym (drop-drop (length ys) (at + length xs) (laidOver out at xs))
-        ∙ ap (drop (length ys)) (ap (drop (at + length xs)) (sym is) ∙ drop-paste out at xs (length xs) few all)
-        ∙ drop-drop (length ys) (at + length xs) out in
+    sym (drop-drop (length ys) (at + length xs) (laidOver out at xs))
+    ∙ ap (drop (length ys)) (ap (drop (at + length xs)) (sym is) ∙ drop-paste out at xs (length xs) few all)
+    ∙ drop-drop (length ys) (at + length xs) out in
     let place : at + length xs + length ys ≡ at + length (xs ++ ys) = omega (arith, l) in
     ap₂ (λ (us vs : List ℕ). us ++ ys ++ vs) front back
     ∙ ap₂ (λ (us : List ℕ) (k : ℕ). us ++ drop k out) (append-assoc (take at out) xs ys) place

@@ -43,6 +43,12 @@ pub struct Tracks {
     pub flaw: Spot,
 }
 
+// The smallest tick among those of some tracks, and the first track that has it.
+pub struct Best {
+    pub tick: u64,
+    pub lane: usize,
+}
+
 // The time at an event: its tick, the tempo behind it, and U, held where it is past an hour; and the smallest place of what is past it.
 pub struct Hour {
     pub tick: u64,

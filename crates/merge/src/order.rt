@@ -3,9 +3,10 @@ ghost use mathlib.Core.List.{_++_};
 ghost use mathlib.Core.Path.{_≡_};
 ghost use Prim.Native.Nat.{_+_, _*_, _≤_};
 ghost use lib.ListN.{length};
-ghost use Rattle.merge.specs.Internal.Lanes.{Lined, laneSequence, Earliest};
+ghost use Rattle.merge.specs.Internal.Lanes.{Lined, laneSequence, betterOf, Earliest};
 ghost use Rattle.merge.specs.Internal.Lines.{laidOver, headBytes, lineBytes, lineStart};
 ghost use Rattle.merge.specs.Internal.Order.{hourStart, toldOf, tallyStart, tallyOf};
+use crate::Best;
 use crate::Entry;
 use crate::Hour;
 use crate::Spot;
@@ -22,23 +23,31 @@ use crate::lines::put_head;
 use crate::sizes::entry_size;
 use crate::sizes::grown;
 
+// The smaller of two ticks; the first of two that are the same.
+fn better(best: Best, tick: u64, lane: usize) -> Best
+    ensures { λ r. ⌜ r ≡ betterOf best tick lane ⌝ }
+{
+    if tick < best.tick {
+        return Best { tick, lane };
+    }
+    best
+}
+
 // The first of the tracks whose next event is earliest; their number where all are over.
 fn earliest(ticks: &[u64; 256], count: usize) -> usize
     requires { ⌜ count ≤ 256 ⌝ }
     ensures { λ r. ⌜ Earliest (now (ticks .entry)) count r ⌝ }
 {
-    let mut low = NO_TICK;
-    let mut j = count;
+    let mut best = Best {
+        tick: NO_TICK,
+        lane: count,
+    };
     let mut i = 0;
     while i < count {
-        let tick = ticks[i];
-        if tick < low {
-            low = tick;
-            j = i;
-        }
+        best = better(best, ticks[i], i);
         i += 1;
     }
-    j
+    best.lane
 }
 
 // What a song needs in front of its first event.

@@ -1,8 +1,11 @@
 -- The tracks as the code holds them, and which of them is next.
+use mathlib.Core.Bool.{cond}
 use mathlib.Core.List.{List, [], _∷_, map}
 use mathlib.Core.Path.{_≡_}
 use Prim.Native.Nat.{ℕ, _<_, _≤_}
+use lib.Dec.{ltb}
 use lib.ListN.{length, take, getD}
+use Rattle.merge.specs.declared.Best.{Best}
 use Rattle.merge.specs.declared.Entry.{Entry}
 use Rattle.merge.specs.declared.Tracks.{Tracks}
 use Rattle.merge.specs.Entries.{noTick}
@@ -26,12 +29,17 @@ lanesOf l = take (l .count) (l .entries)
 -- there is room for them, their ticks are their own, and each is at an entry of a file
 pub record Lined (b : List ℕ) (l : Tracks) : Type 0 where
   pub room : l .count ≤ 256
+  pub whole : length (l .entries) ≡ 256
   pub ticks : l .ticks ≡ map tickOf (l .entries)
   pub settled : AllSettled b (lanesOf l)
 
 -- the one sequence of their events
 abbrev pub laneSequence : List ℕ → Tracks → List Entry
 laneSequence b l = inOrder (entriesOf b (lanesOf l))
+
+-- the smaller of two ticks; the first of two that are the same
+unfoldable pub betterOf : Best → ℕ → ℕ → Best
+betterOf best tick lane = cond (ltb tick (best .tick)) (record { tick = tick; lane = lane }) best
 
 -- tick i
 abbrev pub tickAt : List ℕ → ℕ → ℕ

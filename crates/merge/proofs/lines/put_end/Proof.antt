@@ -1,35 +1,46 @@
+-- `put_end` meets its contract.
+use mathlib.Core.List.{List, [], _∷_, _++_}
+use mathlib.Core.Path.{_≡_, refl, sym, ap, _∙_}
+use Prim.Native.Nat.{_+_, _-_}
+use native.Mathlib.Omega.{arith}
+use lib.ListN.{length, length-append}
+use Rattle.merge.specs.Internal.Lines.{gapBytes, closingBytes}
+use Rattle.merge.proofs.LinesLaws.{closing-length}
+use Rattle.merge.proofs.PagesLaws.{room-then, laid-then}
 use borrow.Author.Needs.{needs}
 use Rattle.merge.proofs.lines.put_end.Statement.{statement}
 use Rattle.merge.proofs.lines.put_end.Tie as tie
-use Rattle.merge.proofs.lines.put_end.Reads as reads
-use Rattle.merge.proofs.lines.put_end.Lts as lts
-use Rattle.merge.proofs.lateness.gap.Reads as gap-reads
-use Rattle.merge.proofs.pages.put.Reads as put-reads
-use Rattle.merge.proofs.pages.put_gap.Reads as put-gap-reads
 
--- src/lines.rt:134:39
 gap-requires : tie.Need-gap-requires
 gap-requires c κs = search needs
 
--- src/lines.rt:134:9
 put-gap-requires : tie.Need-put-gap-requires
-put-gap-requires c κs = ?
+put-gap-requires c κs =
+    let k = c .before .before .before in
+    rw (c .gap .ensures) (omega (arith, k .pre, closing-length (k .args .l)))
 
--- src/lines.rt:136:17
 slice-aggregate-put : tie.Need-slice-aggregate-put
 slice-aggregate-put c = search needs
 
--- src/lines.rt:136:5
 put-requires : tie.Need-put-requires
-put-requires c κs = ?
+unfolding closingBytes
+put-requires c κs =
+    let k = c .before .before .before .before .before .before .before .before in
+    let a = k .args in
+    let w = rw (c .before .before .before .before .before .gap .ensures) at (c .before .before .before .before .put-gap .ensures) in
+    room-then (a .out .now) (a .at) (gapBytes (a .l .tempo) (a .l .end - a .l .tick)) (255 ∷ 47 ∷ 0 ∷ []) (k .pre) _ _ (w .0) (w .1)
 
--- src/lines.rt:129:1
 same-length : tie.Need-same-length
 same-length c = search needs
 
--- src/lines.rt:129:1
 returns : tie.Need-returns
-returns c = ?
+unfolding closingBytes
+returns c =
+    let k = c .before .before .before .before .before .before .before .before .before .before .before in
+    let a = k .args in
+    let w = rw (c .before .before .before .before .before .before .before .before .gap .ensures) at (c .before .before .before .before .before .before .before .put-gap .ensures) in
+    let d = c .before .before .put .ensures in
+    laid-then (a .out .now) (a .at) (gapBytes (a .l .tempo) (a .l .end - a .l .tick)) (255 ∷ 47 ∷ 0 ∷ []) (k .pre) _ _ (w .0) (w .1) _ _ (d .0) (d .1)
 
 pub put-end-spec : {M : Type 1} → statement M
 put-end-spec =

@@ -1,0 +1,17 @@
+-- `better` meets its contract.
+use mathlib.Core.Path.{refl}
+use borrow.Author.Tests.{lt-ltb, le-ltb}
+use Rattle.merge.specs.Internal.Lanes.{betterOf}
+use Rattle.merge.proofs.order.better.Statement.{statement}
+use Rattle.merge.proofs.order.better.Tie as tie
+
+returns : tie.Need-returns
+unfolding betterOf
+returns c = rw (lt-ltb _ _ (c .if1 .taken)) refl
+
+returns-2 : tie.Need-returns-2
+unfolding betterOf
+returns-2 c = rw (le-ltb _ _ (c .if1 .left)) refl
+
+pub better-spec : {M : Type 1} → statement M
+better-spec = tie.close (tie.spec returns returns-2)
