@@ -4,4 +4,5 @@ pub mod BridgesLaws
 pub mod LatenessLaws
 pub mod LinesLaws
 pub mod PagesLaws
+pub mod LanesLaws
 pub mod OrderLaws

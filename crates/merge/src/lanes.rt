@@ -3,7 +3,7 @@ ghost use mathlib.Core.Path.{_≡_};
 ghost use Prim.Native.Nat.{_≤_};
 ghost use lib.ListN.{length};
 ghost use Rattle.merge.specs.Lanes.{lanesFrom, flawIn};
-ghost use Rattle.merge.specs.Internal.Lanes.{lanesOf, Lined};
+ghost use Rattle.merge.specs.Internal.Lanes.{noLane, lanesOf, Lined};
 use crate::Entry;
 use crate::Spot;
 use crate::Tracks;
@@ -13,7 +13,9 @@ use smf::Item;
 use smf::head::track_from;
 
 // No track.
-fn no_lane() -> Entry {
+fn no_lane() -> Entry
+    ensures { λ r. ⌜ r ≡ noLane ⌝ }
+{
     Entry {
         tick: entries::NO_TICK,
         place: 0,

@@ -5,6 +5,7 @@ use mathlib.Core.Path.{_≡_}
 use Prim.Native.Nat.{ℕ, _<_, _≤_}
 use lib.Dec.{ltb}
 use lib.ListN.{length, take, getD}
+use Rattle.smf.specs.declared.Item.the-variants.{Bad}
 use Rattle.merge.specs.declared.Best.{Best}
 use Rattle.merge.specs.declared.Entry.{Entry}
 use Rattle.merge.specs.declared.Tracks.{Tracks}
@@ -17,6 +18,10 @@ use Rattle.merge.specs.Internal.Entries.{Settled}
 abbrev pub AllSettled : List ℕ → List Entry → Type 0
 AllSettled b [] = Unit {0}
 AllSettled b (e ∷ es) = Settled b e × AllSettled b es
+
+-- no track
+abbrev pub noLane : Entry
+noLane = record { tick = noTick; place = 0; end = 0; item = Bad }
 
 -- the tick of an entry
 abbrev pub tickOf : Entry → ℕ
