@@ -7,3 +7,5 @@ pub mod PagesLaws
 pub mod LanesLaws
 pub mod OrderLaws
 pub mod KeptOrderLaws
+pub mod KeptScoreLaws
+pub mod KeptItemsLaws
