@@ -9,3 +9,4 @@ pub mod OrderLaws
 pub mod KeptOrderLaws
 pub mod KeptScoreLaws
 pub mod KeptItemsLaws
+pub mod KeptLaws
