@@ -56,7 +56,7 @@ fitted-good room bytes w e = go (ltb room (length bytes)) e
     go false e = cc
 
 -- where a file is merged by its head
-merged-by : (b : List ℕ) (room count division at : ℕ) → length b ≤ 16777216 → frontOf b ≡ Front.Song count division at → mergedOf b room ≡ joinedOf b count division at room
+pub merged-by : (b : List ℕ) (room count division at : ℕ) → length b ≤ 16777216 → frontOf b ≡ Front.Song count division at → mergedOf b room ≡ joinedOf b count division at room
 unfolding mergedOf
 merged-by b room count division at h e = rw (le-ltb _ _ h) (rw (e, mergedOf) refl)
 

@@ -10,3 +10,4 @@ pub mod KeptOrderLaws
 pub mod KeptScoreLaws
 pub mod KeptItemsLaws
 pub mod KeptLaws
+pub mod KeptAgainLaws
