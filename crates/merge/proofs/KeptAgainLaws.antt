@@ -38,10 +38,10 @@ use Rattle.merge.proofs.BridgesLaws.{no-bridges, rest-whole}
 use Rattle.merge.proofs.FrontsLaws.{Formed, Counted, front-good}
 use Rattle.merge.proofs.EntriesLaws.{settled-good, on-tempo, on-channel}
 use Rattle.merge.proofs.LanesLaws.{lanes-on}
-use Rattle.merge.proofs.KeptOrderLaws.{order-rises, order-stays}
+use Rattle.merge.proofs.KeptOrderLaws.{none-before, order-rises, order-stays}
 use Rattle.merge.proofs.KeptScoreLaws.{adds-tempo, adds-channel, adds-end, adds-none, AllFair, Plain, AllPlain, plain-good, score-good, score-plain, score-in-time}
 use Rattle.merge.proofs.KeptItemsLaws.{sequence-fair}
-use Rattle.merge.proofs.KeptLaws.{Joined, joined-by, merged-by, song-good}
+use Rattle.merge.proofs.KeptLaws.{never-written, Joined, joined-by, merged-by, merged-refused, merged-short, song-good}
 
 -- ---- 1. Events that are marks
 
@@ -146,3 +146,215 @@ read-score s es p small r =
     rw end
     (ap₂ (λ (ms : List Mark) (last : ℕ). let x : Score = record { division = s .division; marks = ms; last = last } in x)
     (read-marks (s .last) small (s .marks) 0 500000 es p r) (read-last (s .last) small (s .marks) 0 es p r))
+
+-- ---- 3. Their time
+
+-- two tests that both hold
+and-both : (s t : Bool) → (s && t) ≡ true → (s ≡ true) × (t ≡ true)
+and-both true t e = (refl, e)
+and-both false t e = let z : _≡_ {A = ℕ} 0 1 = cc in absurd (omega arith)
+
+-- an event that is not past an hour, in front of others
+late-on : (division tick tempo sum u next : ℕ) (e : Entry) (es : List Entry) → sumAt tick tempo sum e ≡ u → not (isLate division u) ≡ true → tempoAfter tempo (e .item) ≡ next
+    → lateFrom division (e .tick) next u es ≡ None → lateFrom division tick tempo sum (e ∷ es) ≡ None
+unfolding lateFrom
+late-on division tick tempo sum u next e es s l t n = let f = not-true (isLate division u) l in rw (s, f, t) n
+
+-- U at an event that is so many ticks behind a tick
+sum-on : (tick ticks tempo sum : ℕ) (e : Entry) → e .tick ≡ tick + ticks → sumAt tick tempo sum e ≡ sum + ticks * tempo
+sum-on tick ticks tempo sum e t =
+    let z : e .tick - tick ≡ ticks = omega (arith, t) in
+    ap (λ (n : ℕ). sum + n * tempo) z
+
+-- the tempo behind a mark
+mark-tempo : (m : Mark) (place tempo : ℕ) → tempoAfter tempo (itemOf m place) ≡ tempoBehind tempo m
+mark-tempo (Mark.Channel ticks status first second) place tempo = refl
+mark-tempo (Mark.Tempo ticks next) place tempo = refl
+mark-tempo (Mark.Meta ticks kind bytes) place tempo = refl
+mark-tempo (Mark.Exclusive ticks status bytes) place tempo = refl
+
+-- nothing is not late
+late-empty : (division tick tempo sum : ℕ) → lateFrom division tick tempo sum [] ≡ None
+unfolding lateFrom
+late-empty division tick tempo sum = refl
+
+-- none is past an hour where the marks are in time
+read-late : (ms : List Mark) (division last tick tempo sum : ℕ) (es : List Entry) → ReadAs tick ms last es → inTimeFrom division tempo sum ms last ≡ true → lateFrom division tick tempo sum es ≡ None
+unfolding inTimeFrom
+read-late [] division last tick tempo sum [] r t = absurd r
+read-late [] division last tick tempo sum (e ∷ es) r t =
+    let x = r .0 in
+    let none : lateFrom division (e .tick) tempo (sum + last * tempo) es ≡ None = rw (r .1) (late-empty division (e .tick) tempo (sum + last * tempo)) in
+    late-on division tick tempo sum (sum + last * tempo) tempo e es (sum-on tick last tempo sum e (x .there)) t (ap (tempoAfter tempo) (x .item)) none
+read-late (m ∷ ms) division last tick tempo sum [] r t = absurd r
+read-late (m ∷ ms) division last tick tempo sum (e ∷ es) r t =
+    let x = r .0 in
+    let u = sum + ticksOf m * tempo in
+    let next = tempoBehind tempo m in
+    let h = and-both (not (isLate division u)) (inTimeFrom division next u ms last) t in
+    let more = read-late ms division last (tick + ticksOf m) next u es (r .1) (h .1) in
+    late-on division tick tempo sum u next e es (sum-on tick (ticksOf m) tempo sum e (x .there)) (h .0) (ap (tempoAfter tempo) (x .item) ∙ mark-tempo m (x .place) tempo)
+    (ap (λ (n : ℕ). lateFrom division n next u es) (x .there) ∙ more)
+
+-- their ticks never fall
+read-rise : (ms : List Mark) (last tick : ℕ) (es : List Entry) → ReadAs tick ms last es → NoneBefore tick es × TicksRise es
+read-rise [] last tick [] r = absurd r
+read-rise [] last tick (e ∷ es) r =
+    let there = r .0 .there in
+    ((omega (arith, there), rw (r .1) tt), (rw (r .1) tt, rw (r .1) tt))
+read-rise (m ∷ ms) last tick [] r = absurd r
+read-rise (m ∷ ms) last tick (e ∷ es) r =
+    let there = r .0 .there in
+    let more = read-rise ms last (tick + ticksOf m) es (r .1) in
+    ((omega (arith, there), none-before tick (tick + ticksOf m) es (omega arith) (more .0)), (none-before (e .tick) (tick + ticksOf m) es (omega (arith, there)) (more .0), more .1))
+
+-- ---- 4. The track is read back
+
+-- a fault has nothing behind it
+entries-gone : (n : ℕ) (b : List ℕ) (e : Entry) → isBad (e .item) ≡ true → entriesFrom n b e ≡ []
+unfolding entriesFrom
+entries-gone zero b e i = refl
+entries-gone (suc n) b e i = rw i refl
+
+-- an event that is none has others behind it
+entries-step : (n : ℕ) (b : List ℕ) (e : Entry) → isBad (e .item) ≡ false → entriesFrom (suc n) b e ≡ e ∷ entriesFrom n b (advancedOf b e)
+unfolding entriesFrom
+entries-step n b e i = rw i refl
+
+-- behind a mark
+advanced-mark : (b : List ℕ) (m : Mark) (behind tick place end : ℕ) → advancedOf b (noted (itemOf m behind) tick place end) ≡ settledAt b end (runningBehind m) behind tick
+unfolding advancedOf
+advanced-mark b (Mark.Channel ticks status first second) behind tick place end = refl
+advanced-mark b (Mark.Tempo ticks tempo) behind tick place end = refl
+advanced-mark b (Mark.Meta ticks kind bytes) behind tick place end = refl
+advanced-mark b (Mark.Exclusive ticks status bytes) behind tick place end = refl
+
+-- a mark is no fault
+flaw-mark : (n : ℕ) (b : List ℕ) (m : Mark) (behind tick place end : ℕ)
+    → flawFrom (suc n) b (noted (itemOf m behind) tick place end) ≡ flawFrom n b (advancedOf b (noted (itemOf m behind) tick place end))
+unfolding flawFrom
+flaw-mark n b (Mark.Channel ticks status first second) behind tick place end = refl
+flaw-mark n b (Mark.Tempo ticks tempo) behind tick place end = refl
+flaw-mark n b (Mark.Meta ticks kind bytes) behind tick place end = refl
+flaw-mark n b (Mark.Exclusive ticks status bytes) behind tick place end = refl
+
+-- nor is an end of track
+flaw-end : (n : ℕ) (b : List ℕ) (tick place end : ℕ) → flawFrom (suc n) b (noted End tick place end) ≡ None
+unfolding flawFrom
+flaw-end n b tick place end = refl
+
+-- nothing is behind it
+end-last : (n : ℕ) (b : List ℕ) (tick place end : ℕ) → entriesFrom n b (advancedOf b (noted End tick place end)) ≡ []
+unfolding advancedOf
+end-last n b tick place end = entries-gone n b (advancedOf b (noted End tick place end)) refl
+
+-- the events of a track that is written are its marks, and it has no fault
+read-as : (ms : List Mark) (k running last n : ℕ) (b : List ℕ) (at tick : ℕ) → drop at b ≡ trackBytes (λ i. true) k running ms last → GoodMarks ms → last < 268435456 → length ms < n
+    → ReadAs tick ms last (entriesFrom n b (settledAt b (length b) running at tick)) × (flawFrom n b (settledAt b (length b) running at tick) ≡ None)
+unfolding trackBytes
+read-as [] k running last zero b at tick e g l h = absurd (not-suc-le-zero h)
+read-as [] k running last (suc n) b at tick e g l h =
+    let q = read-quantity b at last (255 ∷ 47 ∷ 0 ∷ []) e l in
+    let x = end-read b running (q .place) (q .behind) in
+    let end = noted End (tick + last) (q .place) (length b) in
+    let same : settledAt b (length b) running at tick ≡ end =
+    settled-good b (length b) running at tick last (q .place) (q .reads) ∙ ap (λ (i : Item). noted i (tick + last) (q .place) (length b)) x in
+    (rw (same, entries-step n b end refl) (record { item = refl; there = refl }, end-last n b (tick + last) (q .place) (length b)), ap (flawFrom (suc n) b) same ∙ flaw-end n b (tick + last) (q .place) (length b))
+read-as (m ∷ ms) k running last zero b at tick e g l h = absurd (not-suc-le-zero h)
+read-as (m ∷ ms) k running last (suc n) b at tick e g l h =
+    let track = trackBytes (λ i. true) (suc k) (runningBehind m) ms last in
+    let rest = eventBytes true running m ++ track in
+    let some : 1 ≤ length track = omega (arith, marks-fit ms (λ i. true) (suc k) (runningBehind m) last) in
+    let q = read-quantity b at (ticksOf m) rest e (ticks-good m (g .0)) in
+    let r = mark-read b true running (q .place) m track (g .0) some (q .behind) in
+    let mark = noted (itemOf m (r .place)) (tick + ticksOf m) (q .place) (length b) in
+    let same : settledAt b (length b) running at tick ≡ mark =
+    settled-good b (length b) running at tick (ticksOf m) (q .place) (q .reads) ∙ ap (λ (i : Item). noted i (tick + ticksOf m) (q .place) (length b)) (r .reads) in
+    let on = advanced-mark b m (r .place) (tick + ticksOf m) (q .place) (length b) in
+    let more = read-as ms (suc k) (runningBehind m) last n b (r .place) (tick + ticksOf m) (r .behind) (g .1) l (le-of-suc-le-suc h) in
+    let good = mark-good m (r .place) in (
+      rw (same, entries-step n b mark good, on) (record { place = r .place; item = refl; there = rw good refl }, more .0),
+      ap (flawFrom (suc n) b) same ∙ flaw-mark n b m (r .place) (tick + ticksOf m) (q .place) (length b) ∙ ap (flawFrom n b) on ∙ more .1,
+    )
+
+-- ---- 5. The file
+
+module _ (s : Score) (g : GoodScore s) where
+  abbrev file : List ℕ
+  file = fileBytes (λ i. true) s
+
+  whole : Written file s (trackOf (λ i. true) s)
+  whole = written (λ i. true) s
+
+  -- its head
+  file-front : frontOf file ≡ Front.Song 1 (s .division) 14
+  unfolding chunkEnd countNumber
+  file-front =
+      let w = whole in
+      let head : chunkEnd file 0 ≡ 14 = rw (w .six) refl in
+      let held : Held file = record { named = record { name = w .name }; six = omega (arith, w .six); in-file = omega (arith, head, w .size) } in
+      let counted : Counted file = record { formed = record { held = held; format = omega (arith, w .format) }; none = rw (w .format, w .one) refl } in
+      front-good file counted (λ z. absurd (omega (arith, z, w .division, g .low))) (omega (arith, w .division, g .high)) ∙ rw (w .one, w .division, head) refl
+
+  -- its track
+  file-track : trackFrom (length file) file 14 ≡ Header.Track 22 (length file)
+  unfolding chunkEnd
+  file-track =
+      let w = whole in
+      let end : chunkEnd file 14 ≡ length file = rw (w .track-size) (omega (arith, w .size)) in
+      track-turn file 14 (Header.Track 22 (chunkEnd file 14)) (omega (arith, w .size)) (λ n. track-found file 14 n (omega (arith, w .size)) (omega (arith, end)) (w .track-name))
+      ∙ ap (Header.Track 22) end
+
+  -- its events
+  abbrev events : List Entry
+  events = entriesFrom (turns file) file (firstOf file 22 (length file))
+
+  file-read : ReadAs 0 (s .marks) (s .last) events × (flawOf file (firstOf file 22 (length file)) ≡ None)
+  file-read =
+      let w = whole in
+      let few = marks-fit (s .marks) (λ i. true) 0 0 (s .last) in
+      read-as (s .marks) 0 0 (s .last) (turns file) file 22 0 (w .behind) (g .marks) (g .last) (omega (arith, few, w .size))
+
+  -- .. are its one sequence, without a fault
+  file-sequence : (sequenceOf 1 file 14 ≡ events) × (flawIn 1 file 14 ≡ None)
+  unfolding entriesOf lanesFrom flawIn
+  file-sequence =
+      let r = file-read in
+      let l = lanes-on file 0 14 22 (length file) file-track (r .1) in
+      let rise = read-rise (s .marks) (s .last) 0 events (r .0) .1 in
+      (ap (λ (es : List Entry). inOrder (entriesOf file es)) (l .0) ∙ ap inOrder (append-nil events) ∙ order-stays events rise, l .1)
+
+  -- so that merging it changes no byte
+  file-again : (room : ℕ) → AllPlain (s .marks) → inTime s ≡ true → length file ≤ 16777216 → length file ≤ room → mergedOf file room ≡ Outcome.Written file
+  unfolding joinedOf fileOf fitted
+  file-again room p t short fits =
+      let q = file-sequence in
+      let r = file-read .0 in
+      let late = read-late (s .marks) (s .division) (s .last) 0 500000 0 events r t in
+      let score = read-score s events p (g .last) r in
+      merged-by file room 1 (s .division) 14 short file-front ∙ rw (q .0, q .1, late, score, le-ltb _ _ fits) refl
+
+-- ---- 6. Merging again
+
+-- what was merged has a good head
+merged-front : (b w : List ℕ) (room : ℕ) → mergedOf b room ≡ Outcome.Written w → (f : Front) → frontOf b ≡ f
+    → (count : ℕ) × (division : ℕ) × (at : ℕ) × (frontOf b ≡ Front.Song count division at)
+merged-front b w room e (Front.Refused number place) f =
+    absurd (never-written number place w (sym (merged-refused b room number place (merged-short b w room e) f) ∙ e))
+merged-front b w room e (Front.Song count division at) f = (count, division, at, f)
+
+-- merging again what was written changes no byte
+pub merged-again : MergedAgain
+unfolding fileOf
+merged-again b w room again a e short fits =
+    let f = merged-front b w room e (frontOf b) refl in
+    let count = f .0 in
+    let division = f .1 in
+    let at = f .2 in
+    let es = sequenceOf count b at in
+    let j = joined-by b w room count division at (f .3) e in
+    let rise = order-rises (entriesOf b (lanesFrom count b at)) in
+    let s = scoreOf division es in
+    let same : fileBytes (λ k. true) s ≡ w = j .bytes in
+    let x = file-again s (song-good b count division at a (f .3)) again (score-plain division es (sequence-fair b a count at)) (score-in-time division es rise (j .in-time)) (rw same short) (rw same fits) in
+    subst (λ (y : List ℕ). mergedOf y again ≡ Outcome.Written y) same x

@@ -30,7 +30,7 @@ use Rattle.merge.proofs.KeptItemsLaws.{sequence-fair}
 -- ---- 1. What is known where something is written
 
 -- nothing is written on a refusal
-never-written : (number place : ℕ) (w : List ℕ) → Refused number place ≡ Written w → ⊥
+pub never-written : (number place : ℕ) (w : List ℕ) → Refused number place ≡ Written w → ⊥
 never-written number place w e = let z : _≡_ {A = ℕ} 0 1 = cc in omega arith
 
 -- the file of a sequence that is not late, of tracks without a fault
@@ -60,8 +60,13 @@ pub merged-by : (b : List ℕ) (room count division at : ℕ) → length b ≤ 1
 unfolding mergedOf
 merged-by b room count division at h e = rw (le-ltb _ _ h) (rw (e, mergedOf) refl)
 
+-- .. or refused by it
+pub merged-refused : (b : List ℕ) (room number place : ℕ) → length b ≤ 16777216 → frontOf b ≡ Front.Refused number place → mergedOf b room ≡ Refused number place
+unfolding mergedOf
+merged-refused b room number place h e = rw (le-ltb _ _ h) (rw (e, mergedOf) refl)
+
 -- .. and is not too long
-merged-short : (b w : List ℕ) (room : ℕ) → mergedOf b room ≡ Written w → length b ≤ 16777216
+pub merged-short : (b w : List ℕ) (room : ℕ) → mergedOf b room ≡ Written w → length b ≤ 16777216
 unfolding mergedOf
 merged-short b w room e = go (ltb 16777216 (length b)) refl e
   where
