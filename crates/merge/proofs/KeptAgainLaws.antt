@@ -161,7 +161,7 @@ unfolding lateFrom
 late-on division tick tempo sum u next e es s l t n = let f = not-true (isLate division u) l in rw (s, f, t) n
 
 -- U at an event that is so many ticks behind a tick
-sum-on : (tick ticks tempo sum : ℕ) (e : Entry) → e .tick ≡ tick + ticks → sumAt tick tempo sum e ≡ sum + ticks * tempo
+pub sum-on : (tick ticks tempo sum : ℕ) (e : Entry) → e .tick ≡ tick + ticks → sumAt tick tempo sum e ≡ sum + ticks * tempo
 sum-on tick ticks tempo sum e t =
     let z : e .tick - tick ≡ ticks = omega (arith, t) in
     ap (λ (n : ℕ). sum + n * tempo) z
@@ -174,7 +174,7 @@ mark-tempo (Mark.Meta ticks kind bytes) place tempo = refl
 mark-tempo (Mark.Exclusive ticks status bytes) place tempo = refl
 
 -- nothing is not late
-late-empty : (division tick tempo sum : ℕ) → lateFrom division tick tempo sum [] ≡ None
+pub late-empty : (division tick tempo sum : ℕ) → lateFrom division tick tempo sum [] ≡ None
 unfolding lateFrom
 late-empty division tick tempo sum = refl
 
@@ -239,12 +239,12 @@ flaw-mark n b (Mark.Meta ticks kind bytes) behind tick place end = refl
 flaw-mark n b (Mark.Exclusive ticks status bytes) behind tick place end = refl
 
 -- nor is an end of track
-flaw-end : (n : ℕ) (b : List ℕ) (tick place end : ℕ) → flawFrom (suc n) b (noted End tick place end) ≡ None
+pub flaw-end : (n : ℕ) (b : List ℕ) (tick place end : ℕ) → flawFrom (suc n) b (noted End tick place end) ≡ None
 unfolding flawFrom
 flaw-end n b tick place end = refl
 
 -- nothing is behind it
-end-last : (n : ℕ) (b : List ℕ) (tick place end : ℕ) → entriesFrom n b (advancedOf b (noted End tick place end)) ≡ []
+pub end-last : (n : ℕ) (b : List ℕ) (tick place end : ℕ) → entriesFrom n b (advancedOf b (noted End tick place end)) ≡ []
 unfolding advancedOf
 end-last n b tick place end = entries-gone n b (advancedOf b (noted End tick place end)) refl
 

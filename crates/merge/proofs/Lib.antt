@@ -11,3 +11,4 @@ pub mod KeptScoreLaws
 pub mod KeptItemsLaws
 pub mod KeptLaws
 pub mod KeptAgainLaws
+pub mod KeptReadLaws
