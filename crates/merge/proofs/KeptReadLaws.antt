@@ -345,3 +345,188 @@ song-tells (suc n) b c tick held in' enough = go (song-tells n b) (quantityAt b 
     go : TellsFrom n b → (q : Quantity) → quantityAt b (c .end) (c .at) ≡ q → Told n b c tick held
     go more Quantity.Bad q = tells-none n b c tick held q
     go more (Good ticks place) q = tells-item n b c tick held ticks place q (quantity-behind b (c .end) (c .at) ticks place q .0) enough more
+
+-- ---- 4. The head
+
+-- what M-101 makes of a head that is good or refused
+abbrev headBy : List ℕ → Front → Header
+headBy b (Front.Refused number place) = Header.Refused number place
+headBy b (Front.Song count division at) = trackFrom (length b) b at
+
+-- in format 0 the head is M-101's
+front-head : (b : List ℕ) → twoAt b 8 ≡ 0 → headOf b ≡ headBy b (frontOf b)
+unfolding headOf frontOf countNumber
+front-head b z =
+    rw z (go (eqb (fourAt b 0) headName) (ltb (fourAt b 4) 6 || ltb (length b) (chunkEnd b 0)) (eqb (twoAt b 10) 1) (eqb (twoAt b 12) 0) (ltb 32767 (twoAt b 12)))
+  where
+    go : (s t u v x : Bool)
+        → cond (not s) (Header.Refused 9 0)
+        (cond t (Header.Refused 9 4)
+        (cond (not u) (Header.Refused 9 10)
+        (cond v (Header.Refused 9 12)
+        (cond x (Header.Refused 10 12)
+        (trackFrom (length b) b (chunkEnd b 0))))))
+        ≡ headBy b
+        (cond (not s) (Front.Refused 9 0)
+        (cond t (Front.Refused 9 4)
+        (cond (not (eqb (cond u 0 9) 0)) (Front.Refused (cond u 0 9) 10)
+        (cond v (Front.Refused 9 12)
+        (cond x (Front.Refused 10 12)
+        (Front.Song (twoAt b 10) (twoAt b 12) (chunkEnd b 0)))))))
+    go false t u v x = refl
+    go true true u v x = refl
+    go true false false v x = refl
+    go true false true true x = refl
+    go true false true false true = refl
+    go true false true false false = refl
+
+-- a good number of tracks in format 0 is 1
+count-one : (n : ℕ) → countNumber 0 n ≡ 0 → n ≡ 1
+unfolding countNumber
+count-one n e = test (eqb n 1) refl e
+  where
+    test : (t : Bool) → eqb n 1 ≡ t → _≡_ {A = ℕ} (cond t 0 9) 0 → n ≡ 1
+    test true t f = eqb-true n 1 t
+    test false t f = absurd (omega (arith, f))
+
+-- .. with one track, and the same division
+abbrev OneTrack : List ℕ → Front → Type 0
+OneTrack b (Front.Refused number place) = Unit {0}
+OneTrack b (Front.Song count division at) = (count ≡ 1) × (division ≡ twoAt b 12)
+
+front-one : (b : List ℕ) → twoAt b 8 ≡ 0 → OneTrack b (frontOf b)
+unfolding frontOf
+front-one b z =
+    let P = OneTrack b in
+    either P (not (eqb (fourAt b 0) headName)) _ _ (λ e. tt)
+    (λ e. either P (ltb (fourAt b 4) 6 || ltb (length b) (chunkEnd b 0)) _ _ (λ f. tt)
+    (λ f. either P (ltb 1 (twoAt b 8)) _ _ (λ g. tt)
+    (λ g. either P (not (eqb (countNumber (twoAt b 8) (twoAt b 10)) 0)) _ _ (λ h. tt)
+    (λ h. either P (eqb (twoAt b 12) 0) _ _ (λ k. tt)
+    (λ k. either P (ltb 32767 (twoAt b 12)) _ _ (λ l. tt)
+    (λ l. (count-one (twoAt b 10) (ap (λ (n : ℕ). countNumber n (twoAt b 10)) (sym z) ∙ eqb-true _ _ (not-false (eqb (countNumber (twoAt b 8) (twoAt b 10)) 0) h)), refl)))))))
+
+-- ---- 5. One track
+
+-- a chunk that is not found is refused by 9
+track-nine : (n : ℕ) (b : List ℕ) (at number place : ℕ) → trackFrom n b at ≡ Header.Refused number place → number ≡ 9
+unfolding trackFrom
+track-nine zero b at number place e = cc
+track-nine (suc n) b at number place e =
+    go (track-nine n b (chunkEnd b at) number place) (ltb (length b) (at + 4)) (ltb (length b) (chunkEnd b at)) (eqb (fourAt b at) trackName) e
+  where
+    go : (trackFrom n b (chunkEnd b at) ≡ Header.Refused number place → number ≡ 9) → (s t u : Bool)
+        → cond s (Header.Refused 9 at) (cond t (Header.Refused 9 (at + 4)) (cond u (Header.Track (at + 8) (chunkEnd b at)) (trackFrom n b (chunkEnd b at)))) ≡ Header.Refused number place → number ≡ 9
+    go more true t u e = cc
+    go more false true u e = cc
+    go more false false true e = let z : _≡_ {A = ℕ} 0 1 = cc in absurd (omega arith)
+    go more false false false e = more e
+
+-- one that is found begins in front of its end
+track-begins : (n : ℕ) (b : List ℕ) (at begin end : ℕ) → trackFrom n b at ≡ Header.Track begin end → (at ≤ begin) × (begin ≤ end)
+unfolding trackFrom
+track-begins zero b at begin end e = let z : _≡_ {A = ℕ} 0 1 = cc in absurd (omega arith)
+track-begins (suc n) b at begin end e =
+    go (track-begins n b (chunkEnd b at) begin end) (ltb (length b) (at + 4)) (ltb (length b) (chunkEnd b at)) (eqb (fourAt b at) trackName) e
+  where
+    go : (trackFrom n b (chunkEnd b at) ≡ Header.Track begin end → (chunkEnd b at ≤ begin) × (begin ≤ end)) → (s t u : Bool)
+        → cond s (Header.Refused 9 at) (cond t (Header.Refused 9 (at + 4)) (cond u (Header.Track (at + 8) (chunkEnd b at)) (trackFrom n b (chunkEnd b at)))) ≡ Header.Track begin end
+        → (at ≤ begin) × (begin ≤ end)
+    go more true t u e = let z : _≡_ {A = ℕ} 0 1 = cc in absurd (omega arith)
+    go more false true u e = let z : _≡_ {A = ℕ} 0 1 = cc in absurd (omega arith)
+    go more false false true e =
+        let x : at + 8 ≡ begin = cc in
+        let y : chunkEnd b at ≡ end = cc in
+        let z = end-after b at in
+        (omega (arith, x), omega (arith, x, y, z))
+    go more false false false e = let h = more e in let z = end-after b at in (omega (arith, h, z), h .1)
+
+module _ (b : List ℕ) (at begin end : ℕ) (e : trackFrom (length b) b at ≡ Header.Track begin end) where
+  -- the sequence of one track is the track's, and its fault the track's
+  one-track : (sequenceOf 1 b at ≡ entriesFrom (turns b) b (firstOf b begin end)) × (flawIn 1 b at ≡ flawOf b (firstOf b begin end))
+  unfolding entriesOf lanesFrom flawIn
+  one-track = go (flawOf b (firstOf b begin end)) refl
+    where
+      by : lanesFrom 1 b at ≡ firstOf b begin end ∷ [] → sequenceOf 1 b at ≡ entriesFrom (turns b) b (firstOf b begin end)
+      by l =
+          ap (λ (xs : List Entry). inOrder (entriesOf b xs)) l
+          ∙ ap inOrder (append-nil (entriesFrom (turns b) b (firstOf b begin end)))
+          ∙ order-stays (entriesFrom (turns b) b (firstOf b begin end)) (track-ordered (turns b) b (firstOf b begin end))
+
+      go : (s : Spot) → flawOf b (firstOf b begin end) ≡ s → (sequenceOf 1 b at ≡ entriesFrom (turns b) b (firstOf b begin end)) × (flawIn 1 b at ≡ flawOf b (firstOf b begin end))
+      go None f = let l = lanes-on b 0 at begin end e f in (by (l .0), l .1 ∙ sym f)
+      go (At place) f = let l = lanes-flawed b 0 at begin end place e f in (by (l .0), l .1 ∙ sym f)
+
+  -- what its song tells
+  one-tells : (song : Song) → songFrom (turns b) b (startAt b begin end) ≡ song → Tells (twoAt b 12) 0 500000 0 song (sequenceOf 1 b at) (flawIn 1 b at)
+  one-tells song s =
+      let o = one-track in
+      let begins = track-begins (length b) b at begin end e in
+      let held = track-held (length b) b at begin end e in
+      tells-by (twoAt b 12) 0 500000 0 song _ _ _ _ _ (sym s) (o .0) (o .1) (song-tells (turns b) b (startAt b begin end) 0 held (begins .1) (omega (arith, held, begins)))
+
+-- ---- 6. What is promised
+
+-- the events of a file of format 0 are those that M-101 gives
+pub same-as-read : SameAsRead
+same-as-read b es count division at z e f =
+    let t = has-track b es e in
+    let one = subst (λ (x : Front). OneTrack b x) f (front-one b z) in
+    let track : trackFrom (length b) b at ≡ Header.Track (t .at) (t .end) = sym (front-head b z ∙ ap (headBy b) f) ∙ t .head in
+    let song = sym (events-is b (t .at) (t .end) (t .short) (t .head)) ∙ e in
+    let told = one-tells b at (t .at) (t .end) track (Events es) song in
+    rw (one .0, one .1) (told .0)
+
+-- a head that is refused refuses the file
+events-refused : (b : List ℕ) (number place : ℕ) → length b ≤ 65536 → headOf b ≡ Header.Refused number place → eventsOf b ≡ Refused number place
+unfolding eventsOf
+events-refused b number place h e = rw (le-ltb _ _ h) (rw (e, eventsOf) refl)
+
+-- the same refusal
+same-refusal : (n p number place : ℕ) → Refused n p ≡ Refused number place → (n ≡ number) × (p ≡ place)
+same-refusal n p number place e = (cc, cc)
+
+module _ (b : List ℕ) (number place room : ℕ) (short : length b ≤ 65536) (z : twoAt b 8 ≡ 0) (e : eventsOf b ≡ Refused number place) where
+  -- by the head
+  refused-head : (n p : ℕ) → frontOf b ≡ Front.Refused n p → mergedOf b room ≡ Outcome.Refused number place
+  refused-head n p f =
+      let s = same-refusal n p number place (sym (events-refused b n p short (front-head b z ∙ ap (headBy b) f)) ∙ e) in
+      merged-refused b room n p (omega (arith, short)) f ∙ rw (s .0, s .1) refl
+
+  module _ (count division at : ℕ) (f : frontOf b ≡ Front.Song count division at) where
+    one : OneTrack b (Front.Song count division at)
+    one = subst (λ (x : Front). OneTrack b x) f (front-one b z)
+
+    joined-is : mergedOf b room ≡ joinedOf b 1 (twoAt b 12) at room
+    joined-is = merged-by b room count division at (omega (arith, short)) f ∙ rw (one .0, one .1) refl
+
+    -- where no track is found
+    refused-cut : (n p : ℕ) → trackFrom (length b) b at ≡ Header.Refused n p → mergedOf b room ≡ Outcome.Refused number place
+    unfolding joinedOf entriesOf inOrder
+    refused-cut n p t =
+        let s = same-refusal n p number place (sym (events-refused b n p short (front-head b z ∙ ap (headBy b) f ∙ t)) ∙ e) in
+        let nine = track-nine (length b) b at n p t in
+        let l = lanes-cut b 0 at n p t in
+        let late = late-empty (twoAt b 12) 0 500000 0 in
+        let is : 9 ≡ number = sym nine ∙ s .0 in
+        joined-is ∙ rw (l .0, l .1, late, s .1, is) refl
+
+    -- by the track
+    refused-track : (begin end : ℕ) → trackFrom (length b) b at ≡ Header.Track begin end → mergedOf b room ≡ Outcome.Refused number place
+    unfolding joinedOf
+    refused-track begin end t =
+        let song = sym (events-is b begin end short (front-head b z ∙ ap (headBy b) f ∙ t)) ∙ e in
+        let told = one-tells b at begin end t (Refused number place) song in
+        ⊎-elim (λ x. joined-is ∙ rw (x .0, x .1, x .2) refl) (λ x. joined-is ∙ rw (x .0, x .1) refl) told
+
+    refused-song : (h : Header) → trackFrom (length b) b at ≡ h → mergedOf b room ≡ Outcome.Refused number place
+    refused-song (Header.Refused n p) t = refused-cut n p t
+    refused-song (Header.Track begin end) t = refused-track begin end t
+
+  refused-by : (x : Front) → frontOf b ≡ x → mergedOf b room ≡ Outcome.Refused number place
+  refused-by (Front.Refused n p) f = refused-head n p f
+  refused-by (Front.Song count division at) f = refused-song count division at f (trackFrom (length b) b at) refl
+
+-- and what M-101 refuses is refused in the same way
+pub refused-as-read : RefusedAsRead
+refused-as-read b number place room short z e = refused-by b number place room short z e (frontOf b) refl
