@@ -26,9 +26,12 @@ use Rattle.merge.specs.Order.{inserted, inOrder}
 use Rattle.merge.specs.Merging.{sequenceOf}
 use Rattle.smf.specs.declared.Header.{Header}
 use Rattle.smf.specs.declared.Header.the-variants.{Refused, Track}
-use Rattle.smf.specs.Head.{trackFrom}
+use Rattle.smf.specs.Quantities.{fourAt}
+use Rattle.smf.specs.Head.{trackName, chunkEnd, trackFrom}
+use Rattle.smf.proofs.HeadLaws.{end-after}
+use Rattle.merge.proofs.KeptOrderLaws.{Each, each-append, each-so, each-order}
 use Rattle.merge.proofs.EntriesLaws.{settled-bad, settled-good, on-bad, on-end, on-passed, on-tempo, on-channel}
-use Rattle.merge.proofs.LanesLaws.{lanes-cut, lanes-flawed, lanes-on}
+use Rattle.merge.proofs.LanesLaws.{track-held, lanes-cut, lanes-flawed, lanes-on}
 use Rattle.merge.proofs.KeptScoreLaws.{Fair, AllFair}
 
 -- each byte of a file, and what is read past its end
@@ -129,57 +132,66 @@ module _ (b : List ℕ) (a : AllBytes b) where
       go (Tempo tempo behind) p = rw (on-tempo b e tempo behind p) (settled-fair (e .end) 0 behind (e .tick))
       go (Channel status first second behind) p = rw (on-channel b e status first second behind p) (settled-fair (e .end) status behind (e .tick))
 
-  -- all of a track
-  track-fair : (n : ℕ) (e : Entry) → Fair (e .item) → AllFair (entriesFrom n b e)
-  unfolding entriesFrom
-  track-fair zero e f = tt
-  track-fair (suc n) e f = go (track-fair n (advancedOf b e) (advanced-fair e)) (isBad (e .item))
-    where
-      go : AllFair (entriesFrom n b (advancedOf b e)) → (t : Bool) → AllFair (cond t [] (e ∷ entriesFrom n b (advancedOf b e)))
-      go more true = tt
-      go more false = (f, more)
-
 -- ---- 3. The sequence
 
-fair-append : (xs ys : List Entry) → AllFair xs → AllFair ys → AllFair (xs ++ ys)
-fair-append [] ys p q = q
-fair-append (x ∷ xs) ys p q = (p .0, fair-append xs ys (p .1) q)
-
-fair-inserted : (e : Entry) (es : List Entry) → Fair (e .item) → AllFair es → AllFair (inserted e es)
-unfolding inserted
-fair-inserted e [] f k = (f, tt)
-fair-inserted e (x ∷ xs) f k = go (fair-inserted e xs f (k .1)) (leb (e .tick) (x .tick))
+-- a track that is found begins in front of its end
+pub track-begins : (n : ℕ) (b : List ℕ) (at begin end : ℕ) → trackFrom n b at ≡ Track begin end → (at ≤ begin) × (begin ≤ end)
+unfolding trackFrom
+track-begins zero b at begin end e = let z : _≡_ {A = ℕ} 0 1 = cc in absurd (omega arith)
+track-begins (suc n) b at begin end e =
+    go (track-begins n b (chunkEnd b at) begin end) (ltb (length b) (at + 4)) (ltb (length b) (chunkEnd b at)) (eqb (fourAt b at) trackName) e
   where
-    go : AllFair (inserted e xs) → (t : Bool) → AllFair (cond t (e ∷ x ∷ xs) (x ∷ inserted e xs))
-    go more true = (f, k)
-    go more false = (k .0, more)
+    go : (trackFrom n b (chunkEnd b at) ≡ Track begin end → (chunkEnd b at ≤ begin) × (begin ≤ end)) → (s t u : Bool)
+        → cond s (Refused 9 at) (cond t (Refused 9 (at + 4)) (cond u (Track (at + 8) (chunkEnd b at)) (trackFrom n b (chunkEnd b at)))) ≡ Track begin end
+        → (at ≤ begin) × (begin ≤ end)
+    go more true t u e = let z : _≡_ {A = ℕ} 0 1 = cc in absurd (omega arith)
+    go more false true u e = let z : _≡_ {A = ℕ} 0 1 = cc in absurd (omega arith)
+    go more false false true e =
+        let x : at + 8 ≡ begin = cc in
+        let y : chunkEnd b at ≡ end = cc in
+        let z = end-after b at in
+        (omega (arith, x), omega (arith, x, y, z))
+    go more false false false e = let h = more e in let z = end-after b at in (omega (arith, h, z), h .1)
 
-fair-order : (es : List Entry) → AllFair es → AllFair (inOrder es)
-unfolding inOrder
-fair-order [] k = tt
-fair-order (e ∷ es) k = fair-inserted e (inOrder es) (k .0) (fair-order es (k .1))
+-- what is so of an entry and goes on is so of each event of its track
+each-track : (P : Entry → Type 0) (n : ℕ) (b : List ℕ) (e : Entry) → ((x : Entry) → P x → P (advancedOf b x)) → P e → Each (λ (x : Entry). P x × (isBad (x .item) ≡ false)) (entriesFrom n b e)
+unfolding entriesFrom
+each-track P zero b e on p = tt
+each-track P (suc n) b e on p = go (each-track P n b (advancedOf b e) on (on e p)) (isBad (e .item)) refl
+  where
+    go : Each (λ (x : Entry). P x × (isBad (x .item) ≡ false)) (entriesFrom n b (advancedOf b e)) → (t : Bool) → isBad (e .item) ≡ t
+        → Each (λ (x : Entry). P x × (isBad (x .item) ≡ false)) (cond t [] (e ∷ entriesFrom n b (advancedOf b e)))
+    go more true t = tt
+    go more false t = ((p, t), more)
 
-module _ (b : List ℕ) (a : AllBytes b) where
-  -- the events of some tracks
-  tracks-fair : (es : List Entry) → AllFair es → AllFair (entriesOf b es)
-  unfolding entriesOf
-  tracks-fair [] k = tt
-  tracks-fair (e ∷ es) k = fair-append (entriesFrom (turns b) b e) (entriesOf b es) (track-fair b a (turns b) e (k .0)) (tracks-fair es (k .1))
-
-  -- the first event of each track
-  lanes-fair : (n at : ℕ) → AllFair (lanesFrom n b at)
+module _ (P : Entry → Type 0) (b : List ℕ) (start : (begin end : ℕ) → begin ≤ end → end ≤ length b → P (firstOf b begin end)) (on : (x : Entry) → P x → P (advancedOf b x)) where
+  -- of the first event of each track
+  each-lane : (n at : ℕ) → Each P (lanesFrom n b at)
   unfolding lanesFrom
-  lanes-fair zero at = tt
-  lanes-fair (suc n) at = go (lanes-fair n) (trackFrom (length b) b at) refl
+  each-lane zero at = tt
+  each-lane (suc n) at = go (each-lane n) (trackFrom (length b) b at) refl
     where
-      by : (begin end : ℕ) → trackFrom (length b) b at ≡ Track begin end → AllFair (lanesFrom n b end) → (s : Spot) → flawOf b (firstOf b begin end) ≡ s → AllFair (lanesFrom (suc n) b at)
-      by begin end e more None f = rw (lanes-on b n at begin end e f .0) (settled-fair b a end 0 begin 0, more)
-      by begin end e more (At place) f = rw (lanes-flawed b n at begin end place e f .0) (settled-fair b a end 0 begin 0, tt)
+      by : (begin end : ℕ) → trackFrom (length b) b at ≡ Track begin end → Each P (lanesFrom n b end) → (s : Spot) → flawOf b (firstOf b begin end) ≡ s → Each P (lanesFrom (suc n) b at)
+      by begin end e more None f = rw (lanes-on b n at begin end e f .0) (start begin end (track-begins (length b) b at begin end e .1) (track-held (length b) b at begin end e), more)
+      by begin end e more (At place) f = rw (lanes-flawed b n at begin end place e f .0) (start begin end (track-begins (length b) b at begin end e .1) (track-held (length b) b at begin end e), tt)
 
-      go : ((from : ℕ) → AllFair (lanesFrom n b from)) → (h : Header) → trackFrom (length b) b at ≡ h → AllFair (lanesFrom (suc n) b at)
+      go : ((from : ℕ) → Each P (lanesFrom n b from)) → (h : Header) → trackFrom (length b) b at ≡ h → Each P (lanesFrom (suc n) b at)
       go more (Refused number place) e = rw (lanes-cut b n at number place e .0) tt
       go more (Track begin end) e = by begin end e (more end) (flawOf b (firstOf b begin end)) refl
 
-  -- the one sequence
-  pub sequence-fair : (n at : ℕ) → AllFair (sequenceOf n b at)
-  sequence-fair n at = fair-order (entriesOf b (lanesFrom n b at)) (tracks-fair (lanesFrom n b at) (lanes-fair n at))
+  -- of the events of some tracks
+  each-tracks : (es : List Entry) → Each P es → Each (λ (x : Entry). P x × (isBad (x .item) ≡ false)) (entriesOf b es)
+  unfolding entriesOf
+  each-tracks [] k = tt
+  each-tracks (e ∷ es) k =
+      each-append (λ (x : Entry). P x × (isBad (x .item) ≡ false)) (entriesFrom (turns b) b e) (entriesOf b es) (each-track P (turns b) b e on (k .0)) (each-tracks es (k .1))
+
+  -- of the one sequence
+  pub each-sequence : (n at : ℕ) → Each (λ (x : Entry). P x × (isBad (x .item) ≡ false)) (sequenceOf n b at)
+  each-sequence n at = each-order (λ (x : Entry). P x × (isBad (x .item) ≡ false)) (entriesOf b (lanesFrom n b at)) (each-tracks (lanesFrom n b at) (each-lane n at))
+
+-- its numbers are those that a mark can have
+pub sequence-fair : (b : List ℕ) → AllBytes b → (n at : ℕ) → AllFair (sequenceOf n b at)
+sequence-fair b a n at =
+    let P : Entry → Type 0 = λ x. Fair (x .item) in
+    each-so (λ (x : Entry). P x × (isBad (x .item) ≡ false)) P (sequenceOf n b at) (λ x p. p .0) (each-sequence P b (λ begin end h k. settled-fair b a end 0 begin 0) (λ x p. advanced-fair b a x) n at)

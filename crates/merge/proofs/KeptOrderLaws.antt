@@ -6,6 +6,7 @@ use Prim.Native.Nat.{ℕ, zero, suc, _<_, _≤_}
 use native.Mathlib.Omega.{arith}
 use borrow.Author.Tests.{leb-true, leb-false, eqb-true, ne-eqb, le-leb}
 use lib.Dec.{leb, eqb}
+use lib.ListN.{length}
 use Rattle.merge.specs.declared.Entry.{Entry}
 use Rattle.merge.specs.Order.{inserted, inOrder}
 use Rattle.merge.specs.Kept.{NoneBefore, TicksRise, onTick, InSequence}
@@ -81,3 +82,48 @@ pub order-stays : (es : List Entry) → TicksRise es → inOrder es ≡ es
 unfolding inOrder
 order-stays [] r = refl
 order-stays (e ∷ es) r = ap (inserted e) (order-stays es (r .1)) ∙ first-stays e es (r .0)
+
+-- something is so of each of some events
+abbrev pub Each : (Entry → Type 0) → List Entry → Type 0
+Each P [] = Unit {0}
+Each P (e ∷ es) = P e × Each P es
+
+-- .. of two lists
+pub each-append : (P : Entry → Type 0) (xs ys : List Entry) → Each P xs → Each P ys → Each P (xs ++ ys)
+each-append P [] ys p q = q
+each-append P (x ∷ xs) ys p q = (p .0, each-append P xs ys (p .1) q)
+
+-- what follows from it
+pub each-so : (P Q : Entry → Type 0) (es : List Entry) → ((e : Entry) → P e → Q e) → Each P es → Each Q es
+each-so P Q [] f p = tt
+each-so P Q (e ∷ es) f p = (f e (p .0), each-so P Q es f (p .1))
+
+-- in order it is still so
+each-inserted : (P : Entry → Type 0) (e : Entry) (es : List Entry) → P e → Each P es → Each P (inserted e es)
+unfolding inserted
+each-inserted P e [] f k = (f, tt)
+each-inserted P e (x ∷ xs) f k = go (each-inserted P e xs f (k .1)) (leb (e .tick) (x .tick))
+  where
+    go : Each P (inserted e xs) → (t : Bool) → Each P (cond t (e ∷ x ∷ xs) (x ∷ inserted e xs))
+    go more true = (f, k)
+    go more false = (k .0, more)
+
+pub each-order : (P : Entry → Type 0) (es : List Entry) → Each P es → Each P (inOrder es)
+unfolding inOrder
+each-order P [] k = tt
+each-order P (e ∷ es) k = each-inserted P e (inOrder es) (k .0) (each-order P es (k .1))
+
+-- none is lost or added
+length-inserted : (e : Entry) (es : List Entry) → length (inserted e es) ≡ suc (length es)
+unfolding inserted
+length-inserted e [] = refl
+length-inserted e (x ∷ xs) = go (length-inserted e xs) (leb (e .tick) (x .tick))
+  where
+    go : length (inserted e xs) ≡ suc (length xs) → (t : Bool) → length (cond t (e ∷ x ∷ xs) (x ∷ inserted e xs)) ≡ suc (suc (length xs))
+    go more true = refl
+    go more false = ap suc more
+
+pub length-order : (es : List Entry) → length (inOrder es) ≡ length es
+unfolding inOrder
+length-order [] = refl
+length-order (e ∷ es) = length-inserted e (inOrder es) ∙ ap suc (length-order es)

@@ -22,7 +22,6 @@ use Rattle.smf.specs.Items.{itemAt}
 use Rattle.smf.specs.Ticks.{sumAfter, isLate, frameOf}
 use Rattle.smf.specs.Track.{Song, Events, Refused, edgeOf, isBad, carried, eventOf, acted, obeyed, meetAt, behindEvent, songFrom}
 use Rattle.smf.specs.Songs.{startAt, turns, eventsOf}
-use Rattle.smf.proofs.HeadLaws.{end-after}
 use Rattle.smf.proofs.ItemsLaws.{either, Placed, item-placed}
 use Rattle.smf.proofs.MeetingLaws.{meet-bad, meet-good}
 use Rattle.smf.proofs.QuantitiesLaws.{quantity-behind}
@@ -44,6 +43,7 @@ use Rattle.merge.proofs.EntriesLaws.{settled-bad, settled-good, seated-
 use Rattle.merge.proofs.LanesLaws.{track-held, lanes-cut, lanes-flawed, lanes-on}
 use Rattle.merge.proofs.OrderLaws.{AtLeast, track-rises}
 use Rattle.merge.proofs.KeptOrderLaws.{order-stays}
+use Rattle.merge.proofs.KeptItemsLaws.{track-begins}
 use Rattle.merge.proofs.KeptLaws.{merged-by, merged-refused}
 use Rattle.merge.proofs.KeptAgainLaws.{sum-on, late-empty, end-last, flaw-end}
 
@@ -421,25 +421,6 @@ track-nine (suc n) b at number place e =
     go more false true u e = cc
     go more false false true e = let z : _≡_ {A = ℕ} 0 1 = cc in absurd (omega arith)
     go more false false false e = more e
-
--- one that is found begins in front of its end
-track-begins : (n : ℕ) (b : List ℕ) (at begin end : ℕ) → trackFrom n b at ≡ Header.Track begin end → (at ≤ begin) × (begin ≤ end)
-unfolding trackFrom
-track-begins zero b at begin end e = let z : _≡_ {A = ℕ} 0 1 = cc in absurd (omega arith)
-track-begins (suc n) b at begin end e =
-    go (track-begins n b (chunkEnd b at) begin end) (ltb (length b) (at + 4)) (ltb (length b) (chunkEnd b at)) (eqb (fourAt b at) trackName) e
-  where
-    go : (trackFrom n b (chunkEnd b at) ≡ Header.Track begin end → (chunkEnd b at ≤ begin) × (begin ≤ end)) → (s t u : Bool)
-        → cond s (Header.Refused 9 at) (cond t (Header.Refused 9 (at + 4)) (cond u (Header.Track (at + 8) (chunkEnd b at)) (trackFrom n b (chunkEnd b at)))) ≡ Header.Track begin end
-        → (at ≤ begin) × (begin ≤ end)
-    go more true t u e = let z : _≡_ {A = ℕ} 0 1 = cc in absurd (omega arith)
-    go more false true u e = let z : _≡_ {A = ℕ} 0 1 = cc in absurd (omega arith)
-    go more false false true e =
-        let x : at + 8 ≡ begin = cc in
-        let y : chunkEnd b at ≡ end = cc in
-        let z = end-after b at in
-        (omega (arith, x), omega (arith, x, y, z))
-    go more false false false e = let h = more e in let z = end-after b at in (omega (arith, h, z), h .1)
 
 module _ (b : List ℕ) (at begin end : ℕ) (e : trackFrom (length b) b at ≡ Header.Track begin end) where
   -- the sequence of one track is the track's, and its fault the track's

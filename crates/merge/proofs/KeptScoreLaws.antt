@@ -20,6 +20,7 @@ use Rattle.merge.specs.Bridges.{bridgesOf, restOf, bridged}
 use Rattle.merge.specs.Marks.{endFrom, marksFrom, lastFrom, scoreOf}
 use Rattle.merge.specs.Kept.{NoneBefore, TicksRise}
 use Rattle.merge.proofs.BridgesLaws.{bridges-most, rest-small}
+use Rattle.merge.proofs.KeptOrderLaws.{Each}
 
 -- ---- 1. Sums of ticks
 
@@ -269,8 +270,7 @@ Fair (Channel status first second behind) = (128 ≤ status) × (status ≤ 239)
 
 -- .. of each of some events
 abbrev pub AllFair : List Entry → Type 0
-AllFair [] = Unit {0}
-AllFair (e ∷ es) = Fair (e .item) × AllFair es
+AllFair es = Each (λ (e : Entry). Fair (e .item)) es
 
 -- a mark that is a tempo change or a channel event
 abbrev pub Plain : Mark → Type 0
