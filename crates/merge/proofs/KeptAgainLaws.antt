@@ -211,7 +211,7 @@ read-rise (m ∷ ms) last tick (e ∷ es) r =
 -- ---- 4. The track is read back
 
 -- a fault has nothing behind it
-entries-gone : (n : ℕ) (b : List ℕ) (e : Entry) → isBad (e .item) ≡ true → entriesFrom n b e ≡ []
+pub entries-gone : (n : ℕ) (b : List ℕ) (e : Entry) → isBad (e .item) ≡ true → entriesFrom n b e ≡ []
 unfolding entriesFrom
 entries-gone zero b e i = refl
 entries-gone (suc n) b e i = rw i refl

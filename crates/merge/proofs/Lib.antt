@@ -12,3 +12,5 @@ pub mod KeptItemsLaws
 pub mod KeptLaws
 pub mod KeptAgainLaws
 pub mod KeptReadLaws
+pub mod KeptLengthLaws
+pub mod KeptShownLaws
