@@ -1,47 +1,42 @@
 -- What was written is read back as the sequence of its own marks, so that merging it again changes no byte.
-use mathlib.Core.Bool.{Bool, true, false, cond, not, _&&_}
+use mathlib.Core.Bool.{Bool, true, false, not, _&&_}
 use mathlib.Core.List.{List, [], _∷_, _++_, append-nil}
 use mathlib.Core.Path.{_≡_, refl, sym, ap, ap₂, subst, _∙_}
 use Prim.Native.Nat.{ℕ, zero, suc, _+_, _*_, _-_, _<_, _≤_}
 use native.Mathlib.Nat.{not-suc-le-zero, le-of-suc-le-suc}
 use native.Mathlib.Omega.{arith}
-use borrow.Author.Tests.{ltb-false, ltb-true, le-ltb, lt-ltb, eq-eqb, not-true}
-use lib.Dec.{ltb, eqb}
+use borrow.Author.Tests.{le-ltb, not-true}
 use lib.ListN.{length, drop}
-use Rattle.arith.specs.Bytes.{AllBytes}
 use Rattle.smf.specs.declared.Header.{Header}
 use Rattle.smf.specs.declared.Item.{Item}
-use Rattle.smf.specs.declared.Item.the-variants.{Bad, End, Passed, Tempo, Channel}
-use Rattle.smf.specs.Quantities.{twoAt, fourAt}
+use Rattle.smf.specs.declared.Item.the-variants.{End, Tempo, Channel}
 use Rattle.smf.specs.Head.{chunkEnd, trackFrom}
-use Rattle.smf.specs.Items.{itemAt}
 use Rattle.smf.specs.Ticks.{isLate}
 use Rattle.smf.specs.Track.{isBad}
 use Rattle.smf.specs.Songs.{turns}
-use Rattle.smf.specs.Spelling.{Mark, Score, GoodMark, GoodMarks, GoodScore, ticksOf, tempoBehind, runningBehind, inTimeFrom, inTime, eventBytes, trackBytes, trackOf, fileBytes}
-use Rattle.smf.proofs.HeadLaws.{Named, Held, track-found, track-turn}
-use Rattle.smf.proofs.SpellingLaws.{Quantity-read, read-quantity, end-read, itemOf, Mark-read, mark-read, mark-good, ticks-good, marks-fit, Written, written}
+use Rattle.smf.specs.Spelling.{Mark, Score, GoodMarks, GoodScore, ticksOf, tempoBehind, runningBehind, inTimeFrom, inTime, eventBytes, trackBytes, trackOf, fileBytes}
+use Rattle.smf.proofs.HeadLaws.{Held, track-found, track-turn}
+use Rattle.smf.proofs.SpellingLaws.{read-quantity, end-read, itemOf, mark-read, mark-good, ticks-good, marks-fit, Written, written}
 use Rattle.merge.specs.declared.Entry.{Entry}
 use Rattle.merge.specs.declared.Front.{Front}
-use Rattle.merge.specs.declared.Spot.{Spot}
-use Rattle.merge.specs.declared.Spot.the-variants.{None, At}
+use Rattle.merge.specs.declared.Spot.the-variants.{None}
 use Rattle.merge.specs.Fronts.{countNumber, frontOf}
 use Rattle.merge.specs.Entries.{noted, settledAt, advancedOf, entriesFrom, flawFrom}
 use Rattle.merge.specs.Lanes.{firstOf, flawOf, lanesFrom, flawIn, entriesOf}
-use Rattle.merge.specs.Lateness.{tempoAfter, sumAt, nearer, lateFrom, lateOf}
+use Rattle.merge.specs.Lateness.{tempoAfter, sumAt, lateFrom}
 use Rattle.merge.specs.Bridges.{bridgesOf, restOf, bridged}
 use Rattle.merge.specs.Order.{inOrder}
 use Rattle.merge.specs.Marks.{endFrom, marksFrom, lastFrom, scoreOf}
-use Rattle.merge.specs.Merging.{Outcome, sequenceOf, fileOf, fitted, judged, joinedOf, mergedOf}
+use Rattle.merge.specs.Merging.{Outcome, sequenceOf, fileOf, fitted, joinedOf, mergedOf}
 use Rattle.merge.specs.Kept.{NoneBefore, TicksRise, MergedAgain}
 use Rattle.merge.proofs.BridgesLaws.{no-bridges, rest-whole}
-use Rattle.merge.proofs.FrontsLaws.{Formed, Counted, front-good}
-use Rattle.merge.proofs.EntriesLaws.{settled-good, on-tempo, on-channel}
+use Rattle.merge.proofs.FrontsLaws.{Counted, front-good}
+use Rattle.merge.proofs.EntriesLaws.{settled-good}
 use Rattle.merge.proofs.LanesLaws.{lanes-on}
 use Rattle.merge.proofs.KeptOrderLaws.{none-before, order-rises, order-stays}
-use Rattle.merge.proofs.KeptScoreLaws.{adds-tempo, adds-channel, adds-end, adds-none, AllFair, Plain, AllPlain, plain-good, score-good, score-plain, score-in-time}
+use Rattle.merge.proofs.KeptScoreLaws.{adds-tempo, adds-channel, adds-end, adds-none, AllPlain, score-plain, score-in-time}
 use Rattle.merge.proofs.KeptItemsLaws.{sequence-fair}
-use Rattle.merge.proofs.KeptLaws.{never-written, Joined, joined-by, merged-by, merged-refused, merged-short, song-good}
+use Rattle.merge.proofs.KeptLaws.{never-written, joined-by, merged-by, merged-refused, merged-short, song-good}
 
 -- ---- 1. Events that are marks
 

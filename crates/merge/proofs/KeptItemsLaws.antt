@@ -1,12 +1,11 @@
 -- Every event of a sequence has numbers that a mark can have.
 use mathlib.Core.Bool.{Bool, true, false, cond, _||_}
-use mathlib.Core.List.{List, [], _∷_, _++_}
-use mathlib.Core.Path.{_≡_, refl, sym, ap, subst, _∙_}
-use Prim.Native.Nat.{ℕ, zero, suc, _+_, _*_, _<_, _≤_}
-use native.Mathlib.Nat.{le-of-suc-le-suc}
+use mathlib.Core.List.{List, [], _∷_}
+use mathlib.Core.Path.{_≡_, refl}
+use Prim.Native.Nat.{ℕ, zero, suc, _+_, _<_, _≤_}
 use native.Mathlib.Omega.{arith}
 use lib.Dec.{ltb, eqb, leb}
-use lib.ListN.{length, getD}
+use lib.ListN.{length}
 use Rattle.arith.specs.Bytes.{AllBytes, u8At}
 use Rattle.smf.specs.declared.Item.{Item}
 use Rattle.smf.specs.declared.Item.the-variants.{Bad, End, Passed, Tempo, Channel}
@@ -22,7 +21,6 @@ use Rattle.merge.specs.Entries.{settledAt, advancedOf, entriesFrom}
 use Rattle.merge.specs.Lanes.{lanesFrom, entriesOf, firstOf, flawOf}
 use Rattle.merge.specs.declared.Spot.{Spot}
 use Rattle.merge.specs.declared.Spot.the-variants.{None, At}
-use Rattle.merge.specs.Order.{inserted, inOrder}
 use Rattle.merge.specs.Merging.{sequenceOf}
 use Rattle.smf.specs.declared.Header.{Header}
 use Rattle.smf.specs.declared.Header.the-variants.{Refused, Track}

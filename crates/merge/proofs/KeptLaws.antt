@@ -1,8 +1,8 @@
 -- What is promised of merging: the events are kept.
 use mathlib.Core.Bool.{Bool, true, false, cond}
-use mathlib.Core.List.{List, [], _∷_, _++_}
+use mathlib.Core.List.{List}
 use mathlib.Core.Path.{_≡_, refl, sym, ap, subst, _∙_}
-use Prim.Native.Nat.{ℕ, zero, suc, _+_, _*_, _<_, _≤_}
+use Prim.Native.Nat.{ℕ, _≤_}
 use native.Mathlib.Omega.{arith}
 use borrow.Author.Tests.{ltb-false, le-ltb}
 use lib.Dec.{ltb}
@@ -10,15 +10,14 @@ use lib.ListN.{length}
 use Rattle.arith.specs.Bytes.{AllBytes}
 use Rattle.smf.specs.Track.{Song, Events}
 use Rattle.smf.specs.Songs.{eventsOf}
-use Rattle.smf.specs.Spelling.{Score, GoodScore, fileBytes, rung, inTime}
+use Rattle.smf.specs.Spelling.{GoodScore, fileBytes}
 use Rattle.smf.proofs.SpellingLaws.{written-is-rung}
-use Rattle.merge.specs.declared.Entry.{Entry}
 use Rattle.merge.specs.declared.Front.{Front}
 use Rattle.merge.specs.declared.Spot.{Spot}
 use Rattle.merge.specs.declared.Spot.the-variants.{None, At}
 use Rattle.merge.specs.Fronts.{frontOf}
 use Rattle.merge.specs.Lanes.{lanesFrom, flawIn, entriesOf}
-use Rattle.merge.specs.Lateness.{lateOf, struckOf}
+use Rattle.merge.specs.Lateness.{lateOf}
 use Rattle.merge.specs.Marks.{scoreOf}
 use Rattle.merge.specs.Merging.{Outcome, Refused, Written, sequenceOf, fileOf, fitted, judged, joinedOf, mergedOf}
 use Rattle.merge.specs.Kept.{EventsKept}

@@ -2,7 +2,7 @@
 use mathlib.Core.Bool.{Bool, true, false, cond, true≢false, _&&_}
 use mathlib.Core.List.{List, [], _∷_, _++_}
 use mathlib.Core.Path.{_≡_, refl, sym, ap, subst, _∙_}
-use Prim.Native.Nat.{ℕ, zero, suc, _+_, _*_, _-_, _/_, _%_, _<_, _≤_}
+use Prim.Native.Nat.{ℕ, zero, suc, _+_, _*_, _-_, _/_, _<_, _≤_}
 use native.Mathlib.Omega.{arith}
 use lib.Dec.{ltb, eqb}
 use lib.ListN.{length, length-append}
@@ -17,22 +17,20 @@ use Rattle.smf.specs.Quantities.{quantityAt}
 use Rattle.smf.specs.Head.{trackFrom}
 use Rattle.smf.specs.Track.{isBad}
 use Rattle.smf.specs.Songs.{turns}
-use Rattle.smf.specs.Spelling.{Mark, Score, hasOne, ticksOf, runningBehind, threeBytes, quantityBytes, statusBytes, dataBytes, eventBytes, trackBytes, trackOf, fileBytes}
+use Rattle.smf.specs.Spelling.{Mark, hasOne, ticksOf, runningBehind, threeBytes, quantityBytes, statusBytes, dataBytes, eventBytes, trackBytes}
 use Rattle.smf.proofs.ItemsLaws.{either}
 use Rattle.smf.proofs.QuantitiesLaws.{quantity-behind, quantity-value}
-use Rattle.smf.proofs.SpellingLaws.{Written, written}
+use Rattle.smf.proofs.SpellingLaws.{written}
 use Rattle.merge.specs.declared.Entry.{Entry}
 use Rattle.merge.specs.declared.Front.{Front}
 use Rattle.merge.specs.declared.Spot.{Spot}
 use Rattle.merge.specs.declared.Spot.the-variants.{None, At}
-use Rattle.merge.specs.Fronts.{frontOf}
-use Rattle.merge.specs.Entries.{gone, settledAt, advancedOf, entriesFrom}
+use Rattle.merge.specs.Entries.{settledAt, advancedOf, entriesFrom}
 use Rattle.merge.specs.Lanes.{firstOf, flawOf, lanesFrom, entriesOf}
-use Rattle.merge.specs.Order.{inOrder}
 use Rattle.merge.specs.Bridges.{bridgesOf, restOf, bridged}
 use Rattle.merge.specs.Marks.{endFrom, marksFrom, lastFrom, scoreOf}
 use Rattle.merge.specs.Merging.{sequenceOf, fileOf}
-use Rattle.merge.specs.Internal.Entries.{EndsIn, Seated, Settled, goesOn}
+use Rattle.merge.specs.Internal.Entries.{EndsIn, Settled, goesOn}
 use Rattle.merge.specs.Kept.{NoneBefore, TicksRise, NeverSoLong}
 use Rattle.merge.proofs.BridgesLaws.{bridges-most}
 use Rattle.merge.proofs.EntriesLaws.{settled-bad, settled-good, settled-none, settled-some, seated-at, gone-settled, going, onward, on-bad, on-end, on-passed, on-tempo, on-channel}

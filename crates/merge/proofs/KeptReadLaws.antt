@@ -1,11 +1,11 @@
 -- A file of format 0 is merged as M-101 reads it: with the same events, or the same refusal.
 use mathlib.Core.Bool.{Bool, true, false, cond, not, _||_}
-use mathlib.Core.List.{List, [], _∷_, _++_, append-nil}
+use mathlib.Core.List.{List, [], _∷_, append-nil}
 use mathlib.Core.Logic.{_⊎_, inl, inr, ⊎-elim}
 use mathlib.Core.Path.{_≡_, refl, sym, ap, subst, _∙_}
-use Prim.Native.Nat.{ℕ, zero, suc, _+_, _*_, _-_, _<_, _≤_, min}
+use Prim.Native.Nat.{ℕ, zero, suc, _+_, _-_, _<_, _≤_}
 use native.Mathlib.Omega.{arith}
-use borrow.Author.Tests.{le-ltb, eqb-true, eqb-false, not-false}
+use borrow.Author.Tests.{le-ltb, eqb-true, not-false}
 use lib.Dec.{ltb, eqb}
 use lib.ListN.{length}
 use Rattle.smf.specs.declared.Cursor.{Cursor}
@@ -25,7 +25,7 @@ use Rattle.smf.specs.Songs.{startAt, turns, eventsOf}
 use Rattle.smf.proofs.ItemsLaws.{either, Placed, item-placed}
 use Rattle.smf.proofs.MeetingLaws.{meet-bad, meet-good}
 use Rattle.smf.proofs.QuantitiesLaws.{quantity-behind}
-use Rattle.smf.proofs.SongsLaws.{events-is, HasTrack, has-track}
+use Rattle.smf.proofs.SongsLaws.{events-is, has-track}
 use Rattle.smf.proofs.TrackLaws.{songBy, song-is}
 use Rattle.merge.specs.declared.Entry.{Entry}
 use Rattle.merge.specs.declared.Front.{Front}
@@ -34,12 +34,12 @@ use Rattle.merge.specs.declared.Spot.the-variants.{None, At}
 use Rattle.merge.specs.Fronts.{countNumber, frontOf}
 use Rattle.merge.specs.Entries.{noted, settledAt, advancedOf, entriesFrom, flawFrom}
 use Rattle.merge.specs.Lanes.{firstOf, flawOf, lanesFrom, flawIn, entriesOf}
-use Rattle.merge.specs.Lateness.{tempoAfter, sumAt, nearer, lateFrom, lateOf, sounding, struckFrom, struckOf}
+use Rattle.merge.specs.Lateness.{tempoAfter, sumAt, nearer, lateFrom, sounding, struckFrom}
 use Rattle.merge.specs.Order.{inOrder}
-use Rattle.merge.specs.Merging.{Outcome, sequenceOf, fileOf, fitted, judged, joinedOf, mergedOf}
+use Rattle.merge.specs.Merging.{Outcome, sequenceOf, joinedOf, mergedOf}
 use Rattle.merge.specs.Internal.Entries.{Seated, goesOn}
 use Rattle.merge.specs.Kept.{NoneBefore, TicksRise, SameAsRead, RefusedAsRead}
-use Rattle.merge.proofs.EntriesLaws.{settled-bad, settled-good, seated-at, onward, on-bad, on-end, on-passed, on-tempo, on-channel}
+use Rattle.merge.proofs.EntriesLaws.{settled-bad, settled-good, seated-at, onward, on-bad, on-end}
 use Rattle.merge.proofs.LanesLaws.{track-held, lanes-cut, lanes-flawed, lanes-on}
 use Rattle.merge.proofs.OrderLaws.{AtLeast, track-rises}
 use Rattle.merge.proofs.KeptOrderLaws.{order-stays}

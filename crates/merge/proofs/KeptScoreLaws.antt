@@ -1,17 +1,16 @@
 -- The score of a sequence keeps its events and its time: bridges change no U, and what is left out adds its ticks to what comes next.
-use mathlib.Core.Bool.{Bool, true, false, cond, not, _&&_, _||_}
-use mathlib.Core.List.{List, [], _∷_, _++_}
-use mathlib.Core.Path.{_≡_, refl, sym, ap, ap₂, subst, _∙_}
+use mathlib.Core.Bool.{Bool, true, false, cond, not, _&&_}
+use mathlib.Core.List.{List, [], _∷_}
+use mathlib.Core.Path.{_≡_, refl, ap, subst, _∙_}
 use Prim.Native.Nat.{ℕ, zero, suc, _+_, _*_, _-_, _<_, _≤_}
 use native.Mathlib.Nat.{add-mul}
 use native.Mathlib.Omega.{arith}
 use borrow.Author.Tests.{ltb-false, le-ltb}
-use lib.Dec.{ltb, eqb, leb}
 use Rattle.smf.specs.declared.Event.{Event}
 use Rattle.smf.specs.declared.Item.{Item}
 use Rattle.smf.specs.declared.Item.the-variants.{Bad, End, Passed, Tempo, Channel}
 use Rattle.smf.specs.Ticks.{isLate, frameOf}
-use Rattle.smf.specs.Spelling.{Mark, Score, GoodMark, GoodMarks, GoodScore, hasOne, rungFrom, inTimeFrom, rung, inTime}
+use Rattle.smf.specs.Spelling.{Mark, GoodMark, GoodMarks, GoodScore, hasOne, rungFrom, inTimeFrom, rung, inTime}
 use Rattle.merge.specs.declared.Entry.{Entry}
 use Rattle.merge.specs.declared.Spot.{Spot}
 use Rattle.merge.specs.declared.Spot.the-variants.{None, At}
