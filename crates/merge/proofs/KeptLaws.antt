@@ -2,9 +2,9 @@
 use mathlib.Core.Bool.{Bool, true, false, cond}
 use mathlib.Core.List.{List}
 use mathlib.Core.Path.{_≡_, refl, sym, ap, subst, _∙_}
-use Prim.Native.Nat.{ℕ, _≤_}
+use Prim.Native.Nat.{ℕ, _<_, _≤_}
 use native.Mathlib.Omega.{arith}
-use borrow.Author.Tests.{ltb-false, le-ltb}
+use borrow.Author.Tests.{ltb-false, lt-ltb, le-ltb}
 use lib.Dec.{ltb}
 use lib.ListN.{length}
 use Rattle.arith.specs.Bytes.{AllBytes}
@@ -64,7 +64,12 @@ pub merged-refused : (b : List ℕ) (room number place : ℕ) → length b ≤ 1
 unfolding mergedOf
 merged-refused b room number place h e = rw (le-ltb _ _ h) (rw (e, mergedOf) refl)
 
--- .. and is not too long
+-- .. or by its length
+pub merged-long : (b : List ℕ) (room : ℕ) → 16777216 < length b → mergedOf b room ≡ Refused 9 16777216
+unfolding mergedOf
+merged-long b room h = rw (lt-ltb _ _ h) refl
+
+-- what is written is of a file that is not too long
 pub merged-short : (b w : List ℕ) (room : ℕ) → mergedOf b room ≡ Written w → length b ≤ 16777216
 unfolding mergedOf
 merged-short b w room e = go (ltb 16777216 (length b)) refl e

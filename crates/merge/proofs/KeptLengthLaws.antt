@@ -2,8 +2,9 @@
 use mathlib.Core.Bool.{Bool, true, false, cond, true≢false, _&&_}
 use mathlib.Core.List.{List, [], _∷_, _++_}
 use mathlib.Core.Path.{_≡_, refl, sym, ap, subst, _∙_}
-use Prim.Native.Nat.{ℕ, zero, suc, _+_, _*_, _-_, _/_, _<_, _≤_}
+use Prim.Native.Nat.{ℕ, zero, suc, _+_, _*_, _-_, _/_, _<_, _≤_, min}
 use native.Mathlib.Omega.{arith}
+use borrow.Author.Tests.{ltb-true, ltb-false, lt-ltb, le-ltb}
 use lib.Dec.{ltb, eqb}
 use lib.ListN.{length, length-append}
 use Rattle.arith.specs.Bytes.{AllBytes}
@@ -26,12 +27,14 @@ use Rattle.merge.specs.declared.Front.{Front}
 use Rattle.merge.specs.declared.Spot.{Spot}
 use Rattle.merge.specs.declared.Spot.the-variants.{None, At}
 use Rattle.merge.specs.Entries.{settledAt, advancedOf, entriesFrom}
-use Rattle.merge.specs.Lanes.{firstOf, flawOf, lanesFrom, entriesOf}
+use Rattle.merge.specs.Fronts.{frontOf}
+use Rattle.merge.specs.Lateness.{lateOf}
+use Rattle.merge.specs.Lanes.{firstOf, flawOf, lanesFrom, flawIn, entriesOf}
 use Rattle.merge.specs.Bridges.{bridgesOf, restOf, bridged}
 use Rattle.merge.specs.Marks.{endFrom, marksFrom, lastFrom, scoreOf}
-use Rattle.merge.specs.Merging.{sequenceOf, fileOf}
+use Rattle.merge.specs.Merging.{Outcome, sequenceOf, fileOf, fitted, judged, joinedOf, roomOf, mergedOf}
 use Rattle.merge.specs.Internal.Entries.{EndsIn, Settled, goesOn}
-use Rattle.merge.specs.Kept.{NoneBefore, TicksRise, NeverSoLong}
+use Rattle.merge.specs.Kept.{NoneBefore, TicksRise, NeverSoLong, RoomIsLength}
 use Rattle.merge.proofs.BridgesLaws.{bridges-most}
 use Rattle.merge.proofs.EntriesLaws.{settled-bad, settled-good, settled-none, settled-some, seated-at, gone-settled, going, onward, on-bad, on-end, on-passed, on-tempo, on-channel}
 use Rattle.merge.proofs.FrontsLaws.{FrontIn, front-in}
@@ -40,6 +43,7 @@ use Rattle.merge.proofs.KeptOrderLaws.{Each, each-so, order-rises, leng
 use Rattle.merge.proofs.KeptScoreLaws.{adds-tempo, adds-channel, adds-end, adds-passed, adds-bad, adds-none}
 use Rattle.merge.proofs.KeptItemsLaws.{byte-at, track-begins, each-sequence}
 use Rattle.merge.proofs.KeptAgainLaws.{entries-gone}
+use Rattle.merge.proofs.KeptLaws.{merged-by, merged-refused, merged-long}
 
 -- ---- 1. How many events there are
 
@@ -288,3 +292,31 @@ never-so-long b count division at a short f =
     track-most es (endFrom 0 es) 0 500000 4503599627370496 0 0 (omega arith) (end-under es 0 4503599627370496 (omega arith) under) (none-negative es) rise under in
     let size = written (λ k. true) (scoreOf division es) .size in
     omega (arith, few, same, most, size, short)
+
+-- ---- 4. The room
+
+-- a room that is held at a length that nothing has
+fitted-held : (room most : ℕ) (bytes : List ℕ) → length bytes ≤ most → fitted (min room most) bytes ≡ fitted room bytes
+unfolding fitted
+fitted-held room most bytes h = go (ltb room (length bytes)) refl
+  where
+    go : (t : Bool) → ltb room (length bytes) ≡ t
+        → cond (ltb (min room most) (length bytes)) (Outcome.Refused 43 0) (Outcome.Written bytes) ≡ cond (ltb room (length bytes)) (Outcome.Refused 43 0) (Outcome.Written bytes)
+    go true t = let l = ltb-true room (length bytes) t in rw (t, lt-ltb (min room most) (length bytes) (omega (arith, l))) refl
+    go false t = let l = ltb-false room (length bytes) t in rw (t, le-ltb (min room most) (length bytes) (omega (arith, l, h))) refl
+
+-- so the 32 bits never refuse a song
+pub room-is-length : RoomIsLength
+unfolding joinedOf
+room-is-length b out a = go (ltb 16777216 (length b)) refl (frontOf b) refl
+  where
+    go : (t : Bool) → ltb 16777216 (length b) ≡ t → (x : Front) → frontOf b ≡ x → mergedOf b (roomOf out) ≡ mergedOf b (length out)
+    go true t x f = let l = ltb-true 16777216 (length b) t in merged-long b (roomOf out) l ∙ sym (merged-long b (length out) l)
+    go false t (Front.Refused number place) f =
+        let l = ltb-false 16777216 (length b) t in
+        merged-refused b (roomOf out) number place l f ∙ sym (merged-refused b (length out) number place l f)
+    go false t (Front.Song count division at) f =
+        let l = ltb-false 16777216 (length b) t in
+        merged-by b (roomOf out) count division at l f
+        ∙ ap (judged (lateOf division (sequenceOf count b at)) (flawIn count b at)) (fitted-held (length out) 4294967317 (fileOf division (sequenceOf count b at)) (never-so-long b count division at a l f))
+        ∙ sym (merged-by b (length out) count division at l f)

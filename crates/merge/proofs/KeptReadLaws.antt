@@ -8,6 +8,7 @@ use native.Mathlib.Omega.{arith}
 use borrow.Author.Tests.{le-ltb, eqb-true, not-false}
 use lib.Dec.{ltb, eqb}
 use lib.ListN.{length}
+use Rattle.arith.specs.Bytes.{AllBytes}
 use Rattle.smf.specs.declared.Cursor.{Cursor}
 use Rattle.smf.specs.declared.Event.{Event}
 use Rattle.smf.specs.declared.Header.{Header}
@@ -36,15 +37,15 @@ use Rattle.merge.specs.Entries.{noted, settledAt, advancedOf, entriesFro
 use Rattle.merge.specs.Lanes.{firstOf, flawOf, lanesFrom, flawIn, entriesOf}
 use Rattle.merge.specs.Lateness.{tempoAfter, sumAt, nearer, lateFrom, sounding, struckFrom}
 use Rattle.merge.specs.Order.{inOrder}
-use Rattle.merge.specs.Merging.{Outcome, sequenceOf, joinedOf, mergedOf}
+use Rattle.merge.specs.Merging.{Outcome, sequenceOf, fileOf, fitted, joinedOf, mergedOf}
 use Rattle.merge.specs.Internal.Entries.{Seated, goesOn}
-use Rattle.merge.specs.Kept.{NoneBefore, TicksRise, SameAsRead, RefusedAsRead}
+use Rattle.merge.specs.Kept.{NoneBefore, TicksRise, SameAsRead, MergedAsRead, RefusedAsRead}
 use Rattle.merge.proofs.EntriesLaws.{settled-bad, settled-good, seated-at, onward, on-bad, on-end}
 use Rattle.merge.proofs.LanesLaws.{track-held, lanes-cut, lanes-flawed, lanes-on}
 use Rattle.merge.proofs.OrderLaws.{AtLeast, track-rises}
 use Rattle.merge.proofs.KeptOrderLaws.{order-stays}
 use Rattle.merge.proofs.KeptItemsLaws.{track-begins}
-use Rattle.merge.proofs.KeptLaws.{merged-by, merged-refused}
+use Rattle.merge.proofs.KeptLaws.{merged-by, merged-refused, events-kept}
 use Rattle.merge.proofs.KeptAgainLaws.{sum-on, late-empty, end-last, flaw-end}
 
 -- ---- 1. Places rise in a track
@@ -467,6 +468,15 @@ events-refused b number place h e = rw (le-ltb _ _ h) (rw (e, eventsOf) refl)
 same-refusal : (n p number place : ℕ) → Refused n p ≡ Refused number place → (n ≡ number) × (p ≡ place)
 same-refusal n p number place e = (cc, cc)
 
+module _ (b : List ℕ) (room : ℕ) (short : length b ≤ 65536) (z : twoAt b 8 ≡ 0) (count division at : ℕ) (f : frontOf b ≡ Front.Song count division at) where
+  -- it has one track
+  has-one : OneTrack b (Front.Song count division at)
+  has-one = subst (λ (x : Front). OneTrack b x) f (front-one b z)
+
+  -- and is merged by it
+  joined-is : mergedOf b room ≡ joinedOf b 1 (twoAt b 12) at room
+  joined-is = merged-by b room count division at (omega (arith, short)) f ∙ rw (has-one .0, has-one .1) refl
+
 module _ (b : List ℕ) (number place room : ℕ) (short : length b ≤ 65536) (z : twoAt b 8 ≡ 0) (e : eventsOf b ≡ Refused number place) where
   -- by the head
   refused-head : (n p : ℕ) → frontOf b ≡ Front.Refused n p → mergedOf b room ≡ Outcome.Refused number place
@@ -475,12 +485,6 @@ module _ (b : List ℕ) (number place room : ℕ) (short : length b ≤ 65536) (
       merged-refused b room n p (omega (arith, short)) f ∙ rw (s .0, s .1) refl
 
   module _ (count division at : ℕ) (f : frontOf b ≡ Front.Song count division at) where
-    one : OneTrack b (Front.Song count division at)
-    one = subst (λ (x : Front). OneTrack b x) f (front-one b z)
-
-    joined-is : mergedOf b room ≡ joinedOf b 1 (twoAt b 12) at room
-    joined-is = merged-by b room count division at (omega (arith, short)) f ∙ rw (one .0, one .1) refl
-
     -- where no track is found
     refused-cut : (n p : ℕ) → trackFrom (length b) b at ≡ Header.Refused n p → mergedOf b room ≡ Outcome.Refused number place
     unfolding joinedOf entriesOf inOrder
@@ -490,7 +494,7 @@ module _ (b : List ℕ) (number place room : ℕ) (short : length b ≤ 65536) (
         let l = lanes-cut b 0 at n p t in
         let late = late-empty (twoAt b 12) 0 500000 0 in
         let is : 9 ≡ number = sym nine ∙ s .0 in
-        joined-is ∙ rw (l .0, l .1, late, s .1, is) refl
+        joined-is b room short z count division at f ∙ rw (l .0, l .1, late, s .1, is) refl
 
     -- by the track
     refused-track : (begin end : ℕ) → trackFrom (length b) b at ≡ Header.Track begin end → mergedOf b room ≡ Outcome.Refused number place
@@ -498,7 +502,8 @@ module _ (b : List ℕ) (number place room : ℕ) (short : length b ≤ 65536) (
     refused-track begin end t =
         let song = sym (events-is b begin end short (front-head b z ∙ ap (headBy b) f ∙ t)) ∙ e in
         let told = one-tells b at begin end t (Refused number place) song in
-        ⊎-elim (λ x. joined-is ∙ rw (x .0, x .1, x .2) refl) (λ x. joined-is ∙ rw (x .0, x .1) refl) told
+        let j = joined-is b room short z count division at f in
+        ⊎-elim (λ x. j ∙ rw (x .0, x .1, x .2) refl) (λ x. j ∙ rw (x .0, x .1) refl) told
 
     refused-song : (h : Header) → trackFrom (length b) b at ≡ h → mergedOf b room ≡ Outcome.Refused number place
     refused-song (Header.Refused n p) t = refused-cut n p t
@@ -508,6 +513,40 @@ module _ (b : List ℕ) (number place room : ℕ) (short : length b ≤ 65536) (
   refused-by (Front.Refused n p) f = refused-head n p f
   refused-by (Front.Song count division at) f = refused-song count division at f (trackFrom (length b) b at) refl
 
--- and what M-101 refuses is refused in the same way
+-- what M-101 refuses is refused in the same way
 pub refused-as-read : RefusedAsRead
 refused-as-read b number place room short z e = refused-by b number place room short z e (frontOf b) refl
+
+module _ (b : List ℕ) (es : List Event) (room : ℕ) (a : AllBytes b) (z : twoAt b 8 ≡ 0) (e : eventsOf b ≡ Events es) where
+  -- for want of room, or else with its events
+  abbrev Merges : Type 0
+  Merges = (mergedOf b room ≡ Outcome.Refused 43 0) ⊎ ((w : List ℕ) × (mergedOf b room ≡ Outcome.Written w) × (length w ≤ 65536 → eventsOf w ≡ Events es))
+
+  merges-fitted : (count division at : ℕ) → frontOf b ≡ Front.Song count division at → (bytes : List ℕ) → mergedOf b room ≡ fitted room bytes → Merges
+  unfolding fitted
+  merges-fitted count division at f bytes m = go (ltb room (length bytes)) m
+    where
+      go : (t : Bool) → mergedOf b room ≡ cond t (Outcome.Refused 43 0) (Outcome.Written bytes) → Merges
+      go true m = inl m
+      go false m = inr (bytes, m, λ h. events-kept b bytes room count division at a f m h ∙ ap Events (same-as-read b es count division at z e f))
+
+  merges-song : (count division at : ℕ) → frontOf b ≡ Front.Song count division at → Merges
+  unfolding joinedOf
+  merges-song count division at f =
+      let t = has-track b es e in
+      let track : trackFrom (length b) b at ≡ Header.Track (t .at) (t .end) = sym (front-head b z ∙ ap (headBy b) f) ∙ t .head in
+      let song = sym (events-is b (t .at) (t .end) (t .short) (t .head)) ∙ e in
+      let told = one-tells b at (t .at) (t .end) track (Events es) song in
+      merges-fitted count division at f (fileOf (twoAt b 12) (sequenceOf 1 b at)) (joined-is b room (t .short) z count division at f ∙ rw (told .1, told .2) refl)
+
+  merges-by : (x : Front) → frontOf b ≡ x → Merges
+  merges-by (Front.Refused number place) f =
+      let t = has-track b es e in
+      let never : Header.Refused number place ≡ Header.Track (t .at) (t .end) = sym (front-head b z ∙ ap (headBy b) f) ∙ t .head in
+      let y : _≡_ {A = ℕ} 0 1 = cc in
+      absurd (omega arith)
+  merges-by (Front.Song count division at) f = merges-song count division at f
+
+-- what M-101 reads is merged, where there is room
+pub merged-as-read : MergedAsRead
+merged-as-read b es room a z e = merges-by b es room a z e (frontOf b) refl

@@ -1,6 +1,7 @@
 -- Songs of several tracks: what is promised of merging. The events are kept, in one sequence, and merging again changes no byte.
 use mathlib.Core.Bool.{cond}
 use mathlib.Core.List.{List, [], _∷_}
+use mathlib.Core.Logic.{_⊎_}
 use mathlib.Core.Path.{_≡_}
 use Prim.Native.Nat.{ℕ, _≤_}
 use lib.Dec.{eqb}
@@ -8,14 +9,14 @@ use lib.ListN.{length}
 use Rattle.arith.specs.Bytes.{AllBytes}
 use Rattle.smf.specs.declared.Event.{Event}
 use Rattle.smf.specs.Quantities.{twoAt}
-use Rattle.smf.specs.Track.{Song, Events, Refused}
+use Rattle.smf.specs.Track.{Events, Refused}
 use Rattle.smf.specs.Songs.{eventsOf}
 use Rattle.merge.specs.declared.Entry.{Entry}
 use Rattle.merge.specs.declared.Front.{Front}
 use Rattle.merge.specs.Fronts.{frontOf}
 use Rattle.merge.specs.Order.{inOrder}
 use Rattle.merge.specs.Lateness.{struckOf}
-use Rattle.merge.specs.Merging.{Outcome, sequenceOf, fileOf, mergedOf}
+use Rattle.merge.specs.Merging.{Outcome, sequenceOf, fileOf, roomOf, mergedOf}
 
 -- ---- 1. The one sequence
 
@@ -60,6 +61,12 @@ SameAsRead =
     (b : List ℕ) (es : List Event) (count division at : ℕ) → twoAt b 8 ≡ 0 → eventsOf b ≡ Events es → frontOf b ≡ Front.Song count division at
     → struckOf division (sequenceOf count b at) ≡ es
 
+-- so it is refused for want of room alone, and what is written for it has its events, where M-101 has room for that
+abbrev pub MergedAsRead : Type 0
+MergedAsRead =
+    (b : List ℕ) (es : List Event) (room : ℕ) → AllBytes b → twoAt b 8 ≡ 0 → eventsOf b ≡ Events es
+    → (mergedOf b room ≡ Outcome.Refused 43 0) ⊎ ((w : List ℕ) × (mergedOf b room ≡ Outcome.Written w) × (length w ≤ 65536 → eventsOf w ≡ Events es))
+
 -- one that M-101 refuses, and that is not too long for M-101, is refused with the same number and place
 abbrev pub RefusedAsRead : Type 0
 RefusedAsRead =
@@ -73,3 +80,7 @@ abbrev pub NeverSoLong : Type 0
 NeverSoLong =
     (b : List ℕ) (count division at : ℕ) → AllBytes b → length b ≤ 16777216 → frontOf b ≡ Front.Song count division at
     → length (fileOf division (sequenceOf count b at)) ≤ 4294967317
+
+-- so the 32 bits never refuse a song: the room for a file is as good as all of the output
+abbrev pub RoomIsLength : Type 0
+RoomIsLength = (b out : List ℕ) → AllBytes b → mergedOf b (roomOf out) ≡ mergedOf b (length out)
