@@ -6,3 +6,4 @@ pub mod LinesLaws
 pub mod PagesLaws
 pub mod LanesLaws
 pub mod OrderLaws
+pub mod MergingLaws
