@@ -6,7 +6,7 @@ use Prim.Native.Nat.{ℕ, zero, suc, _+_, _*_, _-_, _<_, _≤_, min}
 use native.Mathlib.Omega.{arith}
 use borrow.Author.Tests.{ltb-true, ltb-false, lt-ltb, le-ltb, eq-eqb, ne-eqb}
 use lib.Dec.{ltb, eqb}
-use lib.ListN.{length, length-append}
+use lib.ListN.{length, drop, length-append}
 use Rattle.smf.specs.declared.Item.{Item}
 use Rattle.smf.specs.declared.Item.the-variants.{Bad, End, Passed, Tempo, Channel}
 use Rattle.smf.specs.Spelling.{Mark, Score, ticksOf, runningBehind, quantityBytes, statusBytes, dataBytes, eventBytes, trackBytes, trackOf, fileBytes, twoBytes, fourBytes}
@@ -19,8 +19,11 @@ use Rattle.merge.specs.declared.Spot.the-variants.{None, At}
 use Rattle.merge.specs.Lateness.{tempoAfter, sumAt, nearer, lateFrom, lateOf}
 use Rattle.merge.specs.Bridges.{longest, bridgesOf, restOf, bridged}
 use Rattle.merge.specs.Marks.{endFrom, marksFrom, lastFrom, scoreOf}
-use Rattle.merge.specs.Merging.{fileOf}
-use Rattle.merge.specs.Internal.Lines.{bridgeBytes, gapBytes, runningAfter, entryBytes, lineAfter, closingBytes, lineBytes, lineStart, headBytes, heldCount}
+use Rattle.merge.specs.declared.Front.{Front}
+use Rattle.merge.specs.Fronts.{frontOf}
+use Rattle.merge.specs.Lanes.{flawIn}
+use Rattle.merge.specs.Merging.{Refused, Written, sequenceOf, fileOf, fitted, joinedOf, mergedOf}
+use Rattle.merge.specs.Internal.Lines.{laidOver, bridgeBytes, gapBytes, runningAfter, entryBytes, lineAfter, closingBytes, lineBytes, lineStart, headBytes, heldCount}
 use Rattle.merge.specs.Internal.Order.{hourAfter, toldOf, tallyStart, tallyOf}
 
 -- ---- 1. What is late
@@ -305,3 +308,53 @@ file-is division es = ap (λ (xs : List ℕ). headBytes division (length xs) ++ 
 pub file-length : (division : ℕ) (es : List Entry) → length (fileOf division es) ≡ 22 + length (lineBytes lineStart es)
 unfolding twoBytes fourBytes
 file-length division es = ap length (file-is division es) ∙ length-append (headBytes division (length (lineBytes lineStart es))) (lineBytes lineStart es)
+
+-- ---- 4. The outcome
+
+module _ (b : List ℕ) (n division at room : ℕ) where
+  -- something is past an hour
+  pub joined-late : (place : ℕ) → lateOf division (sequenceOf n b at) ≡ At place → joinedOf b n division at room ≡ Refused 11 place
+  unfolding joinedOf
+  joined-late place e = rw e refl
+
+  -- something is not well formed
+  pub joined-flaw : (place : ℕ) → lateOf division (sequenceOf n b at) ≡ None → flawIn n b at ≡ At place → joinedOf b n division at room ≡ Refused 9 place
+  unfolding joinedOf
+  joined-flaw place e f = rw (e, f) refl
+
+  -- nothing is
+  pub joined-good : lateOf division (sequenceOf n b at) ≡ None → flawIn n b at ≡ None → joinedOf b n division at room ≡ fitted room (fileOf division (sequenceOf n b at))
+  unfolding joinedOf
+  joined-good e f = rw (e, f) refl
+
+-- a file that does not fit
+pub fitted-long : (room : ℕ) (bytes : List ℕ) → room < length bytes → fitted room bytes ≡ Refused 43 0
+unfolding fitted
+fitted-long room bytes h = rw (lt-ltb room (length bytes) h) refl
+
+-- one that does
+pub fitted-in : (room : ℕ) (bytes : List ℕ) → length bytes ≤ room → fitted room bytes ≡ Written bytes
+unfolding fitted
+fitted-in room bytes h = rw (le-ltb room (length bytes) h) refl
+
+-- a refused head, and a good one
+pub merged-long : (b : List ℕ) (room : ℕ) → 16777216 < length b → mergedOf b room ≡ Refused 9 16777216
+unfolding mergedOf
+merged-long b room h = rw (lt-ltb 16777216 (length b) h) refl
+
+pub merged-front : (b : List ℕ) (room number place : ℕ) → length b ≤ 16777216 → frontOf b ≡ Front.Refused number place → mergedOf b room ≡ Refused number place
+unfolding mergedOf
+merged-front b room number place h e = rw (le-ltb 16777216 (length b) h) (rw (e, mergedOf) refl)
+
+pub merged-song : (b : List ℕ) (room count division at : ℕ) → length b ≤ 16777216 → frontOf b ≡ Front.Song count division at → mergedOf b room ≡ joinedOf b count division at room
+unfolding mergedOf
+merged-song b room count division at h e = rw (le-ltb 16777216 (length b) h) (rw (e, mergedOf) refl)
+
+-- the file at the beginning of the output
+pub laid-file : (out exit : List ℕ) (division size : ℕ) (es : List Entry) → size ≡ length (lineBytes lineStart es) → exit ≡ laidOver out 0 (headBytes division size ++ lineBytes lineStart es)
+    → exit ≡ fileOf division es ++ drop (length (fileOf division es)) out
+laid-file out exit division size es h e =
+    let line = lineBytes lineStart es in
+    let whole = ap (λ (n : ℕ). headBytes division n ++ line) h ∙ sym (file-is division es) in
+    let none : 0 + length (fileOf division es) ≡ length (fileOf division es) = omega arith in
+    e ∙ ap (laidOver out 0) whole ∙ ap (λ (k : ℕ). fileOf division es ++ drop k out) none
