@@ -122,8 +122,12 @@ mod key_cases;
 mod layer_cases;
 mod listing_cases;
 pub mod merge_builder;
+mod merge_cases;
 pub mod merge_chance;
 pub mod merge_streams;
+mod merge_time_cases;
+mod merge_track_cases;
+mod merge_written_cases;
 mod number_lines;
 mod numbers_of_table;
 pub mod player_cases;
@@ -150,13 +154,13 @@ mod wave_read_cases;
 pub mod wave_streams;
 mod wave_write_cases;
 
-use crate::{case, fonts, record, songs, waves};
+use crate::{case, fonts, merges, record, songs, waves};
 use script::Script;
 use std::fs;
 use std::io;
 use std::path::Path;
 
-/// Writes drive/, record/, songs/, waves/, fonts/, numbers/ and the examples of promises/ and voice/ into the directory.
+/// Writes drive/, record/, songs/, waves/, fonts/, merges/, numbers/ and the examples of promises/ and voice/ into the directory.
 pub fn write_all(directory: &Path) -> io::Result<()> {
     let damaged = [bad_cases::all(case::MEMORY_ROOM), bad_cases::of_player()].concat();
     write_program(&directory.join("drive"), |case, trace| case::play(case, trace), &all_cases().bytes, damaged)?;
@@ -183,6 +187,12 @@ pub fn write_all(directory: &Path) -> io::Result<()> {
         |files, lines| fonts::play(files, lines),
         &font_streams::stream(),
         font_streams::damaged(),
+    )?;
+    write_program(
+        &directory.join("merges"),
+        |files, lines| merges::play(files, lines),
+        &merge_streams::stream(),
+        merge_streams::damaged(),
     )?;
     let numbers = number_lines::lines();
     write_file(&directory.join("numbers/stdout"), numbers.as_bytes())?;
