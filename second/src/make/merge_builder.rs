@@ -6,9 +6,6 @@ use crate::merges::with_room;
 /// The ticks of an hour at the tempo of the start, where a beat has 96.
 pub const HOUR: u32 = 7_200 * 96;
 
-/// An end of track with its delta time, which is 0.
-pub const END_NOW: [u8; 4] = [0, 0xff, 0x2f, 0];
-
 /// A piece of one event.
 pub fn then(delta: u32, event: &[u8]) -> Piece {
     Piece::default().then(delta, event)
@@ -33,12 +30,6 @@ pub fn ended(pieces: &[Piece]) -> Vec<u8> {
 /// Two tracks: a note after a beat, and one after two.
 pub fn two_notes() -> Vec<u8> {
     ended(&[then(96, &NOTE), then(192, &NOTE)])
-}
-
-/// A file with another byte at a place.
-pub fn with(mut file: Vec<u8>, place: usize, byte: u8) -> Vec<u8> {
-    file[place] = byte;
-    file
 }
 
 /// A file with more room than its merged song needs, unless tracks alternate or gaps are bridged very often.

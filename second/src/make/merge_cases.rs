@@ -131,8 +131,7 @@ fn tracks_missing() -> Vec<Named> {
 
 /// What is behind the end of track in each chunk, and behind the last wanted chunk.
 fn behind_the_tracks() -> Vec<Named> {
-    let behind: [&[u8]; 7] =
-        [&[0x80], &[0, 60, 64], &END_NOW, &[0xff; 6], &[0, 0xf4], b"MT", b"MTrk\xff\xff\xff\xff"];
+    let behind: [&[u8]; 7] = [&[0x80], &[0, 60, 64], &END_NOW, &[0xff; 6], &[0, 0xf4], b"MT", b"MTrk\xff\xff\xff\xff"];
     let [one, two] = [then(96, &NOTE), then(192, &NOTE)].map(|piece| piece.then(0, &END));
     let of = |bytes: &[u8]| {
         let [longer_one, longer_two] = [&one, &two].map(|piece| piece.clone().raw(bytes));
@@ -186,10 +185,7 @@ fn long_files() -> Vec<Named> {
         then(0, &[status, 60, 64]).raw(&events.collect::<Vec<u8>>())
     };
     let same = ended(&[notes(0x90), notes(0x90), notes(0x90)]);
-    vec![
-        ("texts".to_string(), with_room(&texts, 60)),
-        ("notes".to_string(), with_room(&same, FILE_ROOM)),
-    ]
+    vec![("texts".to_string(), with_room(&texts, 60)), ("notes".to_string(), with_room(&same, FILE_ROOM))]
 }
 
 /// Rooms around what the merged song needs, around its head, and none.

@@ -128,14 +128,15 @@ pub fn put_late(c: &mut Chance, plan: &mut Plan) {
 
 // Files
 
-/// A track's bytes, and the places where its events begin. A status that runs is left out where chance will have it so.
-fn track(c: &mut Chance, events: &[Planned]) -> (Vec<u8>, Vec<usize>) {
+/// A track's bytes, and the places where its events begin. For each delta time `spell` says its bytes, and whether a
+/// status that runs is left out behind it.
+pub fn track(events: &[Planned], mut spell: impl FnMut(u32) -> (Vec<u8>, bool)) -> (Vec<u8>, Vec<usize>) {
     let (mut piece, mut running, mut places) = (Piece::default(), 0, Vec::new());
     for (delta, event) in events {
-        let out = event[0] == running && c.once_in(2);
-        piece = piece.raw(&quantity_in(*delta, c.pick(&[4, quantity(*delta).len()])));
+        let (bytes, leave_out) = spell(*delta);
+        piece = piece.raw(&bytes);
         places.push(piece.bytes.len());
-        piece = piece.raw(&event[if out { 1 } else { 0 }..]);
+        piece = piece.raw(&event[if leave_out && event[0] == running { 1 } else { 0 }..]);
         running = if event[0] < 0xf0 { event[0] } else { 0 };
     }
     (piece.bytes, places)
@@ -153,7 +154,8 @@ fn file_of(c: &mut Chance, plan: &Plan, changed: i64) -> (Vec<u8>, Vec<Vec<usize
         if c.once_in(8) {
             file.extend(chunk(b"XFIH", &vec![0x4d; c.from(0, 9) as usize]));
         }
-        let (mut bytes, places) = track(c, events);
+        let spell = |delta| (quantity_in(delta, c.pick(&[4, quantity(delta).len()])), c.once_in(2));
+        let (mut bytes, places) = track(events, spell);
         bytes.extend(vec![0xfe; c.pick(&[0, 0, 0, 3])]);
         if changed > 0 && c.once_in(changed) {
             change(c, &mut bytes);

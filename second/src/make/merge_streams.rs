@@ -27,7 +27,8 @@ pub fn stream() -> Vec<u8> {
 
 /// Inputs that end with `bad`, and those that just do not.
 pub fn damaged() -> Vec<Named> {
-    let files = Files { name: "song", between: vec![60, 0, 0, 0], good: two_notes(), refused: vec![0x4d; 9], byte: 0x4d };
+    let files =
+        Files { name: "song", between: vec![60, 0, 0, 0], good: two_notes(), refused: vec![0x4d; 9], byte: 0x4d };
     [files.damaged(), rooms()].concat()
 }
 

@@ -46,7 +46,8 @@ fn limits() -> Vec<Named> {
                 continue;
             }
             for ticks in [ticks, ticks + 1] {
-                let bodies = [then(0, &tempo(micros)).then(0, &END).bytes, Piece::default().wait(ticks).then(0, &END).bytes];
+                let bodies =
+                    [then(0, &tempo(micros)).then(0, &END).bytes, Piece::default().wait(ticks).then(0, &END).bytes];
                 let file = [head(1, 2, division), chunks(&[&bodies[0], &bodies[1]])].concat();
                 list.push(roomy(format!("{ticks} ticks of {micros} at {division}"), file));
             }
@@ -131,7 +132,9 @@ fn late_and_broken() -> Vec<Named> {
 fn tempos_and_faults() -> Vec<Named> {
     let bad = [0, 0xf1];
     let mut list = Vec::new();
-    for (tick, micros) in [(HOUR + 96, 1), (HOUR + 96, 16_777_215), (HOUR - 1, 1), (HOUR - 1, 16_777_215), (HOUR - 1, 0)] {
+    for (tick, micros) in
+        [(HOUR + 96, 1), (HOUR + 96, 16_777_215), (HOUR - 1, 1), (HOUR - 1, 16_777_215), (HOUR - 1, 0)]
+    {
         let note = then(tick, &NOTE).then(0, &END).bytes;
         let change = then(0, &tempo(micros)).bytes;
         let name = format!("a note at {tick}, a tempo of {micros}");
@@ -166,6 +169,9 @@ fn far_past_the_limit() -> Vec<Named> {
             "a tempo behind many ticks",
             ended(&[still.clone().wait(largest * 9).then(5, &tempo(500_000)).then(HOUR, &NOTE)]),
         ),
-        roomy("late behind many ticks", ended(&[still.wait(largest * 9).then(5, &tempo(500_000)).then(HOUR + 1, &NOTE)])),
+        roomy(
+            "late behind many ticks",
+            ended(&[still.wait(largest * 9).then(5, &tempo(500_000)).then(HOUR + 1, &NOTE)]),
+        ),
     ]
 }

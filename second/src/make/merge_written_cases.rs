@@ -57,7 +57,9 @@ fn equal_ticks() -> Vec<Named> {
 /// Texts, system exclusive events and ends of other tracks, whose ticks go to the next event.
 fn left_out() -> Vec<Named> {
     let mut list = Vec::new();
-    for event in [meta(3, b"Treble"), meta(1, b""), exclusive(0xf0, &[1, 0xf7]), exclusive(0xf7, &[]), meta(0x7f, &[0x80])] {
+    for event in
+        [meta(3, b"Treble"), meta(1, b""), exclusive(0xf0, &[1, 0xf7]), exclusive(0xf7, &[]), meta(0x7f, &[0x80])]
+    {
         let between = then(3, &event).then(4, &NOTE).then(5, &event).then(6, &NOTE).then(7, &event);
         let other = then(1, &event).then(8, &[0x80, 60, 64]).then(2, &event);
         list.push(roomy("left out in both", ended(&[between.clone(), other.clone()])));
@@ -148,7 +150,8 @@ fn ends() -> Vec<Named> {
 /// Gaps at the longest delta time and its multiples, and one more, in front of a note, a tempo and the end.
 fn gaps() -> Vec<Named> {
     let largest = LARGEST_QUANTITY as u64;
-    let lengths = [largest - 1, largest, largest + 1, 2 * largest, 2 * largest + 1, 3 * largest + 127, 5 * largest + 200];
+    let lengths =
+        [largest - 1, largest, largest + 1, 2 * largest, 2 * largest + 1, 3 * largest + 127, 5 * largest + 200];
     let mut list = Vec::new();
     for micros in [0, 1, 258] {
         let first = then(0, &tempo(micros)).then(0, &NOTE);
@@ -171,7 +174,8 @@ fn gaps_in_parts() -> Vec<Named> {
     let still = then(0, &tempo(0)).then(0, &NOTE);
     let mut list = Vec::new();
     for at in [1, 2, largest - 1, largest, largest + 1, largest + 2] {
-        for event in [&NOTE[..], &[0x91, 1, 1], &[0xff, 0x51, 3, 0, 0, 1], &[0xff, 0x51, 4, 0, 0, 1, 9], &[0xff, 1, 0]] {
+        for event in [&NOTE[..], &[0x91, 1, 1], &[0xff, 0x51, 3, 0, 0, 1], &[0xff, 0x51, 4, 0, 0, 1, 9], &[0xff, 1, 0]]
+        {
             let far = still.clone().wait(2 * largest + 2).then(0, &NOTE).then(0, &[61, 64]).then(1, &[62, 64]);
             let file = ended(&[far, wait(at).then(0, event)]);
             list.push(roomy(format!("{event:02x?} at {at} in a gap"), file));
