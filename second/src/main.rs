@@ -1,6 +1,6 @@
-//! The second program's commands: play a case, record one, read songs, merge a song's tracks, damage songs, write and
-//! read waves, make waves by chance, find the parts of fonts, make the stored cases and their traces, make cases of real
-//! files, make the carillon and its piece.
+//! The second program's commands: play a case, record one, read songs, merge the tracks of a song or of many, damage
+//! songs, write and read waves, make waves and songs of several tracks by chance, find the parts of fonts, make the stored
+//! cases and their traces, make cases of real files, make the carillon and its piece.
 
 use second::{bells, case, fonts, make, merge_file, merges, real, record, songs, waves};
 use std::fs;

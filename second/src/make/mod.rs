@@ -103,6 +103,31 @@
 //! - a font cut off at every byte and changed at every byte: font_cases (cut_at_every_byte, one_byte_off); by chance:
 //!   font_chance
 //! - inputs that are themselves damaged: font_streams, over file_streams
+//!
+//! What the merges must reach (songs of format 1):
+//!
+//! - a file cut off at every byte, lengths of the head around 6 and past the file's end, every format with every number of
+//!   tracks and every division at both sides of their edges: merge_cases (cut_at_every_byte, lengths_of_heads,
+//!   fields_of_heads, letters_of_names)
+//! - other chunks in every place, chunks past the file's end, tracks missing, bytes behind each end of track and behind the
+//!   last track: merge_cases (chunks_between, chunks_past_the_end, tracks_missing, behind_the_tracks); 255, 256 and 257
+//!   tracks: numbers_of_tracks; the longest files: long_files
+//! - rooms around what is needed, none, and refusals with and without room: merge_cases (rooms, rooms_of_refused)
+//! - each fault of a track in the first, the middle and the last, chunks shorter than their tracks: merge_track_cases
+//!   (faults_in_each_track, chunks_that_hold_less); running status at a track's start, ended in one track and not in the
+//!   other, every status: running_status, first_events
+//! - every kind of event at the hour and a tick past it in each track, U at its limit by other divisions and tempos, tempos
+//!   of other tracks and at one tick: merge_time_cases (hours, limits, tempos_of_other_tracks); ticks past 32 bits:
+//!   far_past_the_limit
+//! - several late events of which the first in the file is not the first in the sequence, late events in front of a fault
+//!   and behind it, tempos in front of it and behind: merge_time_cases (several_late, late_and_broken, tempos_and_faults)
+//! - equal ticks in several tracks, what is left out, what ends running status, tempos of more than three bytes, delta
+//!   times at the edges of one to four bytes, ends at different ticks: merge_written_cases (equal_ticks, left_out, running,
+//!   tempos, deltas, ends)
+//! - gaps at the longest delta time, its multiples and one more, in front of every kind of event, taken apart by other
+//!   tracks, and what runs behind a bridge: merge_written_cases (gaps, gaps_in_parts); all of these merged again
+//! - songs of several tracks by chance, whole and changed: merge_chance
+//! - inputs that are themselves damaged: merge_streams, over file_streams
 
 mod admission;
 pub mod bad_cases;
