@@ -21,10 +21,14 @@ pub fn tracks(bodies: &[&[u8]]) -> Vec<u8> {
     [head(1, bodies.len() as u16, 96), chunks(bodies)].concat()
 }
 
+/// The same of tracks that were made one by one.
+pub fn tracks_of(bodies: &[Vec<u8>]) -> Vec<u8> {
+    tracks(&bodies.iter().map(Vec::as_slice).collect::<Vec<_>>())
+}
+
 /// The same of tracks that are at once ended behind their events.
 pub fn ended(pieces: &[Piece]) -> Vec<u8> {
-    let bodies: Vec<Vec<u8>> = pieces.iter().map(|piece| piece.clone().then(0, &END).bytes).collect();
-    tracks(&bodies.iter().map(Vec::as_slice).collect::<Vec<_>>())
+    tracks_of(&pieces.iter().map(|piece| piece.clone().then(0, &END).bytes).collect::<Vec<_>>())
 }
 
 /// Two tracks: a note after a beat, and one after two.

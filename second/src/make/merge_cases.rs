@@ -175,13 +175,12 @@ fn numbers_of_tracks() -> Vec<Named> {
 
 // Lengths
 
-/// Files as long as there is room for: one of texts, and one of notes, whose merged song is a little shorter or does not
-/// fit.
+/// Files nearly as long as there is room for: one of texts, which are left out, and one of notes.
 fn long_files() -> Vec<Named> {
     let text = meta(1, &vec![0x80; 33_000 - 40]);
     let texts = ended(&[then(1, &text).then(1, &NOTE), then(0, &text).then(1, &NOTE)]);
     let notes = |status: u8| {
-        let events = (0..4_000).flat_map(|n: u32| [(n % 3) as u8, (n % 128) as u8, (n / 7 % 128) as u8]);
+        let events = (0..7_310).flat_map(|n: u32| [(n % 3) as u8, (n % 128) as u8, (n / 7 % 128) as u8]);
         then(0, &[status, 60, 64]).raw(&events.collect::<Vec<u8>>())
     };
     let same = ended(&[notes(0x90), notes(0x90), notes(0x90)]);

@@ -4,7 +4,7 @@ use super::merge_builder::*;
 use super::song_builder::*;
 
 pub fn all() -> Vec<Named> {
-    [faults_in_each_track(), chunks_that_hold_less(), running_status(), first_events()].concat()
+    [faults_in_each_track(), chunks_that_hold_less(), running_status(), every_status()].concat()
 }
 
 /// Tracks with a fault of each kind.
@@ -37,8 +37,8 @@ const BROKEN: [&[u8]; 26] = [
     &[0, 0x90, 60, 64],
 ];
 
-/// Each fault in the first, the middle and the last of three tracks, at once and behind a note, with the right tracks
-/// whole or the next of them broken too.
+/// Each fault in the first, the middle and the last of three tracks, at once and behind an event; and with the last track
+/// broken too.
 fn faults_in_each_track() -> Vec<Named> {
     let right = then(5, &NOTE).then(7, &[61, 64]).then(0, &END).bytes;
     let mut list = Vec::new();
@@ -47,17 +47,15 @@ fn faults_in_each_track() -> Vec<Named> {
             for front in [Piece::default(), then(9, &[0xc1, 5])] {
                 let mut bodies = [right.clone(), right.clone(), right.clone()];
                 bodies[at] = front.raw(broken).bytes;
-                list.push(roomy(format!("{broken:02x?} in track {at}"), of_bodies(&bodies)));
-                bodies[2] = vec![0, 0xf1];
-                list.push(roomy(format!("{broken:02x?} in track {at}, and the last"), of_bodies(&bodies)));
+                list.push(roomy(format!("{broken:02x?} in track {at}"), tracks_of(&bodies)));
+                if at < 2 {
+                    bodies[2] = vec![0, 0xf1];
+                    list.push(roomy(format!("{broken:02x?} in track {at}, and the last"), tracks_of(&bodies)));
+                }
             }
         }
     }
     list
-}
-
-fn of_bodies(bodies: &[Vec<u8>]) -> Vec<u8> {
-    tracks(&bodies.iter().map(Vec::as_slice).collect::<Vec<_>>())
 }
 
 /// Chunks that hold fewer bytes than their tracks have, with all of these behind them, and more.
@@ -102,8 +100,8 @@ fn running_status() -> Vec<Named> {
     list
 }
 
-/// Every status as the first event of each of two tracks, and its neighbour as the other's.
-fn first_events() -> Vec<Named> {
+/// Every status in both of two tracks, running in one of them, and the next status behind it.
+fn every_status() -> Vec<Named> {
     let event = |status: u8| if matches!(status, 0xc0..=0xdf) { vec![status, 1] } else { vec![status, 1, 2] };
     let of = |status: u8| {
         let next = if status == 0xef { 0x80 } else { status + 1 };

@@ -115,7 +115,7 @@
 //! - rooms around what is needed, none, and refusals with and without room: merge_cases (rooms, rooms_of_refused)
 //! - each fault of a track in the first, the middle and the last, chunks shorter than their tracks: merge_track_cases
 //!   (faults_in_each_track, chunks_that_hold_less); running status at a track's start, ended in one track and not in the
-//!   other, every status: running_status, first_events
+//!   other, every status: running_status, every_status
 //! - every kind of event at the hour and a tick past it in each track, U at its limit by other divisions and tempos, tempos
 //!   of other tracks and at one tick: merge_time_cases (hours, limits, tempos_of_other_tracks); ticks past 32 bits:
 //!   far_past_the_limit
