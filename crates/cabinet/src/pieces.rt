@@ -1,0 +1,56 @@
+// The fresh state, and a song's start and stop.
+ghost use mathlib.Core.Path.{_≡_};
+ghost use Rattle.player.specs.Cues.{idle};
+ghost use Rattle.player.specs.Pauses.{started, stopped};
+ghost use Rattle.cabinet.specs.Keeping.{playerIn, kept, cuedUp};
+use crate::Flat;
+use crate::keeping::cue_up;
+use crate::keeping::keep;
+use crate::keeping::player_in;
+
+fn begin() -> Flat
+    ensures { λ r. ⌜ r ≡ kept 0 0 0 0 idle ⌝ }
+{
+    keep(0, 0, 0, 0, player::fresh())
+}
+
+// A fresh engine, and no song. Whatever stood in C's memory is gone.
+#[no_mangle]
+pub extern "C" fn thularek_init(state: &mut Flat) -> u32
+    ensures { λ r. ⌜ (now (state .exit) ≡ kept 0 0 0 0 idle) × (r ≡ 0) ⌝ }
+{
+    *state = begin();
+    state.number
+}
+
+fn song_start(s: Flat, song: &[u8]) -> Flat
+    ensures { λ r. ⌜ r ≡ cuedUp (started (now (song .entry)) (playerIn s)) ⌝ }
+{
+    let p = player_in(s);
+    cue_up(player::start(p, song))
+}
+
+// A song starts at the clock's value. A refused file changes nothing of the player.
+#[no_mangle]
+pub extern "C" fn thularek_song_start(state: &mut Flat, song: &[u8]) -> u32
+    ensures { λ r. ⌜ (now (state .exit) ≡ cuedUp (started (now (song .entry)) (playerIn (now (state .entry))))) × (r ≡ started (now (song .entry)) (playerIn (now (state .entry))) .number) ⌝ }
+{
+    *state = song_start(*state, song);
+    state.number
+}
+
+fn song_stop(s: Flat) -> Flat
+    ensures { λ r. ⌜ r ≡ kept 0 0 0 0 (stopped (playerIn s)) ⌝ }
+{
+    let p = player_in(s);
+    keep(0, 0, 0, 0, player::stop(p))
+}
+
+// The song stops.
+#[no_mangle]
+pub extern "C" fn thularek_song_stop(state: &mut Flat) -> u32
+    ensures { λ r. ⌜ (now (state .exit) ≡ kept 0 0 0 0 (stopped (playerIn (now (state .entry))))) × (r ≡ 0) ⌝ }
+{
+    *state = song_stop(*state);
+    state.number
+}
