@@ -1,1 +1,1 @@
-pub mod FlatLaws
+pub mod TwinsLaws

@@ -7,7 +7,7 @@ use Rattle.player.specs.declared.Begun.{Begun}
 use Rattle.player.specs.declared.Answer.{Answer}
 use Rattle.player.specs.Cues.{withEngine}
 use Rattle.cabinet.specs.declared.Flat.{Flat}
-use Rattle.cabinet.specs.Flat.{playerOf, playerTo}
+use Rattle.cabinet.specs.Twins.{playerOf, playerTo}
 
 -- the player in C's memory
 abbrev pub playerIn : Flat → Player

@@ -1,4 +1,4 @@
-pub mod Flat
+pub mod Twins
 pub mod Keeping
 pub mod Questions
 pub mod Files

@@ -2,8 +2,8 @@
 ghost use mathlib.Core.Path.{_≡_};
 ghost use Rattle.cabinet.specs.Keeping.{playerIn, kept, told, cuedUp, performedBy};
 use crate::Flat;
-use crate::flat::player_of;
-use crate::flat::player_to;
+use crate::twins::player_of;
+use crate::twins::player_to;
 use engine::Answered;
 use player::Answer;
 use player::Begun;

@@ -1,12 +1,12 @@
 // The C interface: the calls of the engine and of the player over a state that C keeps, and those over bytes alone.
 // What C keeps is a flat twin of the player's state, with no enum and no bool in it: any bytes there are a legal state.
 mod files;
-mod flat;
 mod keeping;
 mod messages;
 mod outputs;
 mod pieces;
 mod questions;
+mod twins;
 
 pub use files::thularek_admit;
 pub use files::thularek_bank_fault;

@@ -2,12 +2,12 @@
 ghost use mathlib.Core.Path.{_≡_};
 ghost use Rattle.state.specs.Board.{ask, voiceCount};
 ghost use Rattle.player.specs.Asking.{isSilent, heldCount};
-ghost use Rattle.cabinet.specs.Flat.{flagTo};
+ghost use Rattle.cabinet.specs.Twins.{flagTo};
 ghost use Rattle.cabinet.specs.Keeping.{playerIn, engineIn};
 ghost use Rattle.cabinet.specs.Questions.{lampStage, lampLevel};
 use crate::Flat;
-use crate::flat::flag_to;
 use crate::keeping::player_in;
+use crate::twins::flag_to;
 use voice::Shown;
 
 fn count_in(s: Flat) -> u32

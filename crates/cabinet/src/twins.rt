@@ -1,6 +1,6 @@
 // From a twin to what it stands for, and back.
 ghost use mathlib.Core.Path.{_≡_};
-ghost use Rattle.cabinet.specs.Flat.{flagOf, flagTo, stageOf, stageTo, voiceOf, voiceTo, engineOf, engineTo, playerOf, playerTo};
+ghost use Rattle.cabinet.specs.Twins.{flagOf, flagTo, stageOf, stageTo, voiceOf, voiceTo, engineOf, engineTo, playerOf, playerTo};
 use crate::FlatEngine;
 use crate::FlatPlayer;
 use crate::FlatStage;

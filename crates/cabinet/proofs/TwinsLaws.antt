@@ -12,7 +12,7 @@ use Rattle.voice.specs.declared.Stage.the-variants as at
 use Rattle.voice.specs.declared.Voice.{Voice}
 use Rattle.state.specs.declared.Engine.{Engine}
 use Rattle.player.specs.declared.Player.{Player}
-use Rattle.cabinet.specs.Flat.{flagOf, flagTo, stageOf, stageTo, voiceOf, voiceTo, engineOf, engineTo, playerOf, playerTo}
+use Rattle.cabinet.specs.Twins.{flagOf, flagTo, stageOf, stageTo, voiceOf, voiceTo, engineOf, engineTo, playerOf, playerTo}
 
 module _ {A B : Type 0} where
   -- a turn of such a loop

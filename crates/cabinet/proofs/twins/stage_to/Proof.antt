@@ -1,0 +1,70 @@
+use borrow.Author.Needs.{needs}
+use Rattle.cabinet.proofs.twins.stage_to.Statement.{statement}
+use Rattle.cabinet.proofs.twins.stage_to.Tie as tie
+use Rattle.cabinet.proofs.twins.stage_to.Reads as reads
+use Rattle.cabinet.proofs.twins.stage_to.Lts as lts
+
+-- src/twins.rt:55:24
+enum-known-s : tie.Need-enum-known-s
+enum-known-s c = search needs
+
+-- src/twins.rt:60:25
+enum-known-s-2 : tie.Need-enum-known-s-2
+enum-known-s-2 c = search needs
+
+-- src/twins.rt:65:23
+enum-known-s-3 : tie.Need-enum-known-s-3
+enum-known-s-3 c = search needs
+
+-- src/twins.rt:70:24
+enum-known-s-4 : tie.Need-enum-known-s-4
+enum-known-s-4 c = search needs
+
+-- src/twins.rt:75:27
+enum-told : tie.Need-enum-told
+enum-told c = search needs
+
+-- src/twins.rt:80:26
+enum-known-s-5 : tie.Need-enum-known-s-5
+enum-known-s-5 c = search needs
+
+-- src/twins.rt:51:1
+returns : tie.Need-returns
+returns c = ?
+
+-- src/twins.rt:51:1
+returns-2 : tie.Need-returns-2
+returns-2 c = ?
+
+-- src/twins.rt:51:1
+returns-3 : tie.Need-returns-3
+returns-3 c = ?
+
+-- src/twins.rt:51:1
+returns-4 : tie.Need-returns-4
+returns-4 c = ?
+
+-- src/twins.rt:51:1
+returns-5 : tie.Need-returns-5
+returns-5 c = ?
+
+-- src/twins.rt:51:1
+returns-6 : tie.Need-returns-6
+returns-6 c = ?
+
+pub stage-to-spec : {M : Type 1} → statement M
+stage-to-spec =
+    tie.close
+    (tie.spec
+    enum-known-s
+    enum-known-s-2
+    enum-known-s-3
+    enum-known-s-4
+    enum-told
+    enum-known-s-5
+    returns
+    returns-2
+    returns-3
+    returns-4
+    returns-5
+    returns-6)

@@ -1,0 +1,26 @@
+use borrow.Author.Needs.{needs}
+use Rattle.cabinet.proofs.twins.voice_of.Statement.{statement}
+use Rattle.cabinet.proofs.twins.voice_of.Tie as tie
+use Rattle.cabinet.proofs.twins.voice_of.Reads as reads
+use Rattle.cabinet.proofs.twins.voice_of.Lts as lts
+use Rattle.cabinet.proofs.twins.flag_of.Reads as flag-of-reads
+use Rattle.cabinet.proofs.twins.stage_of.Reads as stage-of-reads
+
+-- src/twins.rt:89:16
+stage-of-requires : tie.Need-stage-of-requires
+stage-of-requires c κs = search needs
+
+-- src/twins.rt:94:17
+flag-of-requires : tie.Need-flag-of-requires
+flag-of-requires c κs = search needs
+
+-- src/twins.rt:96:14
+flag-of-requires-2 : tie.Need-flag-of-requires-2
+flag-of-requires-2 c κs = search needs
+
+-- src/twins.rt:84:1
+returns : tie.Need-returns
+returns c = ?
+
+pub voice-of-spec : {M : Type 1} → statement M
+voice-of-spec = tie.close (tie.spec stage-of-requires flag-of-requires flag-of-requires-2 returns)

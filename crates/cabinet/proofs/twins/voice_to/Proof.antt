@@ -1,0 +1,26 @@
+use borrow.Author.Needs.{needs}
+use Rattle.cabinet.proofs.twins.voice_to.Statement.{statement}
+use Rattle.cabinet.proofs.twins.voice_to.Tie as tie
+use Rattle.cabinet.proofs.twins.voice_to.Reads as reads
+use Rattle.cabinet.proofs.twins.voice_to.Lts as lts
+use Rattle.cabinet.proofs.twins.flag_to.Reads as flag-to-reads
+use Rattle.cabinet.proofs.twins.stage_to.Reads as stage-to-reads
+
+-- src/twins.rt:119:16
+stage-to-requires : tie.Need-stage-to-requires
+stage-to-requires c κs = search needs
+
+-- src/twins.rt:124:17
+flag-to-requires : tie.Need-flag-to-requires
+flag-to-requires c κs = search needs
+
+-- src/twins.rt:126:14
+flag-to-requires-2 : tie.Need-flag-to-requires-2
+flag-to-requires-2 c κs = search needs
+
+-- src/twins.rt:114:1
+returns : tie.Need-returns
+returns c = ?
+
+pub voice-to-spec : {M : Type 1} → statement M
+voice-to-spec = tie.close (tie.spec stage-to-requires flag-to-requires flag-to-requires-2 returns)
