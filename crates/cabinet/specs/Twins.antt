@@ -43,18 +43,50 @@ stageTo (at.Decay t) = flatStage 3 0 t
 stageTo at.Sustain = flatStage 4 0 0
 stageTo (at.Release f t) = flatStage 5 f t
 
--- a voice from its twin: the stage and two flags are read, all else is as it stands
-abbrev pub voiceOf : FlatVoice → Voice
-voiceOf v =
+-- a voice with the numbers of a twin, a stage and the two flags
+abbrev pub voiceFrom : FlatVoice → Stage → Bool → Bool → Voice
+voiceFrom v stage marked rom =
     record {
-      stage = stageOf (v .stage);
+      stage = stage;
       place = v .place;
       channel = v .channel;
       key = v .key;
       velocity = v .velocity;
-      marked = flagOf (v .marked);
+      marked = marked;
       class = v .class;
-      rom = flagOf (v .rom);
+      rom = rom;
+      start = v .start;
+      end = v .end;
+      mode = v .mode;
+      loopfrom = v .loopfrom;
+      loopto = v .loopto;
+      rate = v .rate;
+      pitch = v .pitch;
+      pan = v .pan;
+      attenuation = v .attenuation;
+      attack = v .attack;
+      hold = v .hold;
+      decay = v .decay;
+      sustain = v .sustain;
+      release = v .release;
+    }
+
+-- a voice from its twin
+abbrev pub voiceOf : FlatVoice → Voice
+voiceOf v = voiceFrom v (stageOf (v .stage)) (flagOf (v .marked)) (flagOf (v .rom))
+
+-- a twin with the numbers of a voice, a stage and the two flags
+abbrev pub twinFrom : Voice → FlatStage → ℕ → ℕ → FlatVoice
+twinFrom v stage marked rom =
+    record {
+      stage = stage;
+      place = v .place;
+      channel = v .channel;
+      key = v .key;
+      velocity = v .velocity;
+      marked = marked;
+      class = v .class;
+      rom = rom;
       start = v .start;
       end = v .end;
       mode = v .mode;
@@ -73,31 +105,7 @@ voiceOf v =
 
 -- a voice's twin
 abbrev pub voiceTo : Voice → FlatVoice
-voiceTo v =
-    record {
-      stage = stageTo (v .stage);
-      place = v .place;
-      channel = v .channel;
-      key = v .key;
-      velocity = v .velocity;
-      marked = flagTo (v .marked);
-      class = v .class;
-      rom = flagTo (v .rom);
-      start = v .start;
-      end = v .end;
-      mode = v .mode;
-      loopfrom = v .loopfrom;
-      loopto = v .loopto;
-      rate = v .rate;
-      pitch = v .pitch;
-      pan = v .pan;
-      attenuation = v .attenuation;
-      attack = v .attack;
-      hold = v .hold;
-      decay = v .decay;
-      sustain = v .sustain;
-      release = v .release;
-    }
+voiceTo v = twinFrom v (stageTo (v .stage)) (flagTo (v .marked)) (flagTo (v .rom))
 
 -- an engine from its twin
 unfoldable pub engineOf : FlatEngine → Engine

@@ -1,6 +1,6 @@
 // From a twin to what it stands for, and back.
 ghost use mathlib.Core.Path.{_≡_};
-ghost use Rattle.cabinet.specs.Twins.{flagOf, flagTo, stageOf, stageTo, voiceOf, voiceTo, engineOf, engineTo, playerOf, playerTo};
+ghost use Rattle.cabinet.specs.Twins.{flagOf, flagTo, stageOf, stageTo, voiceFrom, voiceOf, twinFrom, voiceTo, engineOf, engineTo, playerOf, playerTo};
 use crate::FlatEngine;
 use crate::FlatPlayer;
 use crate::FlatStage;
@@ -81,19 +81,56 @@ fn stage_to(s: Stage) -> FlatStage
     }
 }
 
-fn voice_of(v: FlatVoice) -> Voice
-    ensures { λ r. ⌜ r ≡ voiceOf v ⌝ }
+// A voice with the numbers of a twin, a stage and the two flags.
+fn voice_from(v: FlatVoice, stage: Stage, marked: bool, rom: bool) -> Voice
+    ensures { λ r. ⌜ r ≡ voiceFrom v stage marked rom ⌝ }
 {
-    let s = v.stage;
     Voice {
-        stage: stage_of(s),
+        stage,
         place: v.place,
         channel: v.channel,
         key: v.key,
         velocity: v.velocity,
-        marked: flag_of(v.marked),
+        marked,
         class: v.class,
-        rom: flag_of(v.rom),
+        rom,
+        start: v.start,
+        end: v.end,
+        mode: v.mode,
+        loopfrom: v.loopfrom,
+        loopto: v.loopto,
+        rate: v.rate,
+        pitch: v.pitch,
+        pan: v.pan,
+        attenuation: v.attenuation,
+        attack: v.attack,
+        hold: v.hold,
+        decay: v.decay,
+        sustain: v.sustain,
+        release: v.release,
+    }
+}
+
+fn voice_of(v: FlatVoice) -> Voice
+    ensures { λ r. ⌜ r ≡ voiceOf v ⌝ }
+{
+    let s = v.stage;
+    voice_from(v, stage_of(s), flag_of(v.marked), flag_of(v.rom))
+}
+
+// A twin with the numbers of a voice, a stage and the two flags.
+fn twin_from(v: Voice, stage: FlatStage, marked: u8, rom: u8) -> FlatVoice
+    ensures { λ r. ⌜ r ≡ twinFrom v stage marked rom ⌝ }
+{
+    FlatVoice {
+        stage,
+        place: v.place,
+        channel: v.channel,
+        key: v.key,
+        velocity: v.velocity,
+        marked,
+        class: v.class,
+        rom,
         start: v.start,
         end: v.end,
         mode: v.mode,
@@ -115,30 +152,7 @@ fn voice_to(v: Voice) -> FlatVoice
     ensures { λ r. ⌜ r ≡ voiceTo v ⌝ }
 {
     let s = v.stage;
-    FlatVoice {
-        stage: stage_to(s),
-        place: v.place,
-        channel: v.channel,
-        key: v.key,
-        velocity: v.velocity,
-        marked: flag_to(v.marked),
-        class: v.class,
-        rom: flag_to(v.rom),
-        start: v.start,
-        end: v.end,
-        mode: v.mode,
-        loopfrom: v.loopfrom,
-        loopto: v.loopto,
-        rate: v.rate,
-        pitch: v.pitch,
-        pan: v.pan,
-        attenuation: v.attenuation,
-        attack: v.attack,
-        hold: v.hold,
-        decay: v.decay,
-        sustain: v.sustain,
-        release: v.release,
-    }
+    twin_from(v, stage_to(s), flag_to(v.marked), flag_to(v.rom))
 }
 
 fn engine_of(e: FlatEngine) -> Engine

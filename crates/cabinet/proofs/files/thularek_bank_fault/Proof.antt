@@ -1,3 +1,5 @@
+use mathlib.Core.Path.{ap, _∙_}
+use Rattle.cabinet.specs.Files.{faultKind, faultPlace}
 use borrow.Author.Needs.{needs}
 use Rattle.cabinet.proofs.files.thularek_bank_fault.Statement.{statement}
 use Rattle.cabinet.proofs.files.thularek_bank_fault.Tie as tie
@@ -21,7 +23,9 @@ fault-kind-requires c κs = search needs
 
 -- src/files.rt:69:1
 returns : tie.Need-returns
-returns c = ?
+returns c =
+    let e = c .before .before .admission .ensures in
+    (c .fault-kind .ensures ∙ ap faultKind e, c .before .fault-place .ensures ∙ ap faultPlace e)
 
 pub thularek-bank-fault-spec : {M : Type 1} → statement M
 thularek-bank-fault-spec =

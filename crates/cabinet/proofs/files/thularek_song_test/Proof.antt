@@ -1,3 +1,5 @@
+use mathlib.Core.Path.{ap, _∙_}
+use Rattle.smf.specs.declared.Tested.{Tested}
 use borrow.Author.Needs.{needs}
 use Rattle.cabinet.proofs.files.thularek_song_test.Statement.{statement}
 use Rattle.cabinet.proofs.files.thularek_song_test.Tie as tie
@@ -16,7 +18,9 @@ number-requires c κs = search needs
 
 -- src/files.rt:149:1
 returns : tie.Need-returns
-returns c = ?
+returns c =
+    let e = c .before .test .ensures in
+    (c .number .ensures ∙ ap (λ (x : Tested). x .number) e, ap (λ (x : Tested). x .place) e)
 
 pub thularek-song-test-spec : {M : Type 1} → statement M
 thularek-song-test-spec = tie.close (tie.spec test-requires number-requires returns)

@@ -1,3 +1,5 @@
+use mathlib.Core.Path.{ap, _∙_}
+use Rattle.wave.specs.declared.Heard.{Heard}
 use borrow.Author.Needs.{needs}
 use Rattle.cabinet.proofs.files.thularek_wave_read.Statement.{statement}
 use Rattle.cabinet.proofs.files.thularek_wave_read.Tie as tie
@@ -20,7 +22,9 @@ same-length c = search needs
 
 -- src/files.rt:175:1
 returns : tie.Need-returns
-returns c = ?
+returns c =
+    let e = c .before .before .read .ensures in
+    (c .number .ensures ∙ ap (λ (x : Heard). x .number) (e .0), ap (λ (x : Heard). x .frames) (e .0), e .1)
 
 pub thularek-wave-read-spec : {M : Type 1} → statement M
 thularek-wave-read-spec = tie.close (tie.spec read-requires number-requires same-length returns)

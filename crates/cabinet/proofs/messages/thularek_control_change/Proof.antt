@@ -113,41 +113,41 @@ module _ {M : Type 1} (𝓤 : URA M) (H : Heap 𝓤) (A : Atoms 𝓤) (W : Given
   exits r e fits =
       qed W (‵ (fobs γ (T.the-row .coded .code r)) ∷ ‵ (fbor κ (Body (mem T.the-row) b o γ)) ∷ ‵ (flft κ q) ∷ ‵ ftrue ∷ []) ∵
       suffices ! _ (ends-at 𝓤 H A f.ended stayed (f.clauses 𝓤 H A at-mem run) W (((κ, tt), (q, tt), tt, x, at), tt) (vint w32 (r .number)) (r .number) (r, (tt, (tt, (tt, tt)))) (tt, (tt, (tt, (tt, tt))))) $
-      says ! (e, ap (λ (z : S). z .number) e) $ move ! (2 ∷ 3 ∷ []) $ join ! $ frame ! $ feqI ! (List Val) (vptr b o ∷ []) (vptr b o ∷ []) refl $ fjoin3 ! $ nothing ! $ 
-        owned ! u8 (Is u8) (uint-makes 𝓤 H A W w8) value _ (refl, fits-value) $ fjoin ! $ 
-        owned ! u8 (Is u8) (uint-makes 𝓤 H A W w8) control _ (refl, fits-control) $ fjoin ! $ 
-        owned ! u8 (Is u8) (uint-makes 𝓤 H A W w8) channel _ (refl, fits-channel) $ fjoin ! $ move ! (1 ∷ 0 ∷ []) $ fjoin ! $ frame ! $
+      says ! (e, ap (λ (z : S). z .number) e) $ move ! (2 ∷ 3 ∷ []) $ join ! $ frame ! $ feqI ! (List Val) (vptr b o ∷ []) (vptr b o ∷ []) refl $ fjoin3 ! $ nothing ! $
+      owned ! u8 (Is u8) (uint-makes 𝓤 H A W w8) value _ (refl, fits-value) $ fjoin ! $
+      owned ! u8 (Is u8) (uint-makes 𝓤 H A W w8) control _ (refl, fits-control) $ fjoin ! $
+      owned ! u8 (Is u8) (uint-makes 𝓤 H A W w8) channel _ (refl, fits-channel) $ fjoin ! $ move ! (1 ∷ 0 ∷ []) $ fjoin ! $ frame ! $
       owned ! u32 (Is u32) (uint-makes 𝓤 H A W w32) (r .number) _ (refl, fits) $ done !
 
   module _ (C : Calls 𝓤 H) (Λ : Loops 𝓤 H) (fm : FmC 𝓤 H (W .laws) C) (known : Triple 𝓤 (C #step) (Step 𝓤 H A at-mem run)) where
     walk : ent 𝓤 (onEntry 𝓤 H A f.signature (κ, tt) (q, tt) x at) (WpFn 𝓤 H C Λ code.function (vptr b o ∷ vint w8 channel ∷ vint w8 control ∷ vint w8 value ∷ []) Post)
     walk =
         qed W ((‵ (flft κ q) ⊛ ‵ ftrue) ∷ ‵ (owns (MutRef (named 0) κ T.the-row ∷ u8 ∷ u8 ∷ u8 ∷ []) x at) ∷ []) ∵
-        split ! $ move ! (2 ∷ []) $ fsplit ! $ move ! (1 ∷ []) $ drop ! $ fsplit3 ! $ drop ! $ 
-        enter ! C Λ code.function (vptr b o ∷ vint w8 channel ∷ vint w8 control ∷ vint w8 value ∷ []) _ $ alloc1 ! (λ l₀. alloc1 ! (λ l₁. alloc1 ! (λ l₂. 
-        alloc1 ! (λ l₃. alloc1 ! (λ l₄. alloc1 ! (λ l₅. alloc1 ! (λ l₆. alloc0 ! $ params1 ! $ pass1 ! (init ! 10 refl (tt, tt)) $ 
-        pass1 ! (init ! 8 refl (tt, record { fits = fits-channel })) $ pass1 ! (init ! 6 refl (tt, record { fits = fits-control })) $ 
-        pass1 ! (init ! 4 refl (tt, record { fits = fits-value })) $ pass0 ! $ move ! (14 ∷ 15 ∷ 16 ∷ []) $ opens ! tt T.the-row {h = h} b o (λ vs. 
-        spelt ! T.the-row (Is T.the-row) (shows 𝓤 H A T.the-row) (LL.vals T.the-type T′.the-laws) (LL.tells T.the-type T′.the-laws) fullShare h vs b o $ 
-        move ! (1 ∷ []) $ peeks ! T.the-row (Is T.the-row) (shows 𝓤 H A T.the-row) h (LL.vals T.the-type T′.the-laws h) (λ was. move ! (1 ∷ 0 ∷ []) $ 
-        assigns ! (of-opd ! (load ! (from ! (hop ! (look ! 15 refl) (stop !))) (look-raw ! 0 refl))) (from ! (stop !)) (init ! 5 refl (LL.lawful T.the-type T′.the-laws 𝓤 H A W .typed h _ was .0)) $ 
-        nothing ! $ owned ! u8 (Is u8) (uint-makes 𝓤 H A W w8) value _ (refl, fits-value) $ fjoin ! $ 
-        owned ! u8 (Is u8) (uint-makes 𝓤 H A W w8) control _ (refl, fits-control) $ fjoin ! $ 
-        owned ! u8 (Is u8) (uint-makes 𝓤 H A W w8) channel _ (refl, fits-channel) $ fjoin ! $ move ! (2 ∷ 0 ∷ []) $ fjoin ! $ move ! (19 ∷ 0 ∷ []) $ 
-        use2 W (raw (Step 𝓤 H A at-mem run .pre handed)) asked $ 
-        calls-at ! fm (Step 𝓤 H A at-mem run) known handed (and-then ! (load ! (from ! (stop !)) (look ! 5 refl)) (and-then ! (load ! (from ! (stop !)) (look ! 13 refl)) (and-then ! (load ! (from ! (stop !)) (look ! 11 refl)) (and-then ! (load ! (from ! (stop !)) (look ! 9 refl)) (no-more !))))) (λ u. 
-        use1 W (later (some (λ (r : S). (‵ ftrue ⊛ ‵ (T.the-row .own r (u ∷ []))) ⊛ raw (ensured 𝓤 H A g.ended (g.clauses 𝓤 H A at-mem run) tt y tt r)))) (id⊢ 𝓤 _) $ 
-        await ! tt $ pick ! (λ r. split ! $ move ! (1 ∷ []) $ use1 W (raw (fact 𝓤 (r ≡ r′))) (said r) $ heard ! (r ≡ r′) (λ e. split ! $ move ! (1 ∷ []) $ 
-        peeks ! T.the-row (Is T.the-row) (shows 𝓤 H A T.the-row) r (u ∷ []) (λ is. 
-        land ! (from ! (stop !)) (init ! 8 refl (LL.lawful T.the-type T′.the-laws 𝓤 H A W .typed r _ is .0)) $ 
-        assigns ! (of-opd ! (load ! (from ! (stop !)) (look ! 8 refl))) (from ! (hop ! (look ! 16 refl) (stop !))) (store-raw ! 2 refl (LL.lawful T.the-type T′.the-laws 𝓤 H A W .typed r _ is .0)) $ 
-        move ! (2 ∷ 0 ∷ []) $ 
-        spelt ! T.the-row (Is T.the-row) (shows 𝓤 H A T.the-row) (LL.vals T.the-type T′.the-laws) (LL.tells T.the-type T′.the-laws) fullShare r (u ∷ []) b o $ 
-        move ! (1 ∷ []) $ peeks ! T.the-row (Is T.the-row) (shows 𝓤 H A T.the-row) r (LL.vals T.the-type T′.the-laws r) (λ has. move ! (1 ∷ 0 ∷ []) $ 
-        assigns ! (of-opd ! (load ! (from ! (hop ! (look ! 16 refl) (fld ! refl (stop !)))) (look-in ! 0 (sub ! 0 refl (whole !))))) (from ! (stop !)) (init ! 18 refl (tt, record { fits = has .1 .1 .0 .1 })) $ 
-        move ! (0 ∷ 1 ∷ 3 ∷ 4 ∷ 5 ∷ []) $ closes ! tt T.the-row r (LL.vals T.the-type T′.the-laws r) b o $ returns ! (look ! 16 refl) $ forget ! 4 refl $ 
-        forget ! 6 refl $ forget ! 8 refl $ forget ! 10 refl $ forget ! 12 refl $ forget ! 14 refl $ forget ! 16 refl $ move ! (16 ∷ 17 ∷ []) $ free1 ! $ 
-        move ! (14 ∷ 15 ∷ []) $ free1 ! $ move ! (12 ∷ 13 ∷ []) $ free1 ! $ move ! (10 ∷ 11 ∷ []) $ free1 ! $ move ! (8 ∷ 9 ∷ []) $ free1 ! $ 
+        split ! $ move ! (2 ∷ []) $ fsplit ! $ move ! (1 ∷ []) $ drop ! $ fsplit3 ! $ drop ! $
+        enter ! C Λ code.function (vptr b o ∷ vint w8 channel ∷ vint w8 control ∷ vint w8 value ∷ []) _ $ alloc1 ! (λ l₀. alloc1 ! (λ l₁. alloc1 ! (λ l₂.
+        alloc1 ! (λ l₃. alloc1 ! (λ l₄. alloc1 ! (λ l₅. alloc1 ! (λ l₆. alloc0 ! $ params1 ! $ pass1 ! (init ! 10 refl (tt, tt)) $
+        pass1 ! (init ! 8 refl (tt, record { fits = fits-channel })) $ pass1 ! (init ! 6 refl (tt, record { fits = fits-control })) $
+        pass1 ! (init ! 4 refl (tt, record { fits = fits-value })) $ pass0 ! $ move ! (14 ∷ 15 ∷ 16 ∷ []) $ opens ! tt T.the-row {h = h} b o (λ vs.
+        spelt ! T.the-row (Is T.the-row) (shows 𝓤 H A T.the-row) (LL.vals T.the-type T′.the-laws) (LL.tells T.the-type T′.the-laws) fullShare h vs b o $
+        move ! (1 ∷ []) $ peeks ! T.the-row (Is T.the-row) (shows 𝓤 H A T.the-row) h (LL.vals T.the-type T′.the-laws h) (λ was. move ! (1 ∷ 0 ∷ []) $
+        assigns ! (of-opd ! (load ! (from ! (hop ! (look ! 15 refl) (stop !))) (look-raw ! 0 refl))) (from ! (stop !)) (init ! 5 refl (LL.lawful T.the-type T′.the-laws 𝓤 H A W .typed h _ was .0)) $
+        nothing ! $ owned ! u8 (Is u8) (uint-makes 𝓤 H A W w8) value _ (refl, fits-value) $ fjoin ! $
+        owned ! u8 (Is u8) (uint-makes 𝓤 H A W w8) control _ (refl, fits-control) $ fjoin ! $
+        owned ! u8 (Is u8) (uint-makes 𝓤 H A W w8) channel _ (refl, fits-channel) $ fjoin ! $ move ! (2 ∷ 0 ∷ []) $ fjoin ! $ move ! (19 ∷ 0 ∷ []) $
+        use2 W (raw (Step 𝓤 H A at-mem run .pre handed)) asked $
+        calls-at ! fm (Step 𝓤 H A at-mem run) known handed (and-then ! (load ! (from ! (stop !)) (look ! 5 refl)) (and-then ! (load ! (from ! (stop !)) (look ! 13 refl)) (and-then ! (load ! (from ! (stop !)) (look ! 11 refl)) (and-then ! (load ! (from ! (stop !)) (look ! 9 refl)) (no-more !))))) (λ u.
+        use1 W (later (some (λ (r : S). (‵ ftrue ⊛ ‵ (T.the-row .own r (u ∷ []))) ⊛ raw (ensured 𝓤 H A g.ended (g.clauses 𝓤 H A at-mem run) tt y tt r)))) (id⊢ 𝓤 _) $
+        await ! tt $ pick ! (λ r. split ! $ move ! (1 ∷ []) $ use1 W (raw (fact 𝓤 (r ≡ r′))) (said r) $ heard ! (r ≡ r′) (λ e. split ! $ move ! (1 ∷ []) $
+        peeks ! T.the-row (Is T.the-row) (shows 𝓤 H A T.the-row) r (u ∷ []) (λ is.
+        land ! (from ! (stop !)) (init ! 8 refl (LL.lawful T.the-type T′.the-laws 𝓤 H A W .typed r _ is .0)) $
+        assigns ! (of-opd ! (load ! (from ! (stop !)) (look ! 8 refl))) (from ! (hop ! (look ! 16 refl) (stop !))) (store-raw ! 2 refl (LL.lawful T.the-type T′.the-laws 𝓤 H A W .typed r _ is .0)) $
+        move ! (2 ∷ 0 ∷ []) $
+        spelt ! T.the-row (Is T.the-row) (shows 𝓤 H A T.the-row) (LL.vals T.the-type T′.the-laws) (LL.tells T.the-type T′.the-laws) fullShare r (u ∷ []) b o $
+        move ! (1 ∷ []) $ peeks ! T.the-row (Is T.the-row) (shows 𝓤 H A T.the-row) r (LL.vals T.the-type T′.the-laws r) (λ has. move ! (1 ∷ 0 ∷ []) $
+        assigns ! (of-opd ! (load ! (from ! (hop ! (look ! 16 refl) (fld ! refl (stop !)))) (look-in ! 0 (sub ! 0 refl (whole !))))) (from ! (stop !)) (init ! 18 refl (tt, record { fits = has .1 .1 .0 .1 })) $
+        move ! (0 ∷ 1 ∷ 3 ∷ 4 ∷ 5 ∷ []) $ closes ! tt T.the-row r (LL.vals T.the-type T′.the-laws r) b o $ returns ! (look ! 16 refl) $ forget ! 4 refl $
+        forget ! 6 refl $ forget ! 8 refl $ forget ! 10 refl $ forget ! 12 refl $ forget ! 14 refl $ forget ! 16 refl $ move ! (16 ∷ 17 ∷ []) $ free1 ! $
+        move ! (14 ∷ 15 ∷ []) $ free1 ! $ move ! (12 ∷ 13 ∷ []) $ free1 ! $ move ! (10 ∷ 11 ∷ []) $ free1 ! $ move ! (8 ∷ 9 ∷ []) $ free1 ! $
         move ! (6 ∷ 7 ∷ []) $ free1 ! $ move ! (4 ∷ 5 ∷ []) $ free1 ! $ free0 ! $ keep ! (0 ∷ 1 ∷ 2 ∷ 3 ∷ []) $ by ! (exits r e (has .1 .1 .0 .1))))))))))))))))
 
 module _ {M : Type 1} (𝓤 : URA M) (H : Heap 𝓤) (A : Atoms 𝓤) (W : Given 𝓤 H A) (at-mem : Memory → SProp 𝓤) (run : Routine → Fun 𝓤) where

@@ -131,52 +131,52 @@ module _ {M : Type 1} (𝓤 : URA M) (H : Heap 𝓤) (A : Atoms 𝓤) (W : Given
   exits r e fits =
       qed W (‵ (fobs γ (T.the-row .coded .code r)) ∷ ‵ (fbor κ (Body (mem T.the-row) b o γ)) ∷ ‵ (flft κ q) ∷ (‵ (flft κ₁ q₁) ⊛ ‵ (flft κ₂ q₂) ⊛ ‵ ftrue) ∷ ‵ Own-rom ∷ ‵ Own-ram ∷ ‵ Own-bank ∷ []) ∵
       suffices ! _ (ends-at 𝓤 H A f.ended stayed (f.clauses 𝓤 H A at-mem run) W (((κ, (κ₁, (κ₂, tt))), (q, (q₁, (q₂, tt))), tt, x, at), tt) (vint w32 (r .number)) (r .number) (r, (tt, (tt, (tt, (tt, (tt, (tt, tt))))))) (tt, (tt, (tt, (tt, (tt, (tt, (tt, tt)))))))) $
-      says ! (e, ap (λ (z : S). z .number) e) $ move ! (2 ∷ 3 ∷ []) $ join ! $ frame ! $ feqI ! (List Val) (vptr b o ∷ []) (vptr b o ∷ []) refl $ fjoin3 ! $ nothing ! $ 
-        owned ! u8 (Is u8) (uint-makes 𝓤 H A W w8) velocity _ (refl, fits-velocity) $ fjoin ! $ 
-        owned ! u8 (Is u8) (uint-makes 𝓤 H A W w8) key _ (refl, fits-key) $ fjoin ! $ 
-        owned ! u8 (Is u8) (uint-makes 𝓤 H A W w8) channel _ (refl, fits-channel) $ fjoin ! $ move ! (2 ∷ 0 ∷ []) $ fjoin ! $ move ! (2 ∷ 0 ∷ []) $ fjoin ! $ 
-        move ! (2 ∷ 0 ∷ []) $ fjoin ! $ move ! (1 ∷ 0 ∷ []) $ fjoin ! $ frame ! $
+      says ! (e, ap (λ (z : S). z .number) e) $ move ! (2 ∷ 3 ∷ []) $ join ! $ frame ! $ feqI ! (List Val) (vptr b o ∷ []) (vptr b o ∷ []) refl $ fjoin3 ! $ nothing ! $
+      owned ! u8 (Is u8) (uint-makes 𝓤 H A W w8) velocity _ (refl, fits-velocity) $ fjoin ! $
+      owned ! u8 (Is u8) (uint-makes 𝓤 H A W w8) key _ (refl, fits-key) $ fjoin ! $
+      owned ! u8 (Is u8) (uint-makes 𝓤 H A W w8) channel _ (refl, fits-channel) $ fjoin ! $ move ! (2 ∷ 0 ∷ []) $ fjoin ! $ move ! (2 ∷ 0 ∷ []) $ fjoin ! $
+      move ! (2 ∷ 0 ∷ []) $ fjoin ! $ move ! (1 ∷ 0 ∷ []) $ fjoin ! $ frame ! $
       owned ! u32 (Is u32) (uint-makes 𝓤 H A W w32) (r .number) _ (refl, fits) $ done !
 
   module _ (C : Calls 𝓤 H) (Λ : Loops 𝓤 H) (fm : FmC 𝓤 H (W .laws) C) (known : Triple 𝓤 (C #step) (Step 𝓤 H A at-mem run)) where
     walk : Is (ShrSlice (named 1) κ₁ u8) bank (v-bank ∷ []) → Is (ShrSlice (named 2) κ₂ i16) ram (v-ram ∷ []) → Is (ShrSlice (named 2) κ₂ i16) rom (v-rom ∷ []) → ent 𝓤 (onEntry 𝓤 H A f.signature (κ, (κ₁, (κ₂, tt))) (q, (q₁, (q₂, tt))) x at) (WpFn 𝓤 H C Λ code.function (vptr b o ∷ v-bank ∷ v-ram ∷ v-rom ∷ vint w8 channel ∷ vint w8 key ∷ vint w8 velocity ∷ []) Post)
     walk is-bank is-ram is-rom =
         qed W ((‵ (flft κ q) ⊛ (‵ (flft κ₁ q₁) ⊛ ‵ (flft κ₂ q₂) ⊛ ‵ ftrue)) ∷ ‵ (owns (MutRef (named 0) κ T.the-row ∷ ShrSlice (named 1) κ₁ u8 ∷ ShrSlice (named 2) κ₂ i16 ∷ ShrSlice (named 2) κ₂ i16 ∷ u8 ∷ u8 ∷ u8 ∷ []) x at) ∷ []) ∵
-        split ! $ move ! (2 ∷ []) $ fsplit ! $ move ! (1 ∷ []) $ fsplit ! $ 
-        use1 W (‵ Own-bank ⊛ ‵ Own-bank) (shr-slice-copy 𝓤 H A W (named 1) κ₁ u8 .twice bank (v-bank ∷ [])) $ split ! $ move ! (2 ∷ []) $ fsplit ! $ 
-        use1 W (‵ Own-ram ⊛ ‵ Own-ram) (shr-slice-copy 𝓤 H A W (named 2) κ₂ i16 .twice ram (v-ram ∷ [])) $ split ! $ move ! (2 ∷ []) $ fsplit ! $ 
-        use1 W (‵ Own-rom ⊛ ‵ Own-rom) (shr-slice-copy 𝓤 H A W (named 2) κ₂ i16 .twice rom (v-rom ∷ [])) $ split ! $ move ! (2 ∷ []) $ drop ! $ 
-        move ! (6 ∷ []) $ fsplit3 ! $ drop ! $ 
-        enter ! C Λ code.function (vptr b o ∷ v-bank ∷ v-ram ∷ v-rom ∷ vint w8 channel ∷ vint w8 key ∷ vint w8 velocity ∷ []) _ $ alloc1 ! (λ l₀. 
-        alloc1 ! (λ l₁. alloc1 ! (λ l₂. alloc1 ! (λ l₃. alloc1 ! (λ l₄. alloc1 ! (λ l₅. alloc1 ! (λ l₆. alloc1 ! (λ l₇. alloc1 ! (λ l₈. alloc1 ! (λ l₉. 
-        alloc0 ! $ params1 ! $ pass1 ! (init ! 16 refl (tt, tt)) $ 
-        pass1 ! (init ! 14 refl (shr-slice-lawful 𝓤 H A W (named 1) κ₁ u8 .typed bank (v-bank ∷ []) is-bank .0)) $ 
-        pass1 ! (init ! 12 refl (shr-slice-lawful 𝓤 H A W (named 2) κ₂ i16 .typed ram (v-ram ∷ []) is-ram .0)) $ 
-        pass1 ! (init ! 10 refl (shr-slice-lawful 𝓤 H A W (named 2) κ₂ i16 .typed rom (v-rom ∷ []) is-rom .0)) $ 
-        pass1 ! (init ! 8 refl (tt, record { fits = fits-channel })) $ pass1 ! (init ! 6 refl (tt, record { fits = fits-key })) $ 
-        pass1 ! (init ! 4 refl (tt, record { fits = fits-velocity })) $ pass0 ! $ move ! (20 ∷ 21 ∷ 28 ∷ []) $ opens ! tt T.the-row {h = h} b o (λ vs. 
-        spelt ! T.the-row (Is T.the-row) (shows 𝓤 H A T.the-row) (LL.vals T.the-type T′.the-laws) (LL.tells T.the-type T′.the-laws) fullShare h vs b o $ 
-        move ! (1 ∷ []) $ peeks ! T.the-row (Is T.the-row) (shows 𝓤 H A T.the-row) h (LL.vals T.the-type T′.the-laws h) (λ was. move ! (1 ∷ 0 ∷ []) $ 
-        assigns ! (of-opd ! (load ! (from ! (hop ! (look ! 21 refl) (stop !))) (look-raw ! 0 refl))) (from ! (stop !)) (init ! 5 refl (LL.lawful T.the-type T′.the-laws 𝓤 H A W .typed h _ was .0)) $ 
-        nothing ! $ owned ! u8 (Is u8) (uint-makes 𝓤 H A W w8) velocity _ (refl, fits-velocity) $ fjoin ! $ 
-        owned ! u8 (Is u8) (uint-makes 𝓤 H A W w8) key _ (refl, fits-key) $ fjoin ! $ 
-        owned ! u8 (Is u8) (uint-makes 𝓤 H A W w8) channel _ (refl, fits-channel) $ fjoin ! $ move ! (26 ∷ 0 ∷ []) $ fjoin ! $ move ! (27 ∷ 0 ∷ []) $ 
-        fjoin ! $ move ! (28 ∷ 0 ∷ []) $ fjoin ! $ move ! (2 ∷ 0 ∷ []) $ fjoin ! $ move ! (28 ∷ 0 ∷ []) $ 
-        use2 W (raw (Step 𝓤 H A at-mem run .pre handed)) asked $ 
-        calls-at ! fm (Step 𝓤 H A at-mem run) known handed (and-then ! (load ! (from ! (stop !)) (look ! 5 refl)) (and-then ! (load ! (from ! (stop !)) (look ! 19 refl)) (and-then ! (load ! (from ! (stop !)) (look ! 17 refl)) (and-then ! (load ! (from ! (stop !)) (look ! 15 refl)) (and-then ! (load ! (from ! (stop !)) (look ! 13 refl)) (and-then ! (load ! (from ! (stop !)) (look ! 11 refl)) (and-then ! (load ! (from ! (stop !)) (look ! 9 refl)) (no-more !)))))))) (λ u. 
-        use1 W (later (some (λ (r : S). ((‵ (flft κ₁ q₁) ⊛ ‵ (flft κ₂ q₂) ⊛ ‵ ftrue) ⊛ ‵ (T.the-row .own r (u ∷ []))) ⊛ raw (ensured 𝓤 H A g.ended (g.clauses 𝓤 H A at-mem run) (κ₁, (κ₂, tt)) y tt r)))) (id⊢ 𝓤 _) $ 
-        await ! tt $ pick ! (λ r. split ! $ move ! (1 ∷ []) $ use1 W (raw (fact 𝓤 (r ≡ r′))) (said r) $ heard ! (r ≡ r′) (λ e. split ! $ move ! (1 ∷ []) $ 
-        peeks ! T.the-row (Is T.the-row) (shows 𝓤 H A T.the-row) r (u ∷ []) (λ is. 
-        land ! (from ! (stop !)) (init ! 8 refl (LL.lawful T.the-type T′.the-laws 𝓤 H A W .typed r _ is .0)) $ 
-        assigns ! (of-opd ! (load ! (from ! (stop !)) (look ! 8 refl))) (from ! (hop ! (look ! 22 refl) (stop !))) (store-raw ! 2 refl (LL.lawful T.the-type T′.the-laws 𝓤 H A W .typed r _ is .0)) $ 
-        move ! (2 ∷ 0 ∷ []) $ 
-        spelt ! T.the-row (Is T.the-row) (shows 𝓤 H A T.the-row) (LL.vals T.the-type T′.the-laws) (LL.tells T.the-type T′.the-laws) fullShare r (u ∷ []) b o $ 
-        move ! (1 ∷ []) $ peeks ! T.the-row (Is T.the-row) (shows 𝓤 H A T.the-row) r (LL.vals T.the-type T′.the-laws r) (λ has. move ! (1 ∷ 0 ∷ []) $ 
-        assigns ! (of-opd ! (load ! (from ! (hop ! (look ! 22 refl) (fld ! refl (stop !)))) (look-in ! 0 (sub ! 0 refl (whole !))))) (from ! (stop !)) (init ! 24 refl (tt, record { fits = has .1 .1 .0 .1 })) $ 
-        move ! (0 ∷ 1 ∷ 3 ∷ 4 ∷ 5 ∷ []) $ closes ! tt T.the-row r (LL.vals T.the-type T′.the-laws r) b o $ returns ! (look ! 22 refl) $ forget ! 4 refl $ 
-        forget ! 6 refl $ forget ! 8 refl $ forget ! 10 refl $ forget ! 12 refl $ forget ! 14 refl $ forget ! 16 refl $ forget ! 18 refl $ forget ! 20 refl $ 
-        forget ! 22 refl $ move ! (22 ∷ 23 ∷ []) $ free1 ! $ move ! (20 ∷ 21 ∷ []) $ free1 ! $ move ! (18 ∷ 19 ∷ []) $ free1 ! $ move ! (16 ∷ 17 ∷ []) $ 
-        free1 ! $ move ! (14 ∷ 15 ∷ []) $ free1 ! $ move ! (12 ∷ 13 ∷ []) $ free1 ! $ move ! (10 ∷ 11 ∷ []) $ free1 ! $ move ! (8 ∷ 9 ∷ []) $ free1 ! $ 
+        split ! $ move ! (2 ∷ []) $ fsplit ! $ move ! (1 ∷ []) $ fsplit ! $
+        use1 W (‵ Own-bank ⊛ ‵ Own-bank) (shr-slice-copy 𝓤 H A W (named 1) κ₁ u8 .twice bank (v-bank ∷ [])) $ split ! $ move ! (2 ∷ []) $ fsplit ! $
+        use1 W (‵ Own-ram ⊛ ‵ Own-ram) (shr-slice-copy 𝓤 H A W (named 2) κ₂ i16 .twice ram (v-ram ∷ [])) $ split ! $ move ! (2 ∷ []) $ fsplit ! $
+        use1 W (‵ Own-rom ⊛ ‵ Own-rom) (shr-slice-copy 𝓤 H A W (named 2) κ₂ i16 .twice rom (v-rom ∷ [])) $ split ! $ move ! (2 ∷ []) $ drop ! $
+        move ! (6 ∷ []) $ fsplit3 ! $ drop ! $
+        enter ! C Λ code.function (vptr b o ∷ v-bank ∷ v-ram ∷ v-rom ∷ vint w8 channel ∷ vint w8 key ∷ vint w8 velocity ∷ []) _ $ alloc1 ! (λ l₀.
+        alloc1 ! (λ l₁. alloc1 ! (λ l₂. alloc1 ! (λ l₃. alloc1 ! (λ l₄. alloc1 ! (λ l₅. alloc1 ! (λ l₆. alloc1 ! (λ l₇. alloc1 ! (λ l₈. alloc1 ! (λ l₉.
+        alloc0 ! $ params1 ! $ pass1 ! (init ! 16 refl (tt, tt)) $
+        pass1 ! (init ! 14 refl (shr-slice-lawful 𝓤 H A W (named 1) κ₁ u8 .typed bank (v-bank ∷ []) is-bank .0)) $
+        pass1 ! (init ! 12 refl (shr-slice-lawful 𝓤 H A W (named 2) κ₂ i16 .typed ram (v-ram ∷ []) is-ram .0)) $
+        pass1 ! (init ! 10 refl (shr-slice-lawful 𝓤 H A W (named 2) κ₂ i16 .typed rom (v-rom ∷ []) is-rom .0)) $
+        pass1 ! (init ! 8 refl (tt, record { fits = fits-channel })) $ pass1 ! (init ! 6 refl (tt, record { fits = fits-key })) $
+        pass1 ! (init ! 4 refl (tt, record { fits = fits-velocity })) $ pass0 ! $ move ! (20 ∷ 21 ∷ 28 ∷ []) $ opens ! tt T.the-row {h = h} b o (λ vs.
+        spelt ! T.the-row (Is T.the-row) (shows 𝓤 H A T.the-row) (LL.vals T.the-type T′.the-laws) (LL.tells T.the-type T′.the-laws) fullShare h vs b o $
+        move ! (1 ∷ []) $ peeks ! T.the-row (Is T.the-row) (shows 𝓤 H A T.the-row) h (LL.vals T.the-type T′.the-laws h) (λ was. move ! (1 ∷ 0 ∷ []) $
+        assigns ! (of-opd ! (load ! (from ! (hop ! (look ! 21 refl) (stop !))) (look-raw ! 0 refl))) (from ! (stop !)) (init ! 5 refl (LL.lawful T.the-type T′.the-laws 𝓤 H A W .typed h _ was .0)) $
+        nothing ! $ owned ! u8 (Is u8) (uint-makes 𝓤 H A W w8) velocity _ (refl, fits-velocity) $ fjoin ! $
+        owned ! u8 (Is u8) (uint-makes 𝓤 H A W w8) key _ (refl, fits-key) $ fjoin ! $
+        owned ! u8 (Is u8) (uint-makes 𝓤 H A W w8) channel _ (refl, fits-channel) $ fjoin ! $ move ! (26 ∷ 0 ∷ []) $ fjoin ! $ move ! (27 ∷ 0 ∷ []) $
+        fjoin ! $ move ! (28 ∷ 0 ∷ []) $ fjoin ! $ move ! (2 ∷ 0 ∷ []) $ fjoin ! $ move ! (28 ∷ 0 ∷ []) $
+        use2 W (raw (Step 𝓤 H A at-mem run .pre handed)) asked $
+        calls-at ! fm (Step 𝓤 H A at-mem run) known handed (and-then ! (load ! (from ! (stop !)) (look ! 5 refl)) (and-then ! (load ! (from ! (stop !)) (look ! 19 refl)) (and-then ! (load ! (from ! (stop !)) (look ! 17 refl)) (and-then ! (load ! (from ! (stop !)) (look ! 15 refl)) (and-then ! (load ! (from ! (stop !)) (look ! 13 refl)) (and-then ! (load ! (from ! (stop !)) (look ! 11 refl)) (and-then ! (load ! (from ! (stop !)) (look ! 9 refl)) (no-more !)))))))) (λ u.
+        use1 W (later (some (λ (r : S). ((‵ (flft κ₁ q₁) ⊛ ‵ (flft κ₂ q₂) ⊛ ‵ ftrue) ⊛ ‵ (T.the-row .own r (u ∷ []))) ⊛ raw (ensured 𝓤 H A g.ended (g.clauses 𝓤 H A at-mem run) (κ₁, (κ₂, tt)) y tt r)))) (id⊢ 𝓤 _) $
+        await ! tt $ pick ! (λ r. split ! $ move ! (1 ∷ []) $ use1 W (raw (fact 𝓤 (r ≡ r′))) (said r) $ heard ! (r ≡ r′) (λ e. split ! $ move ! (1 ∷ []) $
+        peeks ! T.the-row (Is T.the-row) (shows 𝓤 H A T.the-row) r (u ∷ []) (λ is.
+        land ! (from ! (stop !)) (init ! 8 refl (LL.lawful T.the-type T′.the-laws 𝓤 H A W .typed r _ is .0)) $
+        assigns ! (of-opd ! (load ! (from ! (stop !)) (look ! 8 refl))) (from ! (hop ! (look ! 22 refl) (stop !))) (store-raw ! 2 refl (LL.lawful T.the-type T′.the-laws 𝓤 H A W .typed r _ is .0)) $
+        move ! (2 ∷ 0 ∷ []) $
+        spelt ! T.the-row (Is T.the-row) (shows 𝓤 H A T.the-row) (LL.vals T.the-type T′.the-laws) (LL.tells T.the-type T′.the-laws) fullShare r (u ∷ []) b o $
+        move ! (1 ∷ []) $ peeks ! T.the-row (Is T.the-row) (shows 𝓤 H A T.the-row) r (LL.vals T.the-type T′.the-laws r) (λ has. move ! (1 ∷ 0 ∷ []) $
+        assigns ! (of-opd ! (load ! (from ! (hop ! (look ! 22 refl) (fld ! refl (stop !)))) (look-in ! 0 (sub ! 0 refl (whole !))))) (from ! (stop !)) (init ! 24 refl (tt, record { fits = has .1 .1 .0 .1 })) $
+        move ! (0 ∷ 1 ∷ 3 ∷ 4 ∷ 5 ∷ []) $ closes ! tt T.the-row r (LL.vals T.the-type T′.the-laws r) b o $ returns ! (look ! 22 refl) $ forget ! 4 refl $
+        forget ! 6 refl $ forget ! 8 refl $ forget ! 10 refl $ forget ! 12 refl $ forget ! 14 refl $ forget ! 16 refl $ forget ! 18 refl $ forget ! 20 refl $
+        forget ! 22 refl $ move ! (22 ∷ 23 ∷ []) $ free1 ! $ move ! (20 ∷ 21 ∷ []) $ free1 ! $ move ! (18 ∷ 19 ∷ []) $ free1 ! $ move ! (16 ∷ 17 ∷ []) $
+        free1 ! $ move ! (14 ∷ 15 ∷ []) $ free1 ! $ move ! (12 ∷ 13 ∷ []) $ free1 ! $ move ! (10 ∷ 11 ∷ []) $ free1 ! $ move ! (8 ∷ 9 ∷ []) $ free1 ! $
         move ! (6 ∷ 7 ∷ []) $ free1 ! $ move ! (4 ∷ 5 ∷ []) $ free1 ! $ free0 ! $ keep ! (0 ∷ 1 ∷ 2 ∷ 3 ∷ 4 ∷ 5 ∷ 6 ∷ []) $ by ! (exits r e (has .1 .1 .0 .1)))))))))))))))))))
 
 module _ {M : Type 1} (𝓤 : URA M) (H : Heap 𝓤) (A : Atoms 𝓤) (W : Given 𝓤 H A) (at-mem : Memory → SProp 𝓤) (run : Routine → Fun 𝓤) where

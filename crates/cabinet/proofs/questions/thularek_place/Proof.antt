@@ -111,27 +111,27 @@ module _ {M : Type 1} (𝓤 : URA M) (H : Heap 𝓤) (A : Atoms 𝓤) (W : Given
   exits r u e =
       qed W (‵ (fres γ (T.the-row .coded .code h)) ∷ ‵ (fshr-bor κ (λ s. partAt T.the-row s h b o)) ∷ ‵ (flft κ q) ∷ ‵ ftrue ∷ ‵ (u32 .own r (u ∷ [])) ∷ []) ∵
       suffices ! _ (ends-at 𝓤 H A f.ended stayed (f.clauses 𝓤 H A at-mem run) W (((κ, tt), (q, tt), tt, x, at), tt) u r (tt, tt) (tt, tt)) $
-      says ! e $ move ! (2 ∷ 3 ∷ []) $ join ! $ frame ! $ feqI ! (List Val) (vptr b o ∷ []) (vptr b o ∷ []) refl $ fjoin3 ! $ nothing ! $ move ! (1 ∷ 0 ∷ []) $ 
-        fjoin ! $ frame ! $ done !
+      says ! e $ move ! (2 ∷ 3 ∷ []) $ join ! $ frame ! $ feqI ! (List Val) (vptr b o ∷ []) (vptr b o ∷ []) refl $ fjoin3 ! $ nothing ! $ move ! (1 ∷ 0 ∷ []) $
+      fjoin ! $ frame ! $ done !
 
   module _ (C : Calls 𝓤 H) (Λ : Loops 𝓤 H) (fm : FmC 𝓤 H (W .laws) C) (known : Triple 𝓤 (C #step) (Step 𝓤 H A at-mem run)) where
     walk : ent 𝓤 (onEntry 𝓤 H A f.signature (κ, tt) (q, tt) x at) (WpFn 𝓤 H C Λ code.function (vptr b o ∷ []) Post)
     walk =
         qed W ((‵ (flft κ q) ⊛ ‵ ftrue) ∷ ‵ (owns (ShrRef (named 0) κ T.the-row ∷ []) x at) ∷ []) ∵
-        split ! $ move ! (2 ∷ []) $ fsplit ! $ move ! (1 ∷ []) $ drop ! $ fsplit3 ! $ drop ! $ enter ! C Λ code.function (vptr b o ∷ []) _ $ alloc1 ! (λ l₀. 
-        alloc1 ! (λ l₁. alloc1 ! (λ l₂. alloc0 ! $ params1 ! $ pass1 ! (init ! 2 refl (tt, tt)) $ pass0 ! $ move ! (7 ∷ 8 ∷ []) $ 
-        looks ! tt T.the-row (Is T.the-row) (shows 𝓤 H A T.the-row) (LL.vals T.the-type T′.the-laws) (LL.tells T.the-type T′.the-laws) (LL.copy T.the-type T′.the-copy 𝓤 H A W) h b o (λ q′ vs. 
-        spelt ! T.the-row (Is T.the-row) (shows 𝓤 H A T.the-row) (LL.vals T.the-type T′.the-laws) (LL.tells T.the-type T′.the-laws) q′ h vs b o $ 
-        move ! (1 ∷ []) $ peeks ! T.the-row (Is T.the-row) (shows 𝓤 H A T.the-row) h (LL.vals T.the-type T′.the-laws h) (λ was. move ! (1 ∷ 0 ∷ []) $ 
-        assigns ! (of-opd ! (load ! (from ! (hop ! (look ! 6 refl) (stop !))) (look-raw ! 0 refl))) (from ! (stop !)) (init ! 4 refl (LL.lawful T.the-type T′.the-laws 𝓤 H A W .typed h _ was .0)) $ 
-        shuts ! tt T.the-row q′ h (LL.vals T.the-type T′.the-laws h) b o $ 
-        owned ! T.the-row (Is T.the-row) (LL.makes T.the-type T′.the-plain 𝓤 H A) h _ was $ nothing ! $ move ! (1 ∷ 0 ∷ []) $ fjoin ! $ 
-        move ! (10 ∷ 0 ∷ []) $ use2 W (raw (Step 𝓤 H A at-mem run .pre handed)) asked $ 
-        calls-at ! fm (Step 𝓤 H A at-mem run) known handed (and-then ! (load ! (from ! (stop !)) (look ! 3 refl)) (no-more !)) (λ u. 
-        use1 W (later (some (λ (r : ℕ). (‵ ftrue ⊛ ‵ (u32 .own r (u ∷ []))) ⊛ raw (ensured 𝓤 H A g.ended (g.clauses 𝓤 H A at-mem run) tt y tt r)))) (id⊢ 𝓤 _) $ 
-        await ! tt $ pick ! (λ r. split ! $ move ! (1 ∷ []) $ use1 W (raw (fact 𝓤 (r ≡ r′))) (said r) $ heard ! (r ≡ r′) (λ e. split ! $ move ! (1 ∷ []) $ 
-        peeks ! u32 (Is u32) (shows 𝓤 H A u32) r (u ∷ []) (λ is. land ! (from ! (stop !)) (init ! 8 refl (uint-lawful 𝓤 H A W w32 .typed r _ is .0)) $ 
-        returns ! (look ! 8 refl) $ forget ! 4 refl $ forget ! 6 refl $ forget ! 8 refl $ move ! (8 ∷ 9 ∷ []) $ free1 ! $ move ! (6 ∷ 7 ∷ []) $ free1 ! $ 
+        split ! $ move ! (2 ∷ []) $ fsplit ! $ move ! (1 ∷ []) $ drop ! $ fsplit3 ! $ drop ! $ enter ! C Λ code.function (vptr b o ∷ []) _ $ alloc1 ! (λ l₀.
+        alloc1 ! (λ l₁. alloc1 ! (λ l₂. alloc0 ! $ params1 ! $ pass1 ! (init ! 2 refl (tt, tt)) $ pass0 ! $ move ! (7 ∷ 8 ∷ []) $
+        looks ! tt T.the-row (Is T.the-row) (shows 𝓤 H A T.the-row) (LL.vals T.the-type T′.the-laws) (LL.tells T.the-type T′.the-laws) (LL.copy T.the-type T′.the-copy 𝓤 H A W) h b o (λ q′ vs.
+        spelt ! T.the-row (Is T.the-row) (shows 𝓤 H A T.the-row) (LL.vals T.the-type T′.the-laws) (LL.tells T.the-type T′.the-laws) q′ h vs b o $
+        move ! (1 ∷ []) $ peeks ! T.the-row (Is T.the-row) (shows 𝓤 H A T.the-row) h (LL.vals T.the-type T′.the-laws h) (λ was. move ! (1 ∷ 0 ∷ []) $
+        assigns ! (of-opd ! (load ! (from ! (hop ! (look ! 6 refl) (stop !))) (look-raw ! 0 refl))) (from ! (stop !)) (init ! 4 refl (LL.lawful T.the-type T′.the-laws 𝓤 H A W .typed h _ was .0)) $
+        shuts ! tt T.the-row q′ h (LL.vals T.the-type T′.the-laws h) b o $
+        owned ! T.the-row (Is T.the-row) (LL.makes T.the-type T′.the-plain 𝓤 H A) h _ was $ nothing ! $ move ! (1 ∷ 0 ∷ []) $ fjoin ! $
+        move ! (10 ∷ 0 ∷ []) $ use2 W (raw (Step 𝓤 H A at-mem run .pre handed)) asked $
+        calls-at ! fm (Step 𝓤 H A at-mem run) known handed (and-then ! (load ! (from ! (stop !)) (look ! 3 refl)) (no-more !)) (λ u.
+        use1 W (later (some (λ (r : ℕ). (‵ ftrue ⊛ ‵ (u32 .own r (u ∷ []))) ⊛ raw (ensured 𝓤 H A g.ended (g.clauses 𝓤 H A at-mem run) tt y tt r)))) (id⊢ 𝓤 _) $
+        await ! tt $ pick ! (λ r. split ! $ move ! (1 ∷ []) $ use1 W (raw (fact 𝓤 (r ≡ r′))) (said r) $ heard ! (r ≡ r′) (λ e. split ! $ move ! (1 ∷ []) $
+        peeks ! u32 (Is u32) (shows 𝓤 H A u32) r (u ∷ []) (λ is. land ! (from ! (stop !)) (init ! 8 refl (uint-lawful 𝓤 H A W w32 .typed r _ is .0)) $
+        returns ! (look ! 8 refl) $ forget ! 4 refl $ forget ! 6 refl $ forget ! 8 refl $ move ! (8 ∷ 9 ∷ []) $ free1 ! $ move ! (6 ∷ 7 ∷ []) $ free1 ! $
         move ! (4 ∷ 5 ∷ []) $ free1 ! $ free0 ! $ keep ! (4 ∷ 3 ∷ 2 ∷ 1 ∷ 0 ∷ []) $ by ! (exits r u e))))))))))
 
 module _ {M : Type 1} (𝓤 : URA M) (H : Heap 𝓤) (A : Atoms 𝓤) (W : Given 𝓤 H A) (at-mem : Memory → SProp 𝓤) (run : Routine → Fun 𝓤) where

@@ -1,3 +1,12 @@
+use Prim.Native.Nat.{_≤_, _-_}
+use mathlib.Core.Path.{_≡_, refl, sym}
+use mathlib.Core.List.{map}
+use native.Mathlib.Omega.{arith}
+use borrow.Author.Needs.{needs}
+use lib.ListN.{length, take, length-map, length-set}
+use Rattle.voice.specs.Changes.{blank}
+use Rattle.cabinet.specs.Twins.{voiceOf, voiceTo, engineOf}
+use Rattle.cabinet.proofs.TwinsLaws.{fill, filled}
 use Rattle.cabinet.proofs.twins.engine_of.Statement.{statement}
 use Rattle.cabinet.proofs.twins.engine_of.Tie as tie
 use Rattle.cabinet.proofs.twins.engine_of.Reads as reads
@@ -6,54 +15,68 @@ use Rattle.cabinet.proofs.twins.voice_of.Reads as voice-of-reads
 use Rattle.voice.proofs.no_voice.Reads as no-voice-reads
 
 abbrev Inv-loop : tie.InvT-loop
-Inv-loop e vs₀ i₀ vs i = ?
+Inv-loop e vs₀ i₀ vs i =
+    (length (e .voices) ≡ 32) × (length vs ≡ length (e .voices)) × (take i vs ≡ map voiceOf (take i (e .voices))) × (i ≤ 32)
 
 abbrev μ-loop : tie.MeasureT-loop
-μ-loop e vs₀ i₀ vs i = ?
+μ-loop e vs₀ i₀ vs i = 32 - i
 
 -- src/twins.rt:147:9
 no-voice-requires : tie.Need-no-voice-requires Inv-loop μ-loop
-no-voice-requires c κs = ?
+no-voice-requires c κs = search needs
 
 -- src/twins.rt:150:5
 loop-holds : tie.Need-loop-holds Inv-loop μ-loop
-loop-holds c = ?
+loop-holds c =
+    let n : length (c .before .args .t1 .voices) ≡ 32 = simp length-map at (c .before .good .0 .1 .1 .0 .1 .0 .1) in
+    (n, sym n, refl, omega arith)
 
 -- src/twins.rt:151:17
 mul-v : tie.Need-mul-v Inv-loop μ-loop
-mul-v c = ?
+mul-v c = search needs
 
 -- src/twins.rt:151:17
 element-copy-out-v : tie.Need-element-copy-out-v Inv-loop μ-loop
-element-copy-out-v c = ?
+element-copy-out-v c = search needs
 
 -- src/twins.rt:152:17
 voice-of-requires : tie.Need-voice-of-requires Inv-loop μ-loop
-voice-of-requires c κs = ?
+voice-of-requires c κs = search needs
 
 -- src/twins.rt:152:9
 mul-vs : tie.Need-mul-vs Inv-loop μ-loop
-mul-vs c = ?
+mul-vs c = search needs
 
 -- src/twins.rt:152:9
 array-set-from-vs : tie.Need-array-set-from-vs Inv-loop μ-loop
-array-set-from-vs c = ?
+array-set-from-vs c = search needs
 
 -- src/twins.rt:153:13
 add-i : tie.Need-add-i Inv-loop μ-loop
-add-i c = ?
+add-i c = search needs
 
 -- src/twins.rt:150:5
 loop-less : tie.Need-loop-less Inv-loop μ-loop
-loop-less c = ?
+loop-less c = search needs
 
 -- src/twins.rt:150:5
 loop-again : tie.Need-loop-again Inv-loop μ-loop
-loop-again c = ?
+loop-again c =
+    let l = c .before .before .before in
+    let a = l .before .before .args in
+    let i = l .loop .i in (
+      l .loop .inv .0,
+      simp length-set (l .loop .inv .1),
+      fill voiceOf (a .t1 .voices) (l .loop .vs) i (voiceTo blank) (c .voice-of .result) (omega arith) (l .loop .inv .1) (l .loop .inv .2) (c .voice-of .ensures),
+      omega arith,
+    )
 
 -- src/twins.rt:144:1
 returns : tie.Need-returns Inv-loop μ-loop
-returns c = ?
+unfolding engineOf
+returns c =
+    let l = c .before .before .before in
+    simp (filled voiceOf (l .before .before .args .t1 .voices) (l .loop .vs) (l .loop .i) (omega arith) (l .loop .inv .1) (l .loop .inv .2))
 
 pub engine-of-spec : {M : Type 1} → statement M
 engine-of-spec =

@@ -1,3 +1,5 @@
+use mathlib.Core.Path.{sym, ap}
+use Rattle.cabinet.specs.Twins.{stageTo}
 use borrow.Author.Needs.{needs}
 use Rattle.cabinet.proofs.twins.stage_to.Statement.{statement}
 use Rattle.cabinet.proofs.twins.stage_to.Tie as tie
@@ -30,27 +32,27 @@ enum-known-s-5 c = search needs
 
 -- src/twins.rt:51:1
 returns : tie.Need-returns
-returns c = ?
+returns c = sym (ap stageTo (c .before .s .given .1))
 
 -- src/twins.rt:51:1
 returns-2 : tie.Need-returns-2
-returns-2 c = ?
+returns-2 c = sym (ap stageTo (c .before .s2 .given .1))
 
 -- src/twins.rt:51:1
 returns-3 : tie.Need-returns-3
-returns-3 c = ?
+returns-3 c = sym (ap stageTo (c .before .s3 .given .1))
 
 -- src/twins.rt:51:1
 returns-4 : tie.Need-returns-4
-returns-4 c = ?
+returns-4 c = sym (ap stageTo (c .before .s4 .given .1))
 
 -- src/twins.rt:51:1
 returns-5 : tie.Need-returns-5
-returns-5 c = ?
+returns-5 c = sym (ap stageTo (c .enum-told .given .1))
 
 -- src/twins.rt:51:1
 returns-6 : tie.Need-returns-6
-returns-6 c = ?
+returns-6 c = sym (ap stageTo (c .before .s5 .given .1))
 
 pub stage-to-spec : {M : Type 1} → statement M
 stage-to-spec =
