@@ -24,6 +24,7 @@ pub fn flag_to(b: bool) -> u8
     if b { 1 } else { 0 }
 }
 
+// A stage by its number.
 fn stage_of(s: FlatStage) -> Stage
     ensures { λ r. ⌜ r ≡ stageOf s ⌝ }
 {
@@ -48,6 +49,7 @@ fn stage_of(s: FlatStage) -> Stage
     }
 }
 
+// A stage as numbers.
 fn stage_to(s: Stage) -> FlatStage
     ensures { λ r. ⌜ r ≡ stageTo s ⌝ }
 {
@@ -82,40 +84,41 @@ fn stage_to(s: Stage) -> FlatStage
 }
 
 // A voice with the numbers of a twin, a stage and the two flags.
-fn voice_from(v: FlatVoice, stage: Stage, marked: bool, rom: bool) -> Voice
-    ensures { λ r. ⌜ r ≡ voiceFrom v stage marked rom ⌝ }
+fn voice_from(f: FlatVoice, stage: Stage, marked: bool, rom: bool) -> Voice
+    ensures { λ r. ⌜ r ≡ voiceFrom f stage marked rom ⌝ }
 {
     Voice {
         stage,
-        place: v.place,
-        channel: v.channel,
-        key: v.key,
-        velocity: v.velocity,
+        place: f.place,
+        channel: f.channel,
+        key: f.key,
+        velocity: f.velocity,
         marked,
-        class: v.class,
+        class: f.class,
         rom,
-        start: v.start,
-        end: v.end,
-        mode: v.mode,
-        loopfrom: v.loopfrom,
-        loopto: v.loopto,
-        rate: v.rate,
-        pitch: v.pitch,
-        pan: v.pan,
-        attenuation: v.attenuation,
-        attack: v.attack,
-        hold: v.hold,
-        decay: v.decay,
-        sustain: v.sustain,
-        release: v.release,
+        start: f.start,
+        end: f.end,
+        mode: f.mode,
+        loopfrom: f.loopfrom,
+        loopto: f.loopto,
+        rate: f.rate,
+        pitch: f.pitch,
+        pan: f.pan,
+        attenuation: f.attenuation,
+        attack: f.attack,
+        hold: f.hold,
+        decay: f.decay,
+        sustain: f.sustain,
+        release: f.release,
     }
 }
 
-fn voice_of(v: FlatVoice) -> Voice
-    ensures { λ r. ⌜ r ≡ voiceOf v ⌝ }
+// A voice from its twin.
+fn voice_of(f: FlatVoice) -> Voice
+    ensures { λ r. ⌜ r ≡ voiceOf f ⌝ }
 {
-    let s = v.stage;
-    voice_from(v, stage_of(s), flag_of(v.marked), flag_of(v.rom))
+    let s = f.stage;
+    voice_from(f, stage_of(s), flag_of(f.marked), flag_of(f.rom))
 }
 
 // A twin with the numbers of a voice, a stage and the two flags.
@@ -148,6 +151,7 @@ fn twin_from(v: Voice, stage: FlatStage, marked: u8, rom: u8) -> FlatVoice
     }
 }
 
+// A voice's twin.
 fn voice_to(v: Voice) -> FlatVoice
     ensures { λ r. ⌜ r ≡ voiceTo v ⌝ }
 {
@@ -155,28 +159,30 @@ fn voice_to(v: Voice) -> FlatVoice
     twin_from(v, stage_to(s), flag_to(v.marked), flag_to(v.rom))
 }
 
-fn engine_of(e: FlatEngine) -> Engine
-    ensures { λ r. ⌜ r ≡ engineOf e ⌝ }
+// An engine from its twin.
+fn engine_of(f: FlatEngine) -> Engine
+    ensures { λ r. ⌜ r ≡ engineOf f ⌝ }
 {
     let z = voice::no_voice();
     let mut vs = [z; 32];
     let mut i: usize = 0;
     while i < 32 {
-        let v = e.voices[i];
+        let v = f.voices[i];
         vs[i] = voice_of(v);
         i = i + 1;
     }
-    let cs = e.channels;
-    let o = e.order;
+    let cs = f.channels;
+    let o = f.order;
     Engine {
         voices: vs,
         channels: cs,
-        sounding: e.sounding,
+        sounding: f.sounding,
         order: o,
-        clock: e.clock,
+        clock: f.clock,
     }
 }
 
+// An engine's twin.
 fn engine_to(e: Engine) -> FlatEngine
     ensures { λ r. ⌜ r ≡ engineTo e ⌝ }
 {
@@ -199,21 +205,23 @@ fn engine_to(e: Engine) -> FlatEngine
     }
 }
 
-pub fn player_of(p: FlatPlayer) -> Player
-    ensures { λ r. ⌜ r ≡ playerOf p ⌝ }
+// A player from its twin.
+pub fn player_of(f: FlatPlayer) -> Player
+    ensures { λ r. ⌜ r ≡ playerOf f ⌝ }
 {
-    let e = p.engine;
-    let cursor = p.cursor;
-    let event = p.event;
+    let e = f.engine;
+    let cursor = f.cursor;
+    let event = f.event;
     Player {
         engine: engine_of(e),
         cursor,
         event,
-        began: p.began,
-        ended: flag_of(p.ended),
+        began: f.began,
+        ended: flag_of(f.ended),
     }
 }
 
+// A player's twin.
 pub fn player_to(p: Player) -> FlatPlayer
     ensures { λ r. ⌜ r ≡ playerTo p ⌝ }
 {
