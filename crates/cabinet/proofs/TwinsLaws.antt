@@ -12,7 +12,7 @@ use Rattle.voice.specs.declared.Stage.the-variants as at
 use Rattle.voice.specs.declared.Voice.{Voice}
 use Rattle.state.specs.declared.Engine.{Engine}
 use Rattle.player.specs.declared.Player.{Player}
-use Rattle.cabinet.specs.Twins.{flagOf, flagTo, stageOf, stageTo, voiceOf, voiceTo, engineOf, engineTo, playerOf, playerTo}
+use Rattle.cabinet.specs.Twins.{flagOf, flagTo, stageOf, stageTo, voiceOfTwin, voiceTo, engineOf, engineTo, playerOf, playerTo}
 
 module _ {A B : Type 0} where
   -- a turn of such a loop
@@ -36,10 +36,10 @@ stage-back (at.Decay t) = refl
 stage-back at.Sustain = refl
 stage-back (at.Release f t) = refl
 
-voice-back : (v : Voice) → voiceOf (voiceTo v) ≡ v
+voice-back : (v : Voice) → voiceOfTwin (voiceTo v) ≡ v
 voice-back v = rw (stage-back (v .stage), flag-back (v .marked), flag-back (v .rom))
 
-voices-back : (vs : List Voice) → map voiceOf (map voiceTo vs) ≡ vs
+voices-back : (vs : List Voice) → map voiceOfTwin (map voiceTo vs) ≡ vs
 voices-back [] = refl
 voices-back (v ∷ vs) = rw (voice-back v, voices-back vs)
 

@@ -23,13 +23,13 @@ kept number count refused place p =
     record { number = number; count = count; refused = refused; place = place; player = playerTo p }
 
 -- after a direct call: the engine's answer, and the player with the engine as that leaves it
-abbrev pub told : Answered → Flat → Flat
-told a s = kept (a .status) (a .count) 0 0 (withEngine (playerIn s) (a .engine))
+abbrev pub keptAnswer : Answered → Flat → Flat
+keptAnswer a s = kept (a .status) (a .count) 0 0 (withEngine (playerIn s) (a .engine))
 
 -- after a start: its number, and the place of the file's first fault
-abbrev pub cuedUp : Begun → Flat
-cuedUp b = kept (b .number) 0 0 (b .place) (b .player)
+abbrev pub keptStart : Begun → Flat
+keptStart b = kept (b .number) 0 0 (b .place) (b .player)
 
 -- after a render of a song: its number, the events applied, and the refused ones among them
-abbrev pub performedBy : Answer → Flat
-performedBy a = kept (a .number) (a .applied) (a .refused) 0 (a .player)
+abbrev pub keptPlay : Answer → Flat
+keptPlay a = kept (a .number) (a .applied) (a .refused) 0 (a .player)

@@ -72,8 +72,8 @@ voiceFrom v stage marked rom =
     }
 
 -- a voice from its twin
-abbrev pub voiceOf : FlatVoice → Voice
-voiceOf v = voiceFrom v (stageOf (v .stage)) (flagOf (v .marked)) (flagOf (v .rom))
+abbrev pub voiceOfTwin : FlatVoice → Voice
+voiceOfTwin v = voiceFrom v (stageOf (v .stage)) (flagOf (v .marked)) (flagOf (v .rom))
 
 -- a twin with the numbers of a voice, a stage and the two flags
 abbrev pub twinFrom : Voice → FlatStage → ℕ → ℕ → FlatVoice
@@ -111,7 +111,7 @@ voiceTo v = twinFrom v (stageTo (v .stage)) (flagTo (v .marked)) (flagTo (v .rom
 unfoldable pub engineOf : FlatEngine → Engine
 engineOf e =
     record {
-      voices = map voiceOf (e .voices);
+      voices = map voiceOfTwin (e .voices);
       channels = e .channels;
       sounding = e .sounding;
       order = e .order;

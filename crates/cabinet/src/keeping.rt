@@ -1,6 +1,6 @@
 // What C's memory holds: the last call's number, count, refused events and place, and the player's twin.
 ghost use mathlib.Core.Path.{_≡_};
-ghost use Rattle.cabinet.specs.Keeping.{playerIn, kept, told, cuedUp, performedBy};
+ghost use Rattle.cabinet.specs.Keeping.{playerIn, kept, keptAnswer, keptStart, keptPlay};
 use crate::Flat;
 use crate::twins::player_of;
 use crate::twins::player_to;
@@ -31,8 +31,8 @@ pub fn keep(number: u8, count: u32, refused: u32, place: u32, p: Player) -> Flat
 }
 
 // After a direct call.
-pub fn tell(a: Answered, s: Flat) -> Flat
-    ensures { λ r. ⌜ r ≡ told a s ⌝ }
+pub fn keep_answer(a: Answered, s: Flat) -> Flat
+    ensures { λ r. ⌜ r ≡ keptAnswer a s ⌝ }
 {
     let e = a.engine;
     keep(
@@ -45,16 +45,16 @@ pub fn tell(a: Answered, s: Flat) -> Flat
 }
 
 // After a start.
-pub fn cue_up(b: Begun) -> Flat
-    ensures { λ r. ⌜ r ≡ cuedUp b ⌝ }
+pub fn keep_start(b: Begun) -> Flat
+    ensures { λ r. ⌜ r ≡ keptStart b ⌝ }
 {
     let p = b.player;
     keep(b.number, 0, 0, b.place, p)
 }
 
 // After a render of a song.
-pub fn perform(a: Answer) -> Flat
-    ensures { λ r. ⌜ r ≡ performedBy a ⌝ }
+pub fn keep_play(a: Answer) -> Flat
+    ensures { λ r. ⌜ r ≡ keptPlay a ⌝ }
 {
     let p = a.player;
     keep(a.number, a.applied, a.refused, 0, p)

@@ -2,10 +2,10 @@
 ghost use mathlib.Core.Path.{_≡_};
 ghost use Rattle.player.specs.Cues.{idle};
 ghost use Rattle.player.specs.Pauses.{started, stopped};
-ghost use Rattle.cabinet.specs.Keeping.{playerIn, kept, cuedUp};
+ghost use Rattle.cabinet.specs.Keeping.{playerIn, kept, keptStart};
 use crate::Flat;
-use crate::keeping::cue_up;
 use crate::keeping::keep;
+use crate::keeping::keep_start;
 use crate::keeping::player_in;
 
 fn begin() -> Flat
@@ -24,16 +24,16 @@ pub extern "C" fn thularek_init(state: &mut Flat) -> u32
 }
 
 fn song_start(s: Flat, song: &[u8]) -> Flat
-    ensures { λ r. ⌜ r ≡ cuedUp (started (now (song .entry)) (playerIn s)) ⌝ }
+    ensures { λ r. ⌜ r ≡ keptStart (started (now (song .entry)) (playerIn s)) ⌝ }
 {
     let p = player_in(s);
-    cue_up(player::start(p, song))
+    keep_start(player::start(p, song))
 }
 
 // A song starts at the clock's value. A refused file changes nothing of the player.
 #[no_mangle]
 pub extern "C" fn thularek_song_start(state: &mut Flat, song: &[u8]) -> u32
-    ensures { λ r. ⌜ (now (state .exit) ≡ cuedUp (started (now (song .entry)) (playerIn (now (state .entry))))) × (r ≡ started (now (song .entry)) (playerIn (now (state .entry))) .number) ⌝ }
+    ensures { λ r. ⌜ (now (state .exit) ≡ keptStart (started (now (song .entry)) (playerIn (now (state .entry))))) × (r ≡ started (now (song .entry)) (playerIn (now (state .entry))) .number) ⌝ }
 {
     *state = song_start(*state, song);
     state.number

@@ -1,6 +1,6 @@
 // From a twin to what it stands for, and back.
 ghost use mathlib.Core.Path.{_≡_};
-ghost use Rattle.cabinet.specs.Twins.{flagOf, flagTo, stageOf, stageTo, voiceFrom, voiceOf, twinFrom, voiceTo, engineOf, engineTo, playerOf, playerTo};
+ghost use Rattle.cabinet.specs.Twins.{flagOf, flagTo, stageOf, stageTo, voiceFrom, voiceOfTwin, twinFrom, voiceTo, engineOf, engineTo, playerOf, playerTo};
 use crate::FlatEngine;
 use crate::FlatPlayer;
 use crate::FlatStage;
@@ -115,7 +115,7 @@ fn voice_from(f: FlatVoice, stage: Stage, marked: bool, rom: bool) -> Voice
 
 // A voice from its twin.
 fn voice_of(f: FlatVoice) -> Voice
-    ensures { λ r. ⌜ r ≡ voiceOf f ⌝ }
+    ensures { λ r. ⌜ r ≡ voiceOfTwin f ⌝ }
 {
     let s = f.stage;
     voice_from(f, stage_of(s), flag_of(f.marked), flag_of(f.rom))

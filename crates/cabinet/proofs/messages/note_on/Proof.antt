@@ -4,7 +4,7 @@ use Rattle.cabinet.proofs.messages.note_on.Tie as tie
 use Rattle.cabinet.proofs.messages.note_on.Reads as reads
 use Rattle.cabinet.proofs.messages.note_on.Lts as lts
 use Rattle.cabinet.proofs.keeping.player_in.Reads as player-in-reads
-use Rattle.cabinet.proofs.keeping.tell.Reads as tell-reads
+use Rattle.cabinet.proofs.keeping.keep_answer.Reads as keep-answer-reads
 use Rattle.events.proofs.note_on.Reads as note-on-reads
 
 -- src/messages.rt:24:9
@@ -16,12 +16,12 @@ note-on-requires : tie.Need-note-on-requires
 note-on-requires c κs = search needs
 
 -- src/messages.rt:26:5
-tell-requires : tie.Need-tell-requires
-tell-requires c κs = search needs
+keep-answer-requires : tie.Need-keep-answer-requires
+keep-answer-requires c κs = search needs
 
 -- src/messages.rt:13:1
 returns : tie.Need-returns
-returns c = simp (c .tell .ensures, c .before .note-on .ensures, c .before .before .before .player-in .ensures)
+returns c = simp (c .keep-answer .ensures, c .before .note-on .ensures, c .before .before .before .player-in .ensures)
 
 pub note-on-spec : {M : Type 1} → statement M
-note-on-spec = tie.close (tie.spec player-in-requires note-on-requires tell-requires returns)
+note-on-spec = tie.close (tie.spec player-in-requires note-on-requires keep-answer-requires returns)

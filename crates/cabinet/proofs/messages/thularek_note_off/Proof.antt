@@ -50,7 +50,7 @@ use Rattle.events.specs.Keys.{noteOff}
 use Rattle.events.specs.Controls.{controlChange}
 use Rattle.events.specs.Programs.{programChange}
 use Rattle.events.specs.Bends.{pitchBend}
-use Rattle.cabinet.specs.Keeping.{engineIn, told}
+use Rattle.cabinet.specs.Keeping.{engineIn, keptAnswer}
 use Rattle.cabinet.proofs.messages.note_off as g
 use Rattle.cabinet.proofs.messages.note_off.Symbol as g-def
 use Rattle.cabinet.proofs.messages.note_off.Symbol.{name as #step}
@@ -87,7 +87,7 @@ module _ {M : Type 1} (𝓤 : URA M) (H : Heap 𝓤) (A : Atoms 𝓤) (W : Given
   y = (h, (channel, (key, tt)))
 
   abbrev r′ : S
-  r′ = told (noteOff channel key (engineIn h)) h
+  r′ = keptAnswer (noteOff channel key (engineIn h)) h
 
   abbrev at : Arg-vals
   at = (vptr b o ∷ [], (vint w8 channel ∷ [], (vint w8 key ∷ [], tt)))

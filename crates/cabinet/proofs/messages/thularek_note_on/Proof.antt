@@ -50,7 +50,7 @@ use Rattle.events.specs.Keys.{noteOff}
 use Rattle.events.specs.Controls.{controlChange}
 use Rattle.events.specs.Programs.{programChange}
 use Rattle.events.specs.Bends.{pitchBend}
-use Rattle.cabinet.specs.Keeping.{engineIn, told}
+use Rattle.cabinet.specs.Keeping.{engineIn, keptAnswer}
 use Rattle.cabinet.proofs.messages.note_on as g
 use Rattle.cabinet.proofs.messages.note_on.Symbol as g-def
 use Rattle.cabinet.proofs.messages.note_on.Symbol.{name as #step}
@@ -87,7 +87,7 @@ module _ {M : Type 1} (𝓤 : URA M) (H : Heap 𝓤) (A : Atoms 𝓤) (W : Given
   y = (h, (bank, (ram, (rom, (channel, (key, (velocity, tt)))))))
 
   abbrev r′ : S
-  r′ = told (noteOn (bankFrom (bank .now)) (ram .now) (rom .now) channel key velocity (engineIn h)) h
+  r′ = keptAnswer (noteOn (bankFrom (bank .now)) (ram .now) (rom .now) channel key velocity (engineIn h)) h
 
   abbrev v-bank : Val
   v-bank = sliceVal (bank .ptr) (length (bank .now))

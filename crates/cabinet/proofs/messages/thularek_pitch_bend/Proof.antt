@@ -50,7 +50,7 @@ use Rattle.events.specs.Keys.{noteOff}
 use Rattle.events.specs.Controls.{controlChange}
 use Rattle.events.specs.Programs.{programChange}
 use Rattle.events.specs.Bends.{pitchBend}
-use Rattle.cabinet.specs.Keeping.{engineIn, told}
+use Rattle.cabinet.specs.Keeping.{engineIn, keptAnswer}
 use Rattle.cabinet.proofs.messages.pitch_bend as g
 use Rattle.cabinet.proofs.messages.pitch_bend.Symbol as g-def
 use Rattle.cabinet.proofs.messages.pitch_bend.Symbol.{name as #step}
@@ -87,7 +87,7 @@ module _ {M : Type 1} (𝓤 : URA M) (H : Heap 𝓤) (A : Atoms 𝓤) (W : Given
   y = (h, (channel, (bend, tt)))
 
   abbrev r′ : S
-  r′ = told (pitchBend channel bend (engineIn h)) h
+  r′ = keptAnswer (pitchBend channel bend (engineIn h)) h
 
   abbrev at : Arg-vals
   at = (vptr b o ∷ [], (vint w8 channel ∷ [], (vint w16 bend ∷ [], tt)))

@@ -47,7 +47,7 @@ use Rattle.cabinet.proofs.Flat as T
 use Rattle.cabinet.proofs.Flat.Laws as T′
 use Rattle.engine.specs.Rendering.{render, rendered}
 use Rattle.player.specs.Playing.{answered, soundedInto}
-use Rattle.cabinet.specs.Keeping.{playerIn, engineIn, told, performedBy}
+use Rattle.cabinet.specs.Keeping.{playerIn, engineIn, keptAnswer, keptPlay}
 use Rattle.cabinet.proofs.outputs.render as g
 use Rattle.cabinet.proofs.outputs.render.Symbol as g-def
 use Rattle.cabinet.proofs.outputs.render.Symbol.{name as #step}
@@ -90,7 +90,7 @@ module _ {M : Type 1} (𝓤 : URA M) (H : Heap 𝓤) (A : Atoms 𝓤) (W : Given
   y = (h, (ram, (rom, (out, (to, tt)))))
 
   abbrev r′ : S
-  r′ = told (render to (ram .now) (rom .now) (length ys) (engineIn h)) h
+  r′ = keptAnswer (render to (ram .now) (rom .now) (length ys) (engineIn h)) h
 
   abbrev ys′ : List Float
   ys′ = rendered to (ram .now) (rom .now) ys (engineIn h)

@@ -47,7 +47,7 @@ use Rattle.cabinet.proofs.Flat as T
 use Rattle.cabinet.proofs.Flat.Laws as T′
 use Rattle.player.specs.Cues.{idle}
 use Rattle.player.specs.Pauses.{started, stopped}
-use Rattle.cabinet.specs.Keeping.{playerIn, kept, cuedUp}
+use Rattle.cabinet.specs.Keeping.{playerIn, kept, keptStart}
 use Rattle.cabinet.proofs.pieces.begin as g
 use Rattle.cabinet.proofs.pieces.begin.Symbol as g-def
 use Rattle.cabinet.proofs.pieces.begin.Symbol.{name as #step}

@@ -47,7 +47,7 @@ use Rattle.cabinet.proofs.Flat as T
 use Rattle.cabinet.proofs.Flat.Laws as T′
 use Rattle.player.specs.Cues.{idle}
 use Rattle.player.specs.Pauses.{started, stopped}
-use Rattle.cabinet.specs.Keeping.{playerIn, kept, cuedUp}
+use Rattle.cabinet.specs.Keeping.{playerIn, kept, keptStart}
 use Rattle.cabinet.proofs.pieces.song_start as g
 use Rattle.cabinet.proofs.pieces.song_start.Symbol as g-def
 use Rattle.cabinet.proofs.pieces.song_start.Symbol.{name as #step}
@@ -84,7 +84,7 @@ module _ {M : Type 1} (𝓤 : URA M) (H : Heap 𝓤) (A : Atoms 𝓤) (W : Given
   y = (h, (song, tt))
 
   abbrev r′ : S
-  r′ = cuedUp (started (song .now) (playerIn h))
+  r′ = keptStart (started (song .now) (playerIn h))
 
   abbrev v-song : Val
   v-song = sliceVal (song .ptr) (length (song .now))

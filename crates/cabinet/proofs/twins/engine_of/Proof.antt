@@ -5,7 +5,7 @@ use native.Mathlib.Omega.{arith}
 use borrow.Author.Needs.{needs}
 use lib.ListN.{length, take, length-map, length-set}
 use Rattle.voice.specs.Changes.{blank}
-use Rattle.cabinet.specs.Twins.{voiceOf, voiceTo, engineOf}
+use Rattle.cabinet.specs.Twins.{voiceOfTwin, voiceTo, engineOf}
 use Rattle.cabinet.proofs.TwinsLaws.{fill, filled}
 use Rattle.cabinet.proofs.twins.engine_of.Statement.{statement}
 use Rattle.cabinet.proofs.twins.engine_of.Tie as tie
@@ -16,7 +16,7 @@ use Rattle.voice.proofs.no_voice.Reads as no-voice-reads
 
 abbrev Inv-loop : tie.InvT-loop
 Inv-loop e vs₀ i₀ vs i =
-    (length (e .voices) ≡ 32) × (length vs ≡ length (e .voices)) × (take i vs ≡ map voiceOf (take i (e .voices))) × (i ≤ 32)
+    (length (e .voices) ≡ 32) × (length vs ≡ length (e .voices)) × (take i vs ≡ map voiceOfTwin (take i (e .voices))) × (i ≤ 32)
 
 abbrev μ-loop : tie.MeasureT-loop
 μ-loop e vs₀ i₀ vs i = 32 - i
@@ -67,7 +67,7 @@ loop-again c =
     let i = l .loop .i in (
       l .loop .inv .0,
       simp length-set (l .loop .inv .1),
-      fill voiceOf (a .t1 .voices) (l .loop .vs) i (voiceTo blank) (c .voice-of .result) (omega arith) (l .loop .inv .1) (l .loop .inv .2) (c .voice-of .ensures),
+      fill voiceOfTwin (a .t1 .voices) (l .loop .vs) i (voiceTo blank) (c .voice-of .result) (omega arith) (l .loop .inv .1) (l .loop .inv .2) (c .voice-of .ensures),
       omega arith,
     )
 
@@ -76,7 +76,7 @@ returns : tie.Need-returns Inv-loop μ-loop
 unfolding engineOf
 returns c =
     let l = c .before .before .before in
-    simp (filled voiceOf (l .before .before .args .t1 .voices) (l .loop .vs) (l .loop .i) (omega arith) (l .loop .inv .1) (l .loop .inv .2))
+    simp (filled voiceOfTwin (l .before .before .args .t1 .voices) (l .loop .vs) (l .loop .i) (omega arith) (l .loop .inv .1) (l .loop .inv .2))
 
 pub engine-of-spec : {M : Type 1} → statement M
 engine-of-spec =

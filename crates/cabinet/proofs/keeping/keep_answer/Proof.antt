@@ -1,8 +1,8 @@
 use borrow.Author.Needs.{needs}
-use Rattle.cabinet.proofs.keeping.tell.Statement.{statement}
-use Rattle.cabinet.proofs.keeping.tell.Tie as tie
-use Rattle.cabinet.proofs.keeping.tell.Reads as reads
-use Rattle.cabinet.proofs.keeping.tell.Lts as lts
+use Rattle.cabinet.proofs.keeping.keep_answer.Statement.{statement}
+use Rattle.cabinet.proofs.keeping.keep_answer.Tie as tie
+use Rattle.cabinet.proofs.keeping.keep_answer.Reads as reads
+use Rattle.cabinet.proofs.keeping.keep_answer.Lts as lts
 use Rattle.cabinet.proofs.keeping.keep.Reads as keep-reads
 use Rattle.cabinet.proofs.keeping.player_in.Reads as player-in-reads
 use Rattle.player.proofs.with_engine.Reads as with-engine-reads
@@ -23,5 +23,5 @@ keep-requires c κs = search needs
 returns : tie.Need-returns
 returns c = simp (c .keep .ensures, c .before .with-engine .ensures, c .before .before .player-in .ensures)
 
-pub tell-spec : {M : Type 1} → statement M
-tell-spec = tie.close (tie.spec player-in-requires with-engine-requires keep-requires returns)
+pub keep-answer-spec : {M : Type 1} → statement M
+keep-answer-spec = tie.close (tie.spec player-in-requires with-engine-requires keep-requires returns)
