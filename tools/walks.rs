@@ -17,6 +17,7 @@ mod exports;
 mod steps;
 
 use exports::{below, exports, fail, listed, nested, read, way, Export, Kind, Parameter, CRATE};
+use std::collections::BTreeSet;
 use std::path::PathBuf;
 use std::process::ExitCode;
 use steps::{answer_type, exit_of_a_reader, exit_of_a_writer, walk_of_a_reader, walk_of_a_writer, LAWS};
@@ -71,25 +72,44 @@ use Rattle.cabinet.proofs.Flat as T
 use Rattle.cabinet.proofs.Flat.Laws as T′
 ";
 
-fn proof(export: &Export) -> String {
-    let mut text = format!(
-        "-- `{0}::{1}` meets its contract, by a walk of its code. All that it knows of `{2}` is that this one meets its own. Made by tools/walks.rs.\n{HEAD}",
-        export.module, export.name, export.callee
-    );
-    for import in &export.imports {
-        text += &format!("{import}\n");
+/// The lines of some imports, each with the names alone that a text has.
+fn used(imports: &str, text: &str) -> String {
+    let words: BTreeSet<&str> = text.split([' ', '\n', '(', ')', ',', '{', '}', ';']).collect();
+    let has = |name: &&str| words.contains(name.trim_matches('_'));
+    let mut lines = String::new();
+    for line in imports.lines() {
+        let Some((from, names)) = line.strip_suffix('}').and_then(|line| line.split_once(".{")) else {
+            lines += &format!("{line}\n");
+            continue;
+        };
+        let kept: Vec<&str> = names.split(", ").filter(|name| name.contains(" as ") || has(name)).collect();
+        if !kept.is_empty() {
+            lines += &format!("{from}.{{{}}}\n", kept.join(", "));
+        }
     }
-    let folder = format!("Rattle.cabinet.proofs.{}", export.module);
-    text += &format!(
-        "use {folder}.{0} as g\nuse {folder}.{0}.Symbol as g-def\nuse {folder}.{0}.Symbol.{{name as #step}}\nuse {folder}.{0}.Met as g-thm\n\
-         use {folder}.{1}.Key.{{name as #self}}\nuse {folder}.{1} as f\nuse {folder}.{1}.Statement as stated\nuse {folder}.{1}.Code as code\n\n",
-        export.callee, export.name
-    );
-    text += &declared(export);
-    text += &walking(export);
-    text += &closing(export);
-    text
+    lines
 }
+
+fn proof(export: &Export) -> String {
+    let folder = format!("Rattle.cabinet.proofs.{}", export.module);
+    let own = OWN.replace("@folder", &folder).replace("@callee", &export.callee).replace("@name", &export.name);
+    let text = declared(export) + &walking(export) + &closing(export);
+    let imports = used(&format!("{HEAD}{}\n", export.imports.join("\n")), &text);
+    let (module, name, callee) = (&export.module, &export.name, &export.callee);
+    let knows = format!("All that it knows of `{callee}` is that this one meets its own");
+    format!("-- `{module}::{name}` meets its contract, by a walk of its code. {knows}. Made by tools/walks.rs.\n{imports}{own}\n{text}")
+}
+
+const OWN: &str = "\
+use @folder.@callee as g
+use @folder.@callee.Symbol as g-def
+use @folder.@callee.Symbol.{name as #step}
+use @folder.@callee.Met as g-thm
+use @folder.@name.Key.{name as #self}
+use @folder.@name as f
+use @folder.@name.Statement as stated
+use @folder.@name.Code as code
+";
 
 /// The types of arguments, and how each parameter stays.
 fn declared(export: &Export) -> String {

@@ -35,6 +35,7 @@ pub extern "C" fn thularek_admit(bank: &[u8]) -> u32
     number(engine::admit(bank))
 }
 
+// A fault's kind as a number.
 fn fault_kind(f: Fault) -> u32
     ensures { λ r. ⌜ r ≡ faultKind f ⌝ }
 {
@@ -50,6 +51,7 @@ fn fault_kind(f: Fault) -> u32
     }
 }
 
+// Its place.
 fn fault_place(f: Fault) -> usize
     ensures { λ r. ⌜ r ≡ faultPlace f ⌝ }
 {
@@ -75,6 +77,7 @@ pub extern "C" fn thularek_bank_fault(bank: &[u8], place: &mut usize) -> u32
     fault_kind(f)
 }
 
+// A row of the listing as numbers; zeros where there is none.
 fn row_of(l: Listed) -> Row
     ensures { λ r. ⌜ (r .kind ≡ rowKind l) × (r .program ≡ rowProgram l) × (r .bank ≡ rowBank l) × (r .next ≡ rowNext l) ⌝ }
 {

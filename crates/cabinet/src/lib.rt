@@ -75,6 +75,7 @@ pub struct FlatVoice {
     pub release: u32,
 }
 
+// An engine: its voices' twins, and all else as it is.
 #[repr(C)]
 pub struct FlatEngine {
     pub voices: [FlatVoice; 32],
@@ -84,6 +85,7 @@ pub struct FlatEngine {
     pub clock: u32,
 }
 
+// A player: its engine's twin, and whether no event is left as a flag.
 #[repr(C)]
 pub struct FlatPlayer {
     pub engine: FlatEngine,

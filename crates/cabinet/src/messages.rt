@@ -10,6 +10,7 @@ use crate::Flat;
 use crate::keeping::keep_answer;
 use crate::keeping::player_in;
 
+// The engine's note-on, and what C keeps of it.
 fn note_on<'a>(
     s: Flat,
     bank: &[u8],
@@ -46,6 +47,7 @@ pub extern "C" fn thularek_note_on<'a>(
     state.number
 }
 
+// The engine's note-off.
 fn note_off(s: Flat, channel: u8, key: u8) -> Flat
     ensures { λ r. ⌜ r ≡ keptAnswer (noteOff channel key (engineIn s)) s ⌝ }
 {
@@ -63,6 +65,7 @@ pub extern "C" fn thularek_note_off(state: &mut Flat, channel: u8, key: u8) -> u
     state.number
 }
 
+// The engine's control change.
 fn control_change(s: Flat, channel: u8, control: u8, value: u8) -> Flat
     ensures { λ r. ⌜ r ≡ keptAnswer (controlChange channel control value (engineIn s)) s ⌝ }
 {
@@ -85,6 +88,7 @@ pub extern "C" fn thularek_control_change(
     state.number
 }
 
+// The engine's program change.
 fn program_change(s: Flat, channel: u8, program: u8) -> Flat
     ensures { λ r. ⌜ r ≡ keptAnswer (programChange channel program (engineIn s)) s ⌝ }
 {
@@ -102,6 +106,7 @@ pub extern "C" fn thularek_program_change(state: &mut Flat, channel: u8, program
     state.number
 }
 
+// The engine's pitch bend.
 fn pitch_bend(s: Flat, channel: u8, bend: u16) -> Flat
     ensures { λ r. ⌜ r ≡ keptAnswer (pitchBend channel bend (engineIn s)) s ⌝ }
 {

@@ -9,6 +9,7 @@ use crate::keeping::keep_answer;
 use crate::keeping::keep_play;
 use crate::keeping::player_in;
 
+// The engine's render, and what C keeps of it.
 fn render<'a>(s: Flat, ram: &'a [i16], rom: &'a [i16], out: &mut [f32], to: u32) -> Flat
     ensures { λ r. ⌜ (r ≡ keptAnswer (render to (now (ram .entry)) (now (rom .entry)) (length (now (out .entry))) (engineIn s)) s) × (now (out .exit) ≡ rendered to (now (ram .entry)) (now (rom .entry)) (now (out .entry)) (engineIn s)) ⌝ }
 {
@@ -33,6 +34,7 @@ pub extern "C" fn thularek_render<'a>(
     state.number
 }
 
+// The player's render.
 fn song_render<'a>(
     s: Flat,
     song: &[u8],

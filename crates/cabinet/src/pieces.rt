@@ -8,6 +8,7 @@ use crate::keeping::keep;
 use crate::keeping::keep_start;
 use crate::keeping::player_in;
 
+// What C keeps at the beginning.
 fn begin() -> Flat
     ensures { λ r. ⌜ r ≡ kept 0 0 0 0 idle ⌝ }
 {
@@ -23,6 +24,7 @@ pub extern "C" fn thularek_init(state: &mut Flat) -> u32
     state.number
 }
 
+// The player's start, and what C keeps of it.
 fn song_start(s: Flat, song: &[u8]) -> Flat
     ensures { λ r. ⌜ r ≡ keptStart (started (now (song .entry)) (playerIn s)) ⌝ }
 {
@@ -39,6 +41,7 @@ pub extern "C" fn thularek_song_start(state: &mut Flat, song: &[u8]) -> u32
     state.number
 }
 
+// The player's stop.
 fn song_stop(s: Flat) -> Flat
     ensures { λ r. ⌜ r ≡ kept 0 0 0 0 (stopped (playerIn s)) ⌝ }
 {

@@ -10,6 +10,7 @@ use crate::keeping::player_in;
 use crate::twins::flag_to;
 use voice::Shown;
 
+// The count that the last call left.
 fn count_in(s: Flat) -> u32
     ensures { λ r. ⌜ r ≡ s .count ⌝ }
 {
@@ -24,6 +25,7 @@ pub extern "C" fn thularek_count(state: &Flat) -> u32
     count_in(*state)
 }
 
+// The refused events that it left.
 fn refused_in(s: Flat) -> u32
     ensures { λ r. ⌜ r ≡ s .refused ⌝ }
 {
@@ -38,6 +40,7 @@ pub extern "C" fn thularek_refused(state: &Flat) -> u32
     refused_in(*state)
 }
 
+// The place that it left.
 fn place_in(s: Flat) -> u32
     ensures { λ r. ⌜ r ≡ s .place ⌝ }
 {
@@ -52,10 +55,11 @@ pub extern "C" fn thularek_place(state: &Flat) -> u32
     place_in(*state)
 }
 
+// The clock of the engine.
 fn clock_in(s: Flat) -> u32
     ensures { λ r. ⌜ r ≡ engineIn s .clock ⌝ }
 {
-    let p = player_in(s);
+    let p = s.player;
     let e = p.engine;
     e.clock
 }
@@ -68,6 +72,7 @@ pub extern "C" fn thularek_clock(state: &Flat) -> u32
     clock_in(*state)
 }
 
+// The player's answer as a number.
 fn song_is_over(s: Flat) -> u32
     ensures { λ r. ⌜ r ≡ flagTo (playerIn s .ended) ⌝ }
 {
@@ -83,6 +88,7 @@ pub extern "C" fn thularek_song_is_over(state: &Flat) -> u32
     song_is_over(*state)
 }
 
+// The player's answer as a number.
 fn is_silent(s: Flat) -> u32
     ensures { λ r. ⌜ r ≡ flagTo (isSilent (playerIn s)) ⌝ }
 {
@@ -98,6 +104,7 @@ pub extern "C" fn thularek_is_silent(state: &Flat) -> u32
     is_silent(*state)
 }
 
+// The engine's count.
 fn voice_count(s: Flat) -> u32
     ensures { λ r. ⌜ r ≡ voiceCount (engineIn s) ⌝ }
 {
@@ -114,6 +121,7 @@ pub extern "C" fn thularek_voice_count(state: &Flat) -> u32
     voice_count(*state)
 }
 
+// The player's count.
 fn held_count(s: Flat) -> u32
     ensures { λ r. ⌜ r ≡ heldCount (playerIn s) ⌝ }
 {
@@ -145,6 +153,7 @@ fn lamp_stage(x: Shown) -> u32
     }
 }
 
+// What the panel is told of a slot: the stage.
 fn panel_stage(s: Flat, slot: u8) -> u32
     ensures { λ r. ⌜ r ≡ lampStage (ask slot (engineIn s)) ⌝ }
 {
@@ -177,6 +186,7 @@ fn lamp_level(x: Shown) -> f32
     }
 }
 
+// .. and the level.
 fn panel_level(s: Flat, slot: u8) -> f32
     ensures { λ r. ⌜ r ≡ lampLevel (ask slot (engineIn s)) ⌝ }
 {

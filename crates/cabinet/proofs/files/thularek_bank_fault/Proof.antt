@@ -1,27 +1,19 @@
+-- The equations of what it calls, one put into the next.
 use mathlib.Core.Path.{ap, _∙_}
 use Rattle.cabinet.specs.Files.{faultKind, faultPlace}
 use borrow.Author.Needs.{needs}
 use Rattle.cabinet.proofs.files.thularek_bank_fault.Statement.{statement}
 use Rattle.cabinet.proofs.files.thularek_bank_fault.Tie as tie
-use Rattle.cabinet.proofs.files.thularek_bank_fault.Reads as reads
-use Rattle.cabinet.proofs.files.thularek_bank_fault.Lts as lts
-use Rattle.bank.proofs.admission.Reads as admission-reads
-use Rattle.cabinet.proofs.files.fault_kind.Reads as fault-kind-reads
-use Rattle.cabinet.proofs.files.fault_place.Reads as fault-place-reads
 
--- src/files.rt:73:9
 admission-requires : tie.Need-admission-requires
 admission-requires c κs = search needs
 
--- src/files.rt:74:14
 fault-place-requires : tie.Need-fault-place-requires
 fault-place-requires c κs = search needs
 
--- src/files.rt:75:5
 fault-kind-requires : tie.Need-fault-kind-requires
 fault-kind-requires c κs = search needs
 
--- src/files.rt:69:1
 returns : tie.Need-returns
 returns c =
     let e = c .before .before .admission .ensures in

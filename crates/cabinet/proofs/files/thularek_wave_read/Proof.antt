@@ -1,26 +1,19 @@
+-- The equations of what it calls, one put into the next.
 use mathlib.Core.Path.{ap, _∙_}
 use Rattle.wave.specs.declared.Heard.{Heard}
 use borrow.Author.Needs.{needs}
 use Rattle.cabinet.proofs.files.thularek_wave_read.Statement.{statement}
 use Rattle.cabinet.proofs.files.thularek_wave_read.Tie as tie
-use Rattle.cabinet.proofs.files.thularek_wave_read.Reads as reads
-use Rattle.cabinet.proofs.files.thularek_wave_read.Lts as lts
-use Rattle.cabinet.proofs.files.number.Reads as number-reads
-use Rattle.wave.proofs.read.Reads as read-reads
 
--- src/files.rt:179:9
 read-requires : tie.Need-read-requires
 read-requires c κs = search needs
 
--- src/files.rt:181:5
 number-requires : tie.Need-number-requires
 number-requires c κs = search needs
 
--- src/files.rt:175:1
 same-length : tie.Need-same-length
 same-length c = search needs
 
--- src/files.rt:175:1
 returns : tie.Need-returns
 returns c =
     let e = c .before .before .read .ensures in

@@ -1,25 +1,17 @@
+-- The equations of what it calls, one put into the next.
 use borrow.Author.Needs.{needs}
 use Rattle.cabinet.proofs.messages.note_off.Statement.{statement}
 use Rattle.cabinet.proofs.messages.note_off.Tie as tie
-use Rattle.cabinet.proofs.messages.note_off.Reads as reads
-use Rattle.cabinet.proofs.messages.note_off.Lts as lts
-use Rattle.cabinet.proofs.keeping.player_in.Reads as player-in-reads
-use Rattle.cabinet.proofs.keeping.keep_answer.Reads as keep-answer-reads
-use Rattle.events.proofs.note_off.Reads as note-off-reads
 
--- src/messages.rt:52:9
 player-in-requires : tie.Need-player-in-requires
 player-in-requires c κs = search needs
 
--- src/messages.rt:54:10
 note-off-requires : tie.Need-note-off-requires
 note-off-requires c κs = search needs
 
--- src/messages.rt:54:5
 keep-answer-requires : tie.Need-keep-answer-requires
 keep-answer-requires c κs = search needs
 
--- src/messages.rt:49:1
 returns : tie.Need-returns
 returns c = simp (c .keep-answer .ensures, c .before .note-off .ensures, c .before .before .before .player-in .ensures)
 

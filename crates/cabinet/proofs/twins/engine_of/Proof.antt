@@ -1,3 +1,4 @@
+-- One voice a turn.
 use Prim.Native.Nat.{_≤_, _-_}
 use mathlib.Core.Path.{_≡_, refl, sym}
 use mathlib.Core.List.{map}
@@ -9,10 +10,6 @@ use Rattle.cabinet.specs.Twins.{voiceOfTwin, voiceTo, engineOf}
 use Rattle.cabinet.proofs.TwinsLaws.{fill, filled}
 use Rattle.cabinet.proofs.twins.engine_of.Statement.{statement}
 use Rattle.cabinet.proofs.twins.engine_of.Tie as tie
-use Rattle.cabinet.proofs.twins.engine_of.Reads as reads
-use Rattle.cabinet.proofs.twins.engine_of.Lts as lts
-use Rattle.cabinet.proofs.twins.voice_of.Reads as voice-of-reads
-use Rattle.voice.proofs.no_voice.Reads as no-voice-reads
 
 abbrev Inv-loop : tie.InvT-loop
 Inv-loop e vs₀ i₀ vs i =
@@ -21,45 +18,35 @@ Inv-loop e vs₀ i₀ vs i =
 abbrev μ-loop : tie.MeasureT-loop
 μ-loop e vs₀ i₀ vs i = 32 - i
 
--- src/twins.rt:147:9
 no-voice-requires : tie.Need-no-voice-requires Inv-loop μ-loop
 no-voice-requires c κs = search needs
 
--- src/twins.rt:150:5
 loop-holds : tie.Need-loop-holds Inv-loop μ-loop
 loop-holds c =
     let n : length (c .before .args .t1 .voices) ≡ 32 = simp length-map at (c .before .good .0 .1 .1 .0 .1 .0 .1) in
     (n, sym n, refl, omega arith)
 
--- src/twins.rt:151:17
 mul-v : tie.Need-mul-v Inv-loop μ-loop
 mul-v c = search needs
 
--- src/twins.rt:151:17
 element-copy-out-v : tie.Need-element-copy-out-v Inv-loop μ-loop
 element-copy-out-v c = search needs
 
--- src/twins.rt:152:17
 voice-of-requires : tie.Need-voice-of-requires Inv-loop μ-loop
 voice-of-requires c κs = search needs
 
--- src/twins.rt:152:9
 mul-vs : tie.Need-mul-vs Inv-loop μ-loop
 mul-vs c = search needs
 
--- src/twins.rt:152:9
 array-set-from-vs : tie.Need-array-set-from-vs Inv-loop μ-loop
 array-set-from-vs c = search needs
 
--- src/twins.rt:153:13
 add-i : tie.Need-add-i Inv-loop μ-loop
 add-i c = search needs
 
--- src/twins.rt:150:5
 loop-less : tie.Need-loop-less Inv-loop μ-loop
 loop-less c = search needs
 
--- src/twins.rt:150:5
 loop-again : tie.Need-loop-again Inv-loop μ-loop
 loop-again c =
     let l = c .before .before .before in
@@ -71,7 +58,6 @@ loop-again c =
       omega arith,
     )
 
--- src/twins.rt:144:1
 returns : tie.Need-returns Inv-loop μ-loop
 unfolding engineOf
 returns c =

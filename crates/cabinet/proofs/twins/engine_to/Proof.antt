@@ -1,3 +1,4 @@
+-- One voice a turn.
 use Prim.Native.Nat.{_≤_, _-_}
 use mathlib.Core.Path.{_≡_, refl, sym}
 use mathlib.Core.List.{map}
@@ -9,10 +10,6 @@ use Rattle.cabinet.specs.Twins.{voiceTo, engineTo}
 use Rattle.cabinet.proofs.TwinsLaws.{fill, filled}
 use Rattle.cabinet.proofs.twins.engine_to.Statement.{statement}
 use Rattle.cabinet.proofs.twins.engine_to.Tie as tie
-use Rattle.cabinet.proofs.twins.engine_to.Reads as reads
-use Rattle.cabinet.proofs.twins.engine_to.Lts as lts
-use Rattle.cabinet.proofs.twins.voice_to.Reads as voice-to-reads
-use Rattle.voice.proofs.no_voice.Reads as no-voice-reads
 
 abbrev Inv-loop : tie.InvT-loop
 Inv-loop e vs₀ i₀ vs i =
@@ -21,49 +18,38 @@ Inv-loop e vs₀ i₀ vs i =
 abbrev μ-loop : tie.MeasureT-loop
 μ-loop e vs₀ i₀ vs i = 32 - i
 
--- src/twins.rt:169:22
 no-voice-requires : tie.Need-no-voice-requires Inv-loop μ-loop
 no-voice-requires c κs = search needs
 
--- src/twins.rt:169:9
 voice-to-requires : tie.Need-voice-to-requires Inv-loop μ-loop
 voice-to-requires c κs = search needs
 
--- src/twins.rt:172:5
 loop-holds : tie.Need-loop-holds Inv-loop μ-loop
 loop-holds c =
     let n : length (c .before .before .args .t1 .voices) ≡ 32 = simp length-map at (c .before .before .good .0 .1 .1 .0 .1 .0 .1) in
     (n, sym n, refl, omega arith)
 
--- src/twins.rt:173:17
 mul-v : tie.Need-mul-v Inv-loop μ-loop
 mul-v c = search needs
 
--- src/twins.rt:173:17
 element-copy-out-v : tie.Need-element-copy-out-v Inv-loop μ-loop
 element-copy-out-v c = search needs
 
--- src/twins.rt:174:17
 voice-to-requires-2 : tie.Need-voice-to-requires-2 Inv-loop μ-loop
 voice-to-requires-2 c κs = search needs
 
--- src/twins.rt:174:9
 mul-vs : tie.Need-mul-vs Inv-loop μ-loop
 mul-vs c = search needs
 
--- src/twins.rt:174:9
 array-set-from-vs : tie.Need-array-set-from-vs Inv-loop μ-loop
 array-set-from-vs c = search needs
 
--- src/twins.rt:175:13
 add-i : tie.Need-add-i Inv-loop μ-loop
 add-i c = search needs
 
--- src/twins.rt:172:5
 loop-less : tie.Need-loop-less Inv-loop μ-loop
 loop-less c = search needs
 
--- src/twins.rt:172:5
 loop-again : tie.Need-loop-again Inv-loop μ-loop
 loop-again c =
     let l = c .before .before .before in
@@ -75,7 +61,6 @@ loop-again c =
       omega arith,
     )
 
--- src/twins.rt:166:1
 returns : tie.Need-returns Inv-loop μ-loop
 unfolding engineTo
 returns c =

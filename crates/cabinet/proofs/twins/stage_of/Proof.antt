@@ -1,30 +1,23 @@
+-- By its number, one test after the other.
 use borrow.Author.Tests.{eq-eqb, ne-eqb}
 use Rattle.cabinet.proofs.twins.stage_of.Statement.{statement}
 use Rattle.cabinet.proofs.twins.stage_of.Tie as tie
-use Rattle.cabinet.proofs.twins.stage_of.Reads as reads
-use Rattle.cabinet.proofs.twins.stage_of.Lts as lts
 
--- src/twins.rt:31:9
 returns : tie.Need-returns
 returns c = simp (eq-eqb _ _ (c .if1 .taken))
 
--- src/twins.rt:34:9
 returns-2 : tie.Need-returns-2
 returns-2 c = simp (ne-eqb _ _ (c .before .before .if1 .left), eq-eqb _ _ (c .if2 .taken))
 
--- src/twins.rt:37:9
 returns-3 : tie.Need-returns-3
 returns-3 c = simp (ne-eqb _ _ (c .before .before .before .before .if1 .left), ne-eqb _ _ (c .before .before .if2 .left), eq-eqb _ _ (c .if3 .taken))
 
--- src/twins.rt:40:9
 returns-4 : tie.Need-returns-4
 returns-4 c = simp (ne-eqb _ _ (c .before .before .before .before .before .before .if1 .left), ne-eqb _ _ (c .before .before .before .before .if2 .left), ne-eqb _ _ (c .before .before .if3 .left), eq-eqb _ _ (c .if4 .taken))
 
--- src/twins.rt:43:9
 returns-5 : tie.Need-returns-5
 returns-5 c = simp (ne-eqb _ _ (c .before .before .before .before .before .before .before .before .if1 .left), ne-eqb _ _ (c .before .before .before .before .before .before .if2 .left), ne-eqb _ _ (c .before .before .before .before .if3 .left), ne-eqb _ _ (c .before .before .if4 .left), eq-eqb _ _ (c .if5 .taken))
 
--- src/twins.rt:27:1
 returns-6 : tie.Need-returns-6
 returns-6 c = simp (ne-eqb _ _ (c .before .before .before .before .before .before .before .before .if1 .left), ne-eqb _ _ (c .before .before .before .before .before .before .if2 .left), ne-eqb _ _ (c .before .before .before .before .if3 .left), ne-eqb _ _ (c .before .before .if4 .left), ne-eqb _ _ (c .if5 .left))
 
