@@ -3,6 +3,7 @@ ghost use mathlib.Core.Path.{_≡_};
 ghost use lib.ListN.{length};
 ghost use Rattle.bank.specs.Admission.{faultOf, faultNumber};
 ghost use Rattle.bank.specs.Listing.{listed};
+ghost use Rattle.merge.specs.Merging.{mergedOf, roomOf, answerOf, writtenInto};
 ghost use Rattle.riff.specs.Form.{findOf};
 ghost use Rattle.smf.specs.Songs.{testOf};
 ghost use Rattle.wave.specs.Headings.{headingNumber, headed};
@@ -156,6 +157,22 @@ pub extern "C" fn thularek_song_test(song: &[u8], place: &mut u32) -> u32
     let t = smf::test(song);
     *place = t.place;
     number(t.number)
+}
+
+// A song of several tracks as one of one track: its number (0: written), how many bytes were written, and the place of its first fault.
+#[no_mangle]
+pub extern "C" fn thularek_merge(
+    file: &[u8],
+    out: &mut [u8],
+    size: &mut usize,
+    place: &mut u32,
+) -> u32
+    ensures { λ r. ⌜ (r ≡ answerOf (mergedOf (now (file .entry)) (roomOf (now (out .entry)))) .number) × (now (size .exit) ≡ answerOf (mergedOf (now (file .entry)) (roomOf (now (out .entry)))) .size) × (now (place .exit) ≡ answerOf (mergedOf (now (file .entry)) (roomOf (now (out .entry)))) .place) × (now (out .exit) ≡ writtenInto (mergedOf (now (file .entry)) (roomOf (now (out .entry)))) (now (out .entry))) ⌝ }
+{
+    let m = merge::merge(file, out);
+    *size = m.size;
+    *place = m.place;
+    number(m.number)
 }
 
 // The 44 bytes in front of so many frames.

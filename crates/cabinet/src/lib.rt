@@ -12,6 +12,7 @@ pub use files::thularek_admit;
 pub use files::thularek_bank_fault;
 pub use files::thularek_font;
 pub use files::thularek_list;
+pub use files::thularek_merge;
 pub use files::thularek_song_test;
 pub use files::thularek_wave_heading;
 pub use files::thularek_wave_pour;

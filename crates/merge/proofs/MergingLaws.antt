@@ -17,12 +17,12 @@ use Rattle.merge.specs.declared.Tally.{Tally}
 use Rattle.merge.specs.declared.Spot.{Spot}
 use Rattle.merge.specs.declared.Spot.the-variants.{None, At}
 use Rattle.merge.specs.Lateness.{tempoAfter, sumAt, nearer, lateFrom, lateOf}
-use Rattle.merge.specs.Bridges.{longest, bridgesOf, restOf, bridged}
-use Rattle.merge.specs.Marks.{endFrom, marksFrom, lastFrom, scoreOf}
+use Rattle.merge.specs.Bridges.{longestDelta, bridgesOf, restOf, bridged}
+use Rattle.merge.specs.Marks.{lastEndFrom, marksFrom, lastFrom, scoreOf}
 use Rattle.merge.specs.declared.Front.{Front}
 use Rattle.merge.specs.Fronts.{frontOf}
 use Rattle.merge.specs.Lanes.{flawIn}
-use Rattle.merge.specs.Merging.{Refused, Written, sequenceOf, fileOf, fitted, joinedOf, mergedOf}
+use Rattle.merge.specs.Merging.{Declined, Issued, sequenceOf, joinedFile, fitted, joinedOf, mergedOf}
 use Rattle.merge.specs.Internal.Lines.{laidOver, bridgeBytes, gapBytes, runningAfter, entryBytes, lineAfter, closingBytes, lineBytes, lineStart, headBytes, heldCount}
 use Rattle.merge.specs.Internal.Order.{hourAfter, toldOf, tallyStart, tallyOf}
 
@@ -110,11 +110,11 @@ all-size es limit = tally-size es tallyStart limit
 -- ---- 3. Its bytes
 
 -- a bridge in front of others
-bridge-front : (tempo n : ℕ) → bridgeBytes tempo (suc n) ≡ (quantityBytes longest ++ eventBytes true 0 (Mark.Tempo longest tempo)) ++ bridgeBytes tempo n
+bridge-front : (tempo n : ℕ) → bridgeBytes tempo (suc n) ≡ (quantityBytes longestDelta ++ eventBytes true 0 (Mark.Tempo longestDelta tempo)) ++ bridgeBytes tempo n
 unfolding bridgeBytes
-bridge-front tempo zero = sym (append-nil (quantityBytes longest ++ eventBytes true 0 (Mark.Tempo longest tempo)))
+bridge-front tempo zero = sym (append-nil (quantityBytes longestDelta ++ eventBytes true 0 (Mark.Tempo longestDelta tempo)))
 bridge-front tempo (suc n) =
-    let one = quantityBytes longest ++ eventBytes true 0 (Mark.Tempo longest tempo) in
+    let one = quantityBytes longestDelta ++ eventBytes true 0 (Mark.Tempo longestDelta tempo) in
     ap (λ (xs : List ℕ). xs ++ one) (bridge-front tempo n) ∙ append-assoc one (bridgeBytes tempo n) one
 
 -- behind a bridge no status runs
@@ -131,12 +131,12 @@ bridges-written : (n k tempo running : ℕ) (ms : List Mark) (last : ℕ)
 unfolding bridged trackBytes bridgeBytes eventBytes
 bridges-written zero k tempo running ms last = let z : k ≡ k + 0 = omega arith in ap (λ (i : ℕ). trackBytes (λ i. true) i running ms last) z
 bridges-written (suc n) k tempo running ms last =
-    let one = quantityBytes longest ++ eventBytes true 0 (Mark.Tempo longest tempo) in
+    let one = quantityBytes longestDelta ++ eventBytes true 0 (Mark.Tempo longestDelta tempo) in
     let z : suc k + n ≡ k + suc n = omega arith in
     let some : (suc n ≡ 0 → ⊥) = λ e. absurd (omega (arith, e)) in
     let none : cond (eqb n 0) 0 0 ≡ cond (eqb (suc n) 0) running 0 = no-run n ∙ sym (rw (ne-eqb (suc n) 0 some) refl) in
-    let delta = quantityBytes longest in
-    let change = eventBytes true 0 (Mark.Tempo longest tempo) in
+    let delta = quantityBytes longestDelta in
+    let change = eventBytes true 0 (Mark.Tempo longestDelta tempo) in
     let behind = trackBytes (λ i. true) (k + suc n) (cond (eqb (suc n) 0) running 0) ms last in
     let more = bridges-written n (suc k) tempo 0 ms last ∙ ap₂ (λ (i r : ℕ). bridgeBytes tempo n ++ trackBytes (λ i. true) i r ms last) z none in
     ap (λ (xs : List ℕ). delta ++ (change ++ xs)) more ∙ sym (append-assoc delta change (bridgeBytes tempo n ++ behind))
@@ -146,26 +146,26 @@ bridges-written (suc n) k tempo running ms last =
 module _ (e : Entry) (es : List Entry) where
   -- an event that is left out
   record Skipped : Type 0 where
-    ends : (end : ℕ) → endFrom end (e ∷ es) ≡ endFrom end es
+    ends : (end : ℕ) → lastEndFrom end (e ∷ es) ≡ lastEndFrom end es
     marks : (end tick tempo : ℕ) → marksFrom end tick tempo (e ∷ es) ≡ marksFrom end tick tempo es
     lasts : (end tick : ℕ) → lastFrom end tick (e ∷ es) ≡ lastFrom end tick es
     line : (l : Line) → lineBytes l (e ∷ es) ≡ lineBytes l es
 
   skip-bad : e .item ≡ Bad → Skipped
-  unfolding endFrom marksFrom lastFrom lineBytes entryBytes
+  unfolding lastEndFrom marksFrom lastFrom lineBytes entryBytes
   skip-bad p =
       record {
-        ends = λ end. rw (p, endFrom) refl;
+        ends = λ end. rw (p, lastEndFrom) refl;
         marks = λ end tick tempo. rw (p, marksFrom) refl;
         lasts = λ end tick. rw (p, lastFrom) refl;
         line = λ l. rw p refl;
       }
 
   skip-passed : (behind : ℕ) → e .item ≡ Passed behind → Skipped
-  unfolding endFrom marksFrom lastFrom lineBytes entryBytes
+  unfolding lastEndFrom marksFrom lastFrom lineBytes entryBytes
   skip-passed behind p =
       record {
-        ends = λ end. rw (p, endFrom) refl;
+        ends = λ end. rw (p, lastEndFrom) refl;
         marks = λ end tick tempo. rw (p, marksFrom) refl;
         lasts = λ end tick. rw (p, lastFrom) refl;
         line = λ l. rw p refl;
@@ -173,16 +173,16 @@ module _ (e : Entry) (es : List Entry) where
 
   -- an end of track
   record Ended : Type 0 where
-    ends : (end : ℕ) → endFrom end (e ∷ es) ≡ endFrom (e .tick) es
+    ends : (end : ℕ) → lastEndFrom end (e ∷ es) ≡ lastEndFrom (e .tick) es
     marks : (end tick tempo : ℕ) → marksFrom end tick tempo (e ∷ es) ≡ marksFrom end tick tempo es
     lasts : (end tick : ℕ) → lastFrom end tick (e ∷ es) ≡ lastFrom end tick es
     line : (l : Line) → lineBytes l (e ∷ es) ≡ lineBytes (record { tick = l .tick; tempo = l .tempo; running = l .running; end = e .tick }) es
 
   track-ends : e .item ≡ End → Ended
-  unfolding endFrom marksFrom lastFrom lineBytes entryBytes
+  unfolding lastEndFrom marksFrom lastFrom lineBytes entryBytes
   track-ends p =
       record {
-        ends = λ end. rw (p, endFrom) refl;
+        ends = λ end. rw (p, lastEndFrom) refl;
         marks = λ end tick tempo. rw (p, marksFrom) refl;
         lasts = λ end tick. rw (p, lastFrom) refl;
         line = λ l. rw p refl;
@@ -190,27 +190,27 @@ module _ (e : Entry) (es : List Entry) where
 
   -- an event that is kept as a mark behind its gap
   record Marked (mark : ℕ → Mark) (running : ℕ) (tempo : ℕ → ℕ) : Type 0 where
-    ends : (end : ℕ) → endFrom end (e ∷ es) ≡ endFrom end es
+    ends : (end : ℕ) → lastEndFrom end (e ∷ es) ≡ lastEndFrom end es
     marks : (end tick t : ℕ) → marksFrom end tick t (e ∷ es) ≡ bridged t (bridgesOf (e .tick - tick)) (mark (restOf (e .tick - tick)) ∷ marksFrom end (e .tick) (tempo t) es)
     lasts : (end tick : ℕ) → lastFrom end tick (e ∷ es) ≡ lastFrom end (e .tick) es
     line : (l : Line) → lineBytes l (e ∷ es) ≡ (gapBytes (l .tempo) (e .tick - l .tick) ++ eventBytes true (runningAfter (l .running) (e .tick - l .tick)) (mark 0))
         ++ lineBytes (record { tick = e .tick; tempo = tempo (l .tempo); running = running; end = l .end }) es
 
   mark-tempo : (next behind : ℕ) → e .item ≡ Tempo next behind → Marked (λ ticks. Mark.Tempo ticks next) 0 (λ t. next)
-  unfolding endFrom marksFrom lastFrom lineBytes entryBytes
+  unfolding lastEndFrom marksFrom lastFrom lineBytes entryBytes
   mark-tempo next behind p =
       record {
-        ends = λ end. rw (p, endFrom) refl;
+        ends = λ end. rw (p, lastEndFrom) refl;
         marks = λ end tick t. rw (p, marksFrom) refl;
         lasts = λ end tick. rw (p, lastFrom) refl;
         line = λ l. rw p refl;
       }
 
   mark-channel : (status first second behind : ℕ) → e .item ≡ Channel status first second behind → Marked (λ ticks. Mark.Channel ticks status first second) status (λ t. t)
-  unfolding endFrom marksFrom lastFrom lineBytes entryBytes
+  unfolding lastEndFrom marksFrom lastFrom lineBytes entryBytes
   mark-channel status first second behind p =
       record {
-        ends = λ end. rw (p, endFrom) refl;
+        ends = λ end. rw (p, lastEndFrom) refl;
         marks = λ end tick t. rw (p, marksFrom) refl;
         lasts = λ end tick. rw (p, lastFrom) refl;
         line = λ l. rw p refl;
@@ -218,7 +218,7 @@ module _ (e : Entry) (es : List Entry) where
 
 -- the bytes of the score from a line on
 abbrev scoreFrom : ℕ → Line → List Entry → List ℕ
-scoreFrom k l es = trackBytes (λ i. true) k (l .running) (marksFrom (endFrom (l .end) es) (l .tick) (l .tempo) es) (lastFrom (endFrom (l .end) es) (l .tick) es)
+scoreFrom k l es = trackBytes (λ i. true) k (l .running) (marksFrom (lastEndFrom (l .end) es) (l .tick) (l .tempo) es) (lastFrom (lastEndFrom (l .end) es) (l .tick) es)
 
 -- a mark behind its gap, in front of the others
 mark-written : (k n rest running tempo : ℕ) (mark : ℕ → Mark) (ms : List Mark) (last : ℕ) → ((ticks : ℕ) → ticksOf (mark ticks) ≡ ticks)
@@ -238,14 +238,14 @@ mark-written k n rest running tempo mark ms last t e =
 
 -- the end of track behind its gap
 closing-written : (l : Line) (k : ℕ) → scoreFrom k l [] ≡ lineBytes l []
-unfolding endFrom marksFrom lastFrom lineBytes closingBytes gapBytes trackBytes
+unfolding lastEndFrom marksFrom lastFrom lineBytes closingBytes gapBytes trackBytes
 closing-written l k =
     let gap = l .end - l .tick in
     bridges-written (bridgesOf gap) k (l .tempo) (l .running) [] (restOf gap) ∙ sym (append-assoc (bridgeBytes (l .tempo) (bridgesOf gap)) (quantityBytes (restOf gap)) (255 ∷ 47 ∷ 0 ∷ []))
 
 -- an event whose score is known
 module _ (e : Entry) (es : List Entry) (l : Line) (k : ℕ) (more : (l : Line) (k : ℕ) → scoreFrom k l es ≡ lineBytes l es) where
-  by-parts : (end : ℕ) (ms : List Mark) (last : ℕ) → endFrom (l .end) (e ∷ es) ≡ end → marksFrom end (l .tick) (l .tempo) (e ∷ es) ≡ ms → lastFrom end (l .tick) (e ∷ es) ≡ last
+  by-parts : (end : ℕ) (ms : List Mark) (last : ℕ) → lastEndFrom (l .end) (e ∷ es) ≡ end → marksFrom end (l .tick) (l .tempo) (e ∷ es) ≡ ms → lastFrom end (l .tick) (e ∷ es) ≡ last
       → scoreFrom k l (e ∷ es) ≡ trackBytes (λ i. true) k (l .running) ms last
   by-parts end ms last p q r =
       ap (λ (x : ℕ). trackBytes (λ i. true) k (l .running) (marksFrom x (l .tick) (l .tempo) (e ∷ es)) (lastFrom x (l .tick) (e ∷ es))) p
@@ -253,13 +253,13 @@ module _ (e : Entry) (es : List Entry) (l : Line) (k : ℕ) (more : (l : Line) (
 
   one-skipped : Skipped e es → scoreFrom k l (e ∷ es) ≡ lineBytes l (e ∷ es)
   one-skipped s =
-      let end = endFrom (l .end) es in
+      let end = lastEndFrom (l .end) es in
       by-parts end (marksFrom end (l .tick) (l .tempo) es) (lastFrom end (l .tick) es) (s .ends (l .end)) (s .marks end (l .tick) (l .tempo)) (s .lasts end (l .tick))
       ∙ more l k ∙ sym (s .line l)
 
   one-ended : Ended e es → scoreFrom k l (e ∷ es) ≡ lineBytes l (e ∷ es)
   one-ended s =
-      let end = endFrom (e .tick) es in
+      let end = lastEndFrom (e .tick) es in
       by-parts end (marksFrom end (l .tick) (l .tempo) es) (lastFrom end (l .tick) es) (s .ends (l .end)) (s .marks end (l .tick) (l .tempo)) (s .lasts end (l .tick))
       ∙ more (record { tick = l .tick; tempo = l .tempo; running = l .running; end = e .tick }) k ∙ sym (s .line l)
 
@@ -267,7 +267,7 @@ module _ (e : Entry) (es : List Entry) (l : Line) (k : ℕ) (more : (l : Line) (
       → ((r ticks : ℕ) → eventBytes true r (mark ticks) ≡ eventBytes true r (mark 0)) → scoreFrom k l (e ∷ es) ≡ lineBytes l (e ∷ es)
   unfolding gapBytes runningAfter
   one-marked mark running tempo s t r v =
-      let end = endFrom (l .end) es in
+      let end = lastEndFrom (l .end) es in
       let gap = e .tick - l .tick in
       let n = bridgesOf gap in
       let ms = marksFrom end (e .tick) (tempo (l .tempo)) es in
@@ -300,12 +300,12 @@ unfolding scoreOf
 track-is division es = score-written es lineStart 0
 
 -- and the file the head and the line
-pub file-is : (division : ℕ) (es : List Entry) → fileOf division es ≡ headBytes division (length (lineBytes lineStart es)) ++ lineBytes lineStart es
-unfolding fileOf fileBytes scoreOf twoBytes fourBytes
+pub file-is : (division : ℕ) (es : List Entry) → joinedFile division es ≡ headBytes division (length (lineBytes lineStart es)) ++ lineBytes lineStart es
+unfolding joinedFile fileBytes scoreOf twoBytes fourBytes
 file-is division es = ap (λ (xs : List ℕ). headBytes division (length xs) ++ xs) (track-is division es)
 
 -- it has 22 bytes more
-pub file-length : (division : ℕ) (es : List Entry) → length (fileOf division es) ≡ 22 + length (lineBytes lineStart es)
+pub file-length : (division : ℕ) (es : List Entry) → length (joinedFile division es) ≡ 22 + length (lineBytes lineStart es)
 unfolding twoBytes fourBytes
 file-length division es = ap length (file-is division es) ∙ length-append (headBytes division (length (lineBytes lineStart es))) (lineBytes lineStart es)
 
@@ -313,36 +313,36 @@ file-length division es = ap length (file-is division es) ∙ length-append (hea
 
 module _ (b : List ℕ) (n division at room : ℕ) where
   -- something is past an hour
-  pub joined-late : (place : ℕ) → lateOf division (sequenceOf n b at) ≡ At place → joinedOf b n division at room ≡ Refused 11 place
+  pub joined-late : (place : ℕ) → lateOf division (sequenceOf n b at) ≡ At place → joinedOf b n division at room ≡ Declined 11 place
   unfolding joinedOf
   joined-late place e = rw e refl
 
   -- something is not well formed
-  pub joined-flaw : (place : ℕ) → lateOf division (sequenceOf n b at) ≡ None → flawIn n b at ≡ At place → joinedOf b n division at room ≡ Refused 9 place
+  pub joined-flaw : (place : ℕ) → lateOf division (sequenceOf n b at) ≡ None → flawIn n b at ≡ At place → joinedOf b n division at room ≡ Declined 9 place
   unfolding joinedOf
   joined-flaw place e f = rw (e, f) refl
 
   -- nothing is
-  pub joined-good : lateOf division (sequenceOf n b at) ≡ None → flawIn n b at ≡ None → joinedOf b n division at room ≡ fitted room (fileOf division (sequenceOf n b at))
+  pub joined-good : lateOf division (sequenceOf n b at) ≡ None → flawIn n b at ≡ None → joinedOf b n division at room ≡ fitted room (joinedFile division (sequenceOf n b at))
   unfolding joinedOf
   joined-good e f = rw (e, f) refl
 
 -- a file that does not fit
-pub fitted-long : (room : ℕ) (bytes : List ℕ) → room < length bytes → fitted room bytes ≡ Refused 43 0
+pub fitted-long : (room : ℕ) (bytes : List ℕ) → room < length bytes → fitted room bytes ≡ Declined 43 0
 unfolding fitted
 fitted-long room bytes h = rw (lt-ltb room (length bytes) h) refl
 
 -- one that does
-pub fitted-in : (room : ℕ) (bytes : List ℕ) → length bytes ≤ room → fitted room bytes ≡ Written bytes
+pub fitted-in : (room : ℕ) (bytes : List ℕ) → length bytes ≤ room → fitted room bytes ≡ Issued bytes
 unfolding fitted
 fitted-in room bytes h = rw (le-ltb room (length bytes) h) refl
 
 -- a refused head, and a good one
-pub merged-long : (b : List ℕ) (room : ℕ) → 16777216 < length b → mergedOf b room ≡ Refused 9 16777216
+pub merged-long : (b : List ℕ) (room : ℕ) → 16777216 < length b → mergedOf b room ≡ Declined 9 16777216
 unfolding mergedOf
 merged-long b room h = rw (lt-ltb 16777216 (length b) h) refl
 
-pub merged-front : (b : List ℕ) (room number place : ℕ) → length b ≤ 16777216 → frontOf b ≡ Front.Refused number place → mergedOf b room ≡ Refused number place
+pub merged-front : (b : List ℕ) (room number place : ℕ) → length b ≤ 16777216 → frontOf b ≡ Front.Refused number place → mergedOf b room ≡ Declined number place
 unfolding mergedOf
 merged-front b room number place h e = rw (le-ltb 16777216 (length b) h) (rw (e, mergedOf) refl)
 
@@ -352,9 +352,9 @@ merged-song b room count division at h e = rw (le-ltb 16777216 (length b) h) (rw
 
 -- the file at the beginning of the output
 pub laid-file : (out exit : List ℕ) (division size : ℕ) (es : List Entry) → size ≡ length (lineBytes lineStart es) → exit ≡ laidOver out 0 (headBytes division size ++ lineBytes lineStart es)
-    → exit ≡ fileOf division es ++ drop (length (fileOf division es)) out
+    → exit ≡ joinedFile division es ++ drop (length (joinedFile division es)) out
 laid-file out exit division size es h e =
     let line = lineBytes lineStart es in
     let whole = ap (λ (n : ℕ). headBytes division n ++ line) h ∙ sym (file-is division es) in
-    let none : 0 + length (fileOf division es) ≡ length (fileOf division es) = omega arith in
-    e ∙ ap (laidOver out 0) whole ∙ ap (λ (k : ℕ). fileOf division es ++ drop k out) none
+    let none : 0 + length (joinedFile division es) ≡ length (joinedFile division es) = omega arith in
+    e ∙ ap (laidOver out 0) whole ∙ ap (λ (k : ℕ). joinedFile division es ++ drop k out) none

@@ -10,7 +10,7 @@ use Rattle.merge.specs.declared.Tally.{Tally}
 use Rattle.merge.specs.Lanes.{entriesOf}
 use Rattle.merge.specs.Order.{inOrder}
 use Rattle.merge.specs.Lateness.{lateOf}
-use Rattle.merge.specs.Merging.{sequenceOf, fileOf, fitted, joinedOf, roomOf}
+use Rattle.merge.specs.Merging.{sequenceOf, joinedFile, fitted, joinedOf, roomOf}
 use Rattle.merge.specs.Internal.Lanes.{laneSequence}
 use Rattle.merge.specs.Internal.Lines.{closingBytes, lineBytes, lineStart, heldCount}
 use Rattle.merge.specs.Internal.Order.{tallyStart, tallyOf}
@@ -39,7 +39,7 @@ module _ (c : tie.After-whole-size) where
   told = c .before .before .before .before .before .before
 
   abbrev file : List ℕ
-  file = fileOf (c .before .before .before .before .before .before .before .before .before .before .args .division) (sequence told)
+  file = joinedFile (c .before .before .before .before .before .before .before .before .before .before .args .division) (sequence told)
 
   size-is : c .whole-size .result ≡ heldCount (length file)
   size-is =
