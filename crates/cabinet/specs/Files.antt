@@ -1,4 +1,4 @@
--- What is keptAnswer of a bank's bytes, as numbers.
+-- What is told of a bank's bytes, as numbers.
 use Prim.Native.Nat.{ℕ}
 use Rattle.bank.specs.declared.Fault.{Fault}
 use Rattle.bank.specs.declared.Fault.the-variants as of

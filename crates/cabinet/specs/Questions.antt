@@ -1,4 +1,4 @@
--- What the panel is keptAnswer of a slot, as two numbers.
+-- What the panel is told of a slot, as two numbers.
 use Prim.Native.Nat.{ℕ}
 use lib.Ieee.{Float, binary32, ofBits}
 use Rattle.voice.specs.declared.Shown.{Shown}

@@ -1,4 +1,4 @@
-// The messages of a MIDI cable, keptAnswer to the engine in C's memory.
+// The messages of a MIDI cable, told to the engine in C's memory.
 ghost use mathlib.Core.Path.{_≡_};
 ghost use Rattle.events.specs.Striking.{noteOn, bankFrom};
 ghost use Rattle.events.specs.Keys.{noteOff};

@@ -137,7 +137,7 @@ pub extern "C" fn thularek_held_count(state: &Flat) -> u32
     held_count(*state)
 }
 
-// What the panel is keptAnswer, as a number.
+// What the panel is told, as a number.
 fn lamp_stage(x: Shown) -> u32
     ensures { λ r. ⌜ r ≡ lampStage x ⌝ }
 {
