@@ -7,3 +7,11 @@ pub mod PagesLaws
 pub mod LanesLaws
 pub mod OrderLaws
 pub mod MergingLaws
+pub mod KeptOrderLaws
+pub mod KeptScoreLaws
+pub mod KeptItemsLaws
+pub mod KeptLaws
+pub mod KeptAgainLaws
+pub mod KeptReadLaws
+pub mod KeptLengthLaws
+pub mod KeptShownLaws

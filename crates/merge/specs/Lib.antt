@@ -7,3 +7,4 @@ pub mod Bridges
 pub mod Marks
 pub mod Merging
 pub mod Internal
+pub mod Kept

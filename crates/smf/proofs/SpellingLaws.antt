@@ -58,9 +58,9 @@ next b at x rest e =
 
 -- a quantity that is read back, with the rest of the file behind it
 pub record Quantity-read (b : List ℕ) (at n : ℕ) (rest : List ℕ) : Type 0 where
-  place : ℕ
-  reads : quantityAt b (length b) at ≡ Good n place
-  behind : drop place b ≡ rest
+  pub place : ℕ
+  pub reads : quantityAt b (length b) at ≡ Good n place
+  pub behind : drop place b ≡ rest
 
 -- a quantity of one byte
 quantity-small : (b : List ℕ) (at n : ℕ) → at < length b → u8At b at ≡ n → n < 128 → quantityAt b (length b) at ≡ Good n (at + 1)
@@ -172,7 +172,7 @@ module _ (b : List ℕ) (at n : ℕ) (rest : List ℕ) (e : drop at b ≡ quanti
       }
 
   -- a quantity is read back
-  read-quantity : n < 268435456 → Quantity-read b at n rest
+  pub read-quantity : n < 268435456 → Quantity-read b at n rest
   read-quantity h = one (ltb n 128) refl
     where
       three : 16384 ≤ n → (t : Bool) → ltb n 2097152 ≡ t → Quantity-read b at n rest
@@ -297,7 +297,7 @@ module _ (b : List ℕ) (running at : ℕ) where
       meta-by kind n (n ∷ rest) rest e q h l
 
   -- the end of track
-  end-read : drop at b ≡ 255 ∷ 47 ∷ 0 ∷ [] → itemAt b (length b) running at ≡ Item.End
+  pub end-read : drop at b ≡ 255 ∷ 47 ∷ 0 ∷ [] → itemAt b (length b) running at ≡ Item.End
   unfolding metaOf
   end-read e =
       let x = next b at 255 (47 ∷ 0 ∷ []) e in
@@ -369,7 +369,7 @@ module _ (b : List ℕ) (running at : ℕ) where
       )
 
 -- the event of a mark that ends at a place
-abbrev itemOf : Mark → ℕ → Item
+abbrev pub itemOf : Mark → ℕ → Item
 itemOf (Mark.Channel ticks status first second) p = Item.Channel status first second p
 itemOf (Mark.Tempo ticks tempo) p = Item.Tempo tempo p
 itemOf (Mark.Meta ticks kind bytes) p = Item.Passed p
@@ -377,9 +377,9 @@ itemOf (Mark.Exclusive ticks status bytes) p = Item.Passed p
 
 -- a mark that is read back, with the rest of the file behind it
 pub record Mark-read (b : List ℕ) (running at : ℕ) (m : Mark) (rest : List ℕ) : Type 0 where
-  place : ℕ
-  reads : itemAt b (length b) running at ≡ itemOf m place
-  behind : drop place b ≡ rest
+  pub place : ℕ
+  pub reads : itemAt b (length b) running at ≡ itemOf m place
+  pub behind : drop place b ≡ rest
 
 -- each mark is
 pub mark-read : (b : List ℕ) (omit : Bool) (running at : ℕ) (m : Mark) (rest : List ℕ) → GoodMark m → 1 ≤ length rest → drop at b ≡ eventBytes omit running m ++ rest
@@ -440,14 +440,14 @@ mark-told n b c (Mark.Meta ticks kind bytes) sum from place t es h = h
 mark-told n b c (Mark.Exclusive ticks status bytes) sum from place t es h = h
 
 -- no mark is a bad event
-mark-good : (m : Mark) (place : ℕ) → isBad (itemOf m place) ≡ false
+pub mark-good : (m : Mark) (place : ℕ) → isBad (itemOf m place) ≡ false
 mark-good (Mark.Channel ticks status first second) place = refl
 mark-good (Mark.Tempo ticks tempo) place = refl
 mark-good (Mark.Meta ticks kind bytes) place = refl
 mark-good (Mark.Exclusive ticks status bytes) place = refl
 
 -- the ticks of a good mark are a quantity
-ticks-good : (m : Mark) → GoodMark m → ticksOf m < 268435456
+pub ticks-good : (m : Mark) → GoodMark m → ticksOf m < 268435456
 ticks-good (Mark.Channel ticks status first second) g = g .0
 ticks-good (Mark.Tempo ticks tempo) g = g .0
 ticks-good (Mark.Meta ticks kind bytes) g = g .0
@@ -474,7 +474,7 @@ quantity-some n =
     four = (128 + n / 2097152) ∷ (128 + n / 16384 % 128) ∷ (128 + n / 128 % 128) ∷ n % 128 ∷ []
 
 -- there are fewer marks than bytes
-marks-fit : (ms : List Mark) (omits : ℕ → Bool) (k running last : ℕ) → length ms < length (trackBytes omits k running ms last)
+pub marks-fit : (ms : List Mark) (omits : ℕ → Bool) (k running last : ℕ) → length ms < length (trackBytes omits k running ms last)
 unfolding trackBytes
 marks-fit [] omits k running last = simp length-append (omega arith)
 marks-fit (m ∷ ms) omits k running last =
@@ -511,16 +511,16 @@ song-told (m ∷ ms) omits k last (suc n) b c whole e g l h =
 -- ---- 5. The file
 
 -- what the head of a written file says
-record Written (b : List ℕ) (s : Score) (track : List ℕ) : Type 0 where
-  size : length b ≡ 22 + length track
-  name : fourAt b 0 ≡ 1297377380
-  six : fourAt b 4 ≡ 6
-  format : twoAt b 8 ≡ 0
-  one : twoAt b 10 ≡ 1
-  division : twoAt b 12 ≡ s .division
-  track-name : fourAt b 14 ≡ 1297379947
-  track-size : fourAt b 18 ≡ length track
-  behind : drop 22 b ≡ track
+pub record Written (b : List ℕ) (s : Score) (track : List ℕ) : Type 0 where
+  pub size : length b ≡ 22 + length track
+  pub name : fourAt b 0 ≡ 1297377380
+  pub six : fourAt b 4 ≡ 6
+  pub format : twoAt b 8 ≡ 0
+  pub one : twoAt b 10 ≡ 1
+  pub division : twoAt b 12 ≡ s .division
+  pub track-name : fourAt b 14 ≡ 1297379947
+  pub track-size : fourAt b 18 ≡ length track
+  pub behind : drop 22 b ≡ track
 
 -- a number in four bytes is read back
 four-back : (n : ℕ) → (n / 16777216 * 256 + n / 65536 % 256) * 65536 + (n / 256 % 256 * 256 + n % 256) ≡ n
@@ -531,7 +531,7 @@ four-back n =
     rw v1 (omega arith)
 
 -- so it says
-written : (omits : ℕ → Bool) (s : Score) → Written (fileBytes omits s) s (trackOf omits s)
+pub written : (omits : ℕ → Bool) (s : Score) → Written (fileBytes omits s) s (trackOf omits s)
 unfolding fileBytes twoBytes fourBytes fourAt twoAt u8At
 written omits s =
     record {
