@@ -64,6 +64,10 @@ SameRunFresh = (xs : List Turn) → playerIn (keptRun xs keptFresh) ≡ runTurns
 abbrev pub SameOutputs : Type 0
 SameOutputs = (xs : List Turn) (s : Flat) → keptOutputs xs s ≡ turnOutputs xs (playerIn s)
 
+-- a refused call leaves the player in C's memory as it was
+abbrev pub RefusedCallsKeep : Type 0
+RefusedCallsKeep = (x : Turn) (s : Flat) → (keptTurn x s .number ≡ 0 → ⊥) → playerIn (keptTurn x s) ≡ playerIn s
+
 -- so whatever holds of state, numbers and frames after every run of the engine's calls holds after every run of C's calls from init on
 abbrev pub LibraryKeepsPromises : Type 1
 LibraryKeepsPromises =

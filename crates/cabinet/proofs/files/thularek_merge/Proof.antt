@@ -16,7 +16,7 @@ same-length c = search needs
 
 returns : tie.Need-returns
 returns c =
-    let e = c .before .before .merge .ensures in
+    let e = c .before .before .before .merge .ensures in
     (c .number .ensures ∙ ap (λ (x : Merged). x .number) (e .0), ap (λ (x : Merged). x .size) (e .0), ap (λ (x : Merged). x .place) (e .0), e .1)
 
 pub thularek-merge-spec : {M : Type 1} → statement M
