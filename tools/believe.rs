@@ -21,7 +21,7 @@ use std::process::ExitCode;
 use tree::{Reached, Specs, Tree};
 
 /// Files of definitions whose words no source file of their name computes. A crate's name stands for all of its files.
-const NO_CODE: [(&str, &str); 24] = [
+const NO_CODE: [(&str, &str); 27] = [
     ("arith/Floats", "what it is that a float is a fraction exactly; the code that makes such floats is voice's and engine's"),
     ("arith/Floors", "quotients rounded down: each formula that has one computes it in its own place"),
     ("arith/Lists", "counts and sums over lists: loops in several crates compute them, each its own"),
@@ -29,6 +29,9 @@ const NO_CODE: [(&str, &str); 24] = [
     ("bank/Admission", "the chain of the tests: the code is the crate's root, src/lib.rt"),
     ("bank/Rules", "admission said once more as rules for every record; the code does the tests of Admission"),
     ("curves/Loudness", "statements of theorems on gains; the code is that of Levels"),
+    ("merge/Kept", "statements of theorems on what is written"),
+    ("merge/Marks", "the score that is written; the code writes its bytes event by event, in lines"),
+    ("merge/Merging", "the outcome for a file: the code is the crate's root, src/lib.rt"),
     ("promises", "statements of theorems: the crate has no code"),
     ("recitals", "statements of theorems on the player: the crate has no code"),
     ("riff/Faults", "what can be wrong with a file, case by case; the code does the tests of Form in their order"),

@@ -24,7 +24,7 @@ const SENTENCES: [&str; 8] = [
     "all {functions} functions of all crates",
     "{source-lines} lines of code, {definition-lines} of definitions (tables counted in neither), {proof-lines} of laws and proofs",
     "{changes} must-fail changes in {edits} edits",
-    "{cases} cases with {calls} calls, {songs} songs with {song-lines} lines, {waves} waves written or read, {fonts} SoundFont files, {damaged-cases} damaged inputs, {values} values of the tables and steps",
+    "{cases} cases with {calls} calls, {songs} songs with {song-lines} lines, {waves} waves written or read, {fonts} SoundFont files, {merges} songs to be merged, {damaged-cases} damaged inputs, {values} values of the tables and steps",
     "the voices of {struck-cases} cases of struck keys",
     "It has {tests} tests of its own",
     "the {believed-definitions} definitions, {believed-lines} lines, that `tools/believe` lists",
@@ -125,7 +125,8 @@ fn count_runs(counts: &mut Counts) {
     counts.add("song-lines", lines.lines().count());
     counts.add("waves", read("crates/waves/stdout").lines().count());
     counts.add("fonts", read("crates/fonts/stdout").lines().count());
-    let damaged = ["drive", "record", "songs", "fonts", "waves"].map(|program| files(&format!("crates/{program}/bad"), "case").len());
+    counts.add("merges", read("crates/merges/stdout").lines().count());
+    let damaged = ["drive", "record", "songs", "fonts", "merges", "waves"].map(|program| files(&format!("crates/{program}/bad"), "case").len());
     counts.add("damaged-cases", damaged.iter().sum());
     counts.add("values", read("crates/numbers/stdout").lines().count());
     if let Ok(lines) = std::fs::read_to_string("crates/strike/stdout") {

@@ -313,12 +313,12 @@ impl Tree {
         self.follow(krate, &passed?.1)
     }
 
-    /// All functions that a host may call: what the roots of engine, wave, riff and player pass on, bank's admission, reader's
-    /// public ones, and those of smf's root.
+    /// All functions that a host may call: what the roots of engine, wave, riff, player and cabinet pass on, bank's admission,
+    /// reader's public ones, and those of the roots of smf and merge.
     pub fn host_functions(&self, lost: &mut Vec<String>) -> Vec<(&Source, &Function)> {
         let mut found = Vec::new();
         let admission = (true, vec!["bank".to_string(), "admission".to_string()]);
-        for krate in ["engine", "wave", "riff", "player"] {
+        for krate in ["engine", "wave", "riff", "player", "cabinet"] {
             let root = self.sources.iter().find(|source| source.krate == krate && source.module == "lib");
             let passed = root.iter().flat_map(|root| &root.paths).filter(|(public, _)| *public);
             for (_, path) in passed.chain((krate == "engine").then_some(&admission)) {
@@ -328,7 +328,9 @@ impl Tree {
                 }
             }
         }
-        let is_root = |source: &&Source| source.krate == "reader" || source.krate == "smf" && source.module == "lib";
+        let has_root = |krate: &str| krate == "smf" || krate == "merge";
+        let is_root =
+            |source: &&Source| source.krate == "reader" || has_root(&source.krate) && source.module == "lib";
         for source in self.sources.iter().filter(is_root) {
             found.extend(source.functions.iter().filter(|function| function.public).map(|function| (source, function)));
         }

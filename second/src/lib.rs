@@ -10,6 +10,7 @@ pub mod fonts;
 pub mod key_to_layers;
 pub mod make;
 pub mod merge_file;
+pub mod merges;
 pub mod midi_file;
 pub mod player;
 pub mod real;

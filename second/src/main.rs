@@ -1,8 +1,8 @@
-//! The second program's commands: play a case, record one, read songs, merge a song's tracks, damage songs, write and
-//! read waves, make waves by chance, find the parts of fonts, make the stored cases and their traces, make cases of real
-//! files, make the carillon and its piece.
+//! The second program's commands: play a case, record one, read songs, merge the tracks of a song or of many, damage
+//! songs, write and read waves, make waves and songs of several tracks by chance, find the parts of fonts, make the stored
+//! cases and their traces, make cases of real files, make the carillon and its piece.
 
-use second::{bells, case, fonts, make, merge_file, real, record, songs, waves};
+use second::{bells, case, fonts, make, merge_file, merges, real, record, songs, waves};
 use std::fs;
 use std::io::{self, BufReader, BufWriter, Read, Write};
 use std::path::Path;
@@ -14,8 +14,10 @@ const USAGE: &str = "usage: second play < CASE > TRACE
        second merge < FILE.mid > MERGED.mid
        second waves < COMMANDS > LINES
        second fonts < FILES > LINES
+       second merges < FILES > LINES
        second damage SEED COUNT [FILE.mid ..] > FILES
        second noise SEED COUNT > COMMANDS
+       second tracks SEED COUNT > FILES
        second make DIR
        second real BANK.sf2 PIECE.mid SECONDS > CASE
        second real BANK.sf2 PIECE.mid > CASE
@@ -35,8 +37,10 @@ fn main() -> ExitCode {
         ["songs"] => songs::play(BufReader::new(io::stdin().lock()), BufWriter::new(io::stdout().lock())),
         ["waves"] => waves::play(BufReader::new(io::stdin().lock()), BufWriter::new(io::stdout().lock())),
         ["fonts"] => fonts::play(BufReader::new(io::stdin().lock()), BufWriter::new(io::stdout().lock())),
+        ["merges"] => merges::play(BufReader::new(io::stdin().lock()), BufWriter::new(io::stdout().lock())),
         ["damage", seed, count, files @ ..] => damaged_songs(seed, count, files),
         ["noise", seed, count] => noise(seed, count),
+        ["tracks", seed, count] => tracks(seed, count),
         ["make", directory] => make::write_all(Path::new(directory)),
         ["real", bank, piece, seconds] => real_case(bank, piece, seconds),
         ["real", bank, piece] => song_case(bank, piece),
@@ -120,4 +124,9 @@ fn damaged_songs(seed: &str, count: &str, files: &[&str]) -> io::Result<()> {
 fn noise(seed: &str, count: &str) -> io::Result<()> {
     let (seed, count) = (number(seed, "a seed")?, number(count, "a number of commands")?);
     make::wave_chance::write(seed, count, &mut BufWriter::new(io::stdout().lock()))
+}
+
+fn tracks(seed: &str, count: &str) -> io::Result<()> {
+    let (seed, count) = (number(seed, "a seed")?, number(count, "a number of files")?);
+    make::merge_chance::write(seed, count, &mut BufWriter::new(io::stdout().lock()))
 }

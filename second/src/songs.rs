@@ -9,14 +9,19 @@ pub fn play(input: impl Read, output: impl Write) -> io::Result<()> {
     run(input, output, |commands| Ok(next_file(commands)?.map(|file| lines(&file).into_bytes())))
 }
 
-/// The next file, nothing at the end of the input. The length's first byte is where the input may end.
+/// The next file, nothing at the end of the input.
 pub(crate) fn next_file<R: Read>(commands: &mut Commands<R>) -> Result<Option<Vec<u8>>, Stop> {
+    next_length(commands)?.map(|length| commands.bytes(length)).transpose()
+}
+
+/// The next file's length. Its first byte is where the input may end.
+pub(crate) fn next_length<R: Read>(commands: &mut Commands<R>) -> Result<Option<usize>, Stop> {
     let Some(low) = commands.letter()? else { return Ok(None) };
     let length = u32::from_le_bytes([low, commands.byte()?, commands.byte()?, commands.byte()?]);
     if length > SONG_ROOM {
         return Err(NO_ROOM);
     }
-    commands.bytes(length as usize).map(Some)
+    Ok(Some(length as usize))
 }
 
 /// The number and place of a refusal; else the channel events, each with its frame, and how many there were.

@@ -9,7 +9,7 @@ pub const NUMBER_ROOM: u32 = 8_448;
 pub const FILE_ROOM: u32 = 66_000;
 
 /// What each byte of a writer's output, and each number of a reader's, holds before.
-const BYTE_BEFORE: u8 = 0xa5;
+pub(crate) const BYTE_BEFORE: u8 = 0xa5;
 const NUMBER_BEFORE: i16 = 0x1234;
 
 /// Writes a line for each command. One that is cut off, is unknown or names more than there is room for ends the run
@@ -48,6 +48,6 @@ fn read_line<R: Read>(commands: &mut Commands<R>) -> Result<Vec<u8>, Stop> {
 }
 
 /// An output of a length after what is put into its front; the rest stays as it was before.
-fn laid_over<T: Copy>(front: Vec<T>, before: T, length: usize) -> impl Iterator<Item = T> {
+pub(crate) fn laid_over<T: Copy>(front: Vec<T>, before: T, length: usize) -> impl Iterator<Item = T> {
     front.into_iter().chain(std::iter::repeat(before)).take(length)
 }

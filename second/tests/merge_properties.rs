@@ -1,7 +1,11 @@
 //! Properties of the merging of tracks, over songs by chance: what is written, what M-101 reads in it, and the first
 //! fault of songs that are broken at a known place.
 
+mod common;
+
+use common::songs::tempo_of;
 use second::make::chance::Chance;
+use second::make::merge_chance::{file, plan, put_late, Kind, Plan, Planned, HOUR_OF_24};
 use second::make::song_builder::*;
 use second::make::song_chance::songs;
 use second::make::song_damage::damaged;
@@ -10,101 +14,11 @@ use second::midi_file::{read, Fault, Struck};
 
 const ROOM: usize = 1 << 24;
 
-/// An event of a plan, with its delta time; a channel event has its status written out.
-type Planned = (u32, Vec<u8>);
-
-/// The tracks of a plan. Each ends with its end of track.
-struct Plan {
-    division: u16,
-    tracks: Vec<Vec<Planned>>,
-}
-
-/// How a plan is drawn: ordinary songs, and ones that stand nearly still, with gaps that no delta time can say.
-#[derive(Clone, Copy, PartialEq)]
-enum Kind {
-    Ordinary,
-    Still,
-}
-
-fn planned_tempo(c: &mut Chance, kind: Kind) -> Vec<u8> {
-    let micros = if kind == Kind::Still { c.pick(&[0, 0, 1, 3]) } else { c.from(0, 3_000_000) as u32 };
-    let more = vec![0x99; c.pick(&[0, 0, 0, 1, 5])];
-    meta(0x51, &[&micros.to_be_bytes()[1..], &more].concat())
-}
-
-fn planned_event(c: &mut Chance, kind: Kind) -> Vec<u8> {
-    if kind == Kind::Still && c.once_in(2) {
-        return meta(1, b"");
-    }
-    let [a, b] = [0; 2].map(|_| c.from(0, 127) as u8);
-    let channel = c.pick(&[0, 0, 0, 0, 9]);
-    match c.from(0, 15) {
-        0..=8 => vec![0x90 | channel, a, b],
-        9 => vec![0x80 | channel, a, b],
-        10 => vec![0xb0 | channel, a, b],
-        11 => vec![c.pick(&[0xc0, 0xd0]) | channel, a],
-        12 => vec![c.pick(&[0xa0, 0xe0]) | channel, a, b],
-        13 => planned_tempo(c, kind),
-        14 => meta(c.pick(&[1, 5, 0x58, 0x7f]), &vec![b | 0x80; a as usize]),
-        _ => exclusive(c.pick(&[0xf0, 0xf7]), &vec![b | 0x80; a as usize / 9]),
-    }
-}
-
-fn planned_delta(c: &mut Chance, kind: Kind) -> u32 {
-    if kind == Kind::Still && c.once_in(2) {
-        return c.pick(&[LARGEST_QUANTITY, LARGEST_QUANTITY, LARGEST_QUANTITY - 1, LARGEST_QUANTITY / 2]);
-    }
-    let most = c.pick(&[0, 0, 1, 20, 127, 128, 400]);
-    c.from(0, most) as u32
-}
-
-fn planned_track(c: &mut Chance, kind: Kind) -> Vec<Planned> {
-    let opening = (kind == Kind::Still).then(|| (0, tempo(1)));
-    let count = c.from(0, 25);
-    let events = (0..count).map(|_| (planned_delta(c, kind), planned_event(c, kind))).collect::<Vec<_>>();
-    let end = (c.from(0, 300) as u32, END.to_vec());
-    opening.into_iter().chain(events).chain([end]).collect()
-}
-
-fn plan(c: &mut Chance, kind: Kind) -> Plan {
-    let division = c.pick(&[24, 96, 480, 32_767]);
-    let tracks = c.pick(&[1, 2, 2, 3, 4, 9]);
-    Plan { division, tracks: (0..tracks).map(|_| planned_track(c, kind)).collect() }
-}
-
 /// A plan of which every event is in time.
 fn plan_in_time(c: &mut Chance, kind: Kind) -> Plan {
     std::iter::repeat_with(|| plan(c, kind))
         .find(|plan| late(plan, &in_one(&plan.tracks)).is_empty())
         .expect("some plan")
-}
-
-/// A track's bytes, and the places where its events begin. A status that runs is left out where chance will have it so.
-fn track(c: &mut Chance, events: &[Planned]) -> (Vec<u8>, Vec<usize>) {
-    let (mut piece, mut running, mut places) = (Piece::default(), 0, Vec::new());
-    for (delta, event) in events {
-        let out = event[0] == running && c.once_in(2);
-        piece = piece.raw(&quantity_in(*delta, c.pick(&[4, quantity(*delta).len()])));
-        places.push(piece.bytes.len());
-        piece = piece.raw(&event[if out { 1 } else { 0 }..]);
-        running = if event[0] < 0xf0 { event[0] } else { 0 };
-    }
-    (piece.bytes, places)
-}
-
-/// A plan's file of format 1, and the places of all events, by track. Other chunks and bytes stand in between.
-fn file(c: &mut Chance, plan: &Plan) -> (Vec<u8>, Vec<Vec<usize>>) {
-    let (mut file, mut all) = (head(1, plan.tracks.len() as u16, plan.division), Vec::new());
-    for events in &plan.tracks {
-        if c.once_in(8) {
-            file.extend(chunk(b"XFIH", &vec![0x4d; c.from(0, 9) as usize]));
-        }
-        let (mut bytes, places) = track(c, events);
-        bytes.extend(vec![0xfe; c.pick(&[0, 0, 0, 3])]);
-        all.push(places.iter().map(|place| file.len() + 8 + place).collect());
-        file.extend(chunk(b"MTrk", &bytes));
-    }
-    (file, all)
 }
 
 /// An event in the one sequence: its tick, its track, and which of its track's events it is.
@@ -126,11 +40,6 @@ fn in_one(tracks: &[Vec<Planned>]) -> Vec<InOne> {
 
 fn event<'a>(plan: &'a Plan, (_, track, at): &InOne) -> &'a [u8] {
     &plan.tracks[*track][*at].1
-}
-
-fn tempo_of(event: &[u8]) -> Option<u128> {
-    let micros = |event: &[u8]| u32::from_be_bytes([0, event[3], event[4], event[5]]) as u128;
-    (event[..2] == [0xff, 0x51]).then(|| micros(event))
 }
 
 /// U at each event of the sequence.
@@ -244,9 +153,7 @@ fn a_broken_event_is_at_fault_unless_one_in_front_of_it_is_too_late() {
     for round in 0..900 {
         let mut plan = plan(c, if round % 3 == 0 { Kind::Still } else { Kind::Ordinary });
         if c.once_in(2) {
-            let track = c.from(0, plan.tracks.len() as i64 - 1) as usize;
-            let delta = HOUR_OF_24 * c.pick(&[1, 4, 20, 100, 1_500]);
-            plan.tracks[track].insert(0, (delta, NOTE.to_vec()));
+            put_late(c, &mut plan);
         }
         let (mut file, places) = file(c, &plan);
         let track = c.from(0, plan.tracks.len() as i64 - 1) as usize;
@@ -258,9 +165,6 @@ fn a_broken_event_is_at_fault_unless_one_in_front_of_it_is_too_late() {
     }
     assert!(found[0] > 300 && found[1] > 100, "{found:?}");
 }
-
-/// The ticks of an hour where a beat has 24 and the tempo is that of the start.
-const HOUR_OF_24: u32 = 7_200 * 24;
 
 #[test]
 fn a_whole_song_is_refused_only_where_an_event_is_too_late() {

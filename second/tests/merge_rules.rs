@@ -1,27 +1,26 @@
 //! The rules for songs of several tracks, each at both sides of its edge: what is refused with which number and where,
 //! and the bytes of what is written.
 
+mod common;
+
+use common::songs::{fault_of, frames_of};
+use second::make::merge_builder::*;
 use second::make::song_builder::*;
 use second::merge_file::{merge, song as merged_song};
-use second::midi_file::{read, Fault};
+use second::midi_file::Fault;
 use std::io::Write;
 use std::process::{Command, Output, Stdio};
 
-const END_NOW: [u8; 4] = [0, 0xff, 0x2f, 0];
 const ROOM: usize = 1 << 20;
-const HOUR: u32 = 7_200 * 96;
 
 /// The number and place of a refused file.
 fn refused(file: &[u8]) -> (u32, usize) {
-    let Err(Fault { number, place }) = merge(file, ROOM) else { panic!("the file is to be refused") };
-    (number, place)
+    fault_of(merge(file, ROOM))
 }
 
 /// The frames of the events of what is written.
 fn frames(file: &[u8]) -> Vec<u128> {
-    let merged = merge(file, ROOM).expect("the file is to be merged");
-    let events = read(&merged).expect("what is written is to be played");
-    events.iter().map(|(frame, _)| *frame).collect()
+    frames_of(&merge(file, ROOM).expect("the file is to be merged"))
 }
 
 /// The one track of what is written.
@@ -29,33 +28,7 @@ fn track_of(file: &[u8]) -> Vec<u8> {
     merge(file, ROOM).expect("the file is to be merged")[TRACK..].to_vec()
 }
 
-/// A file of format 1 and 96 ticks a beat with these tracks, of which all is right but perhaps the tracks' bytes.
-fn tracks(bodies: &[&[u8]]) -> Vec<u8> {
-    let chunks: Vec<Vec<u8>> = bodies.iter().map(|body| chunk(b"MTrk", body)).collect();
-    [head(1, bodies.len() as u16, 96), chunks.concat()].concat()
-}
-
-/// The same of tracks that are at once ended behind their events.
-fn ended(pieces: &[Piece]) -> Vec<u8> {
-    let bodies: Vec<Vec<u8>> = pieces.iter().map(|piece| piece.clone().then(0, &END).bytes).collect();
-    tracks(&bodies.iter().map(Vec::as_slice).collect::<Vec<_>>())
-}
-
-fn then(delta: u32, event: &[u8]) -> Piece {
-    Piece::default().then(delta, event)
-}
-
-/// Two tracks: a note after a beat, and one after two.
-fn two_notes() -> Vec<u8> {
-    ended(&[then(96, &NOTE), then(192, &NOTE)])
-}
-
 const TWO: [u128; 2] = [22_050, 44_100];
-
-fn with(mut file: Vec<u8>, place: usize, byte: u8) -> Vec<u8> {
-    file[place] = byte;
-    file
-}
 
 // The file and its head
 

@@ -1,30 +1,15 @@
 //! Properties of the reading of songs, over songs by chance: frames, running status, cuts, what is behind the end.
 
+mod common;
+
+use common::songs::tempo_of;
 use second::make::chance::Chance;
+use second::make::merge_chance::{self, planned_event, Kind, Planned};
 use second::make::song_builder::*;
 use second::make::song_chance::songs;
 use second::make::song_damage::damaged;
 use second::midi_file::{read, Fault, Struck};
 use second::real;
-
-/// An event of a plan, with its delta time; a channel event has its status written out.
-type Planned = (u32, Vec<u8>);
-
-fn planned_event(c: &mut Chance) -> Vec<u8> {
-    let mut data = || c.from(0, 127) as u8;
-    let [a, b] = [data(), data()];
-    let channel = c.pick(&[0, 0, 0, 0, 9]);
-    match c.from(0, 15) {
-        0..=8 => vec![0x90 | channel, a, b],
-        9 => vec![0x80 | channel, a, b],
-        10 => vec![0xb0 | channel, a, b],
-        11 => vec![c.pick(&[0xc0, 0xd0]) | channel, a],
-        12 => vec![c.pick(&[0xa0, 0xe0]) | channel, a, b],
-        13 => tempo(c.from(0, 3_000_000) as u32),
-        14 => meta(c.pick(&[1, 5, 0x58, 0x7f]), &vec![b | 0x80; a as usize]),
-        _ => exclusive(c.pick(&[0xf0, 0xf7]), &vec![b | 0x80; a as usize / 9]),
-    }
-}
 
 /// A plan that ends with the end of track, and its division. It takes less than an hour.
 fn plan(c: &mut Chance) -> (u16, Vec<Planned>) {
@@ -32,7 +17,7 @@ fn plan(c: &mut Chance) -> (u16, Vec<Planned>) {
     let mut events = Vec::new();
     for _ in 0..c.from(0, 60) {
         let most = c.pick(&[0, 1, 20, 127, 128, 400]);
-        events.push((c.from(0, most) as u32, planned_event(c)));
+        events.push((c.from(0, most) as u32, planned_event(c, Kind::Ordinary)));
     }
     events.push((c.from(0, 300) as u32, END.to_vec()));
     (division, events)
@@ -40,13 +25,7 @@ fn plan(c: &mut Chance) -> (u16, Vec<Planned>) {
 
 /// The track of a plan. A status that runs is left out where `leave_out` says so.
 fn track(events: &[Planned], mut leave_out: impl FnMut() -> bool) -> Vec<u8> {
-    let (mut piece, mut running) = (Piece::default(), 0);
-    for (delta, event) in events {
-        let out = event[0] == running && leave_out();
-        piece = piece.then(*delta, &event[if out { 1 } else { 0 }..]);
-        running = if event[0] < 0xf0 { event[0] } else { 0 };
-    }
-    piece.bytes
+    merge_chance::track(events, |delta| (quantity(delta), leave_out())).0
 }
 
 /// U at each channel event of a plan, and its bytes: the ticks under each tempo times that tempo, summed up afresh.
@@ -55,9 +34,7 @@ fn times(events: &[Planned]) -> Vec<(u128, Vec<u8>)> {
         let (mut u, mut tempo) = (0, 500_000);
         for (delta, event) in &events[..=last] {
             u += *delta as u128 * tempo;
-            if event[..2] == [0xff, 0x51] {
-                tempo = u32::from_be_bytes([0, event[3], event[4], event[5]]) as u128;
-            }
+            tempo = tempo_of(event).unwrap_or(tempo);
         }
         u
     };

@@ -1,21 +1,15 @@
 //! The rules of M-101 for Standard MIDI Files, each at both sides of its edge: what is refused with which number and
 //! where, and the frames of what is played.
 
-use second::make::song_builder::*;
-use second::midi_file::{read, Fault};
+mod common;
 
-const END_NOW: [u8; 4] = [0, 0xff, 0x2f, 0];
+use common::songs::{fault_of, frames_of as frames};
+use second::make::song_builder::*;
+use second::midi_file::read;
 
 /// The number and place of a refused file.
 fn refused(file: &[u8]) -> (u32, usize) {
-    let Err(Fault { number, place }) = read(file) else { panic!("the file is to be refused") };
-    (number, place)
-}
-
-/// The frames of a file's events.
-fn frames(file: &[u8]) -> Vec<u128> {
-    let events = read(file).expect("the file is to be played");
-    events.iter().map(|(frame, _)| *frame).collect()
+    fault_of(read(file))
 }
 
 /// The bytes of the events of a track, at once ended behind them.
@@ -33,11 +27,6 @@ fn refused_track(track: &[u8]) -> (u32, usize) {
 /// A song of one note after a beat.
 fn one_note() -> Vec<u8> {
     Piece::default().then(96, &NOTE).song()
-}
-
-fn with(mut file: Vec<u8>, place: usize, byte: u8) -> Vec<u8> {
-    file[place] = byte;
-    file
 }
 
 // The file and its head

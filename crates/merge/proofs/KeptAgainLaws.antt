@@ -67,11 +67,11 @@ totalOf tick (m ∷ ms) last = totalOf (tick + ticksOf m) ms last
 
 module _ (last : ℕ) (small : last < 268435456) where
   -- the last end of track is theirs
-  read-end : (ms : List Mark) (begun tick : ℕ) (es : List Entry) → AllPlain ms → ReadAs tick ms last es → endFrom begun es ≡ totalOf tick ms last
+  read-end : (ms : List Mark) (begun tick : ℕ) (es : List Entry) → AllPlain ms → ReadAs tick ms last es → lastEndFrom begun es ≡ totalOf tick ms last
   unfolding totalOf
   read-end [] begun tick [] p r = absurd r
   read-end [] begun tick (e ∷ es) p r =
-      adds-end e es begun 0 0 0 (r .0 .item) .0 ∙ ap (endFrom (e .tick)) (r .1) ∙ adds-none (e .tick) 0 0 0 .0 ∙ r .0 .there
+      adds-end e es begun 0 0 0 (r .0 .item) .0 ∙ ap (lastEndFrom (e .tick)) (r .1) ∙ adds-none (e .tick) 0 0 0 .0 ∙ r .0 .there
   read-end (m ∷ ms) begun tick [] p r = absurd r
   read-end (Mark.Channel ticks status first second ∷ ms) begun tick (e ∷ es) p r =
       adds-channel e es begun 0 0 0 status first second (r .0 .place) (r .0 .item) .0 ∙ read-end ms begun (tick + ticks) es (p .2) (r .1)
@@ -302,9 +302,9 @@ module _ (s : Score) (g : GoodScore s) where
 
   -- its events
   abbrev events : List Entry
-  events = entriesFrom (turns file) file (firstOf file 22 (length file))
+  events = entriesFrom (turns file) file (firstEntry file 22 (length file))
 
-  file-read : ReadAs 0 (s .marks) (s .last) events × (flawOf file (firstOf file 22 (length file)) ≡ None)
+  file-read : ReadAs 0 (s .marks) (s .last) events × (flawOf file (firstEntry file 22 (length file)) ≡ None)
   file-read =
       let w = whole in
       let few = marks-fit (s .marks) (λ i. true) 0 0 (s .last) in
@@ -320,8 +320,8 @@ module _ (s : Score) (g : GoodScore s) where
       (ap (λ (es : List Entry). inOrder (entriesOf file es)) (l .0) ∙ ap inOrder (append-nil events) ∙ order-stays events rise, l .1)
 
   -- so that merging it changes no byte
-  file-again : (room : ℕ) → AllPlain (s .marks) → inTime s ≡ true → length file ≤ 16777216 → length file ≤ room → mergedOf file room ≡ Outcome.Written file
-  unfolding joinedOf fileOf fitted
+  file-again : (room : ℕ) → AllPlain (s .marks) → inTime s ≡ true → length file ≤ 16777216 → length file ≤ room → mergedOf file room ≡ Joined.Issued file
+  unfolding joinedOf joinedFile fitted
   file-again room p t short fits =
       let q = file-sequence in
       let r = file-read .0 in
@@ -332,7 +332,7 @@ module _ (s : Score) (g : GoodScore s) where
 -- ---- 6. Merging again
 
 -- what was merged has a good head
-merged-front : (b w : List ℕ) (room : ℕ) → mergedOf b room ≡ Outcome.Written w → (f : Front) → frontOf b ≡ f
+merged-front : (b w : List ℕ) (room : ℕ) → mergedOf b room ≡ Joined.Issued w → (f : Front) → frontOf b ≡ f
     → (count : ℕ) × (division : ℕ) × (at : ℕ) × (frontOf b ≡ Front.Song count division at)
 merged-front b w room e (Front.Refused number place) f =
     absurd (never-written number place w (sym (merged-refused b room number place (merged-short b w room e) f) ∙ e))
@@ -340,7 +340,7 @@ merged-front b w room e (Front.Song count division at) f = (count, division, at,
 
 -- merging again what was written changes no byte
 pub merged-again : MergedAgain
-unfolding fileOf
+unfolding joinedFile
 merged-again b w room again a e short fits =
     let f = merged-front b w room e (frontOf b) refl in
     let count = f .0 in
@@ -352,4 +352,4 @@ merged-again b w room again a e short fits =
     let s = scoreOf division es in
     let same : fileBytes (λ k. true) s ≡ w = j .bytes in
     let x = file-again s (song-good b count division at a (f .3)) again (score-plain division es (sequence-fair b a count at)) (score-in-time division es rise (j .in-time)) (rw same short) (rw same fits) in
-    subst (λ (y : List ℕ). mergedOf y again ≡ Outcome.Written y) same x
+    subst (λ (y : List ℕ). mergedOf y again ≡ Joined.Issued y) same x

@@ -18,7 +18,7 @@ use Rattle.smf.specs.Songs.{turns}
 use Rattle.smf.proofs.ItemsLaws.{either, Placed, item-placed}
 use Rattle.merge.specs.declared.Entry.{Entry}
 use Rattle.merge.specs.Entries.{settledAt, advancedOf, entriesFrom}
-use Rattle.merge.specs.Lanes.{lanesFrom, entriesOf, firstOf, flawOf}
+use Rattle.merge.specs.Lanes.{lanesFrom, entriesOf, firstEntry, flawOf}
 use Rattle.merge.specs.declared.Spot.{Spot}
 use Rattle.merge.specs.declared.Spot.the-variants.{None, At}
 use Rattle.merge.specs.Merging.{sequenceOf}
@@ -162,20 +162,20 @@ each-track P (suc n) b e on p = go (each-track P n b (advancedOf b e) on (on e p
     go more true t = tt
     go more false t = ((p, t), more)
 
-module _ (P : Entry → Type 0) (b : List ℕ) (start : (begin end : ℕ) → begin ≤ end → end ≤ length b → P (firstOf b begin end)) (on : (x : Entry) → P x → P (advancedOf b x)) where
+module _ (P : Entry → Type 0) (b : List ℕ) (start : (begin end : ℕ) → begin ≤ end → end ≤ length b → P (firstEntry b begin end)) (on : (x : Entry) → P x → P (advancedOf b x)) where
   -- of the first event of each track
   each-lane : (n at : ℕ) → Each P (lanesFrom n b at)
   unfolding lanesFrom
   each-lane zero at = tt
   each-lane (suc n) at = go (each-lane n) (trackFrom (length b) b at) refl
     where
-      by : (begin end : ℕ) → trackFrom (length b) b at ≡ Track begin end → Each P (lanesFrom n b end) → (s : Spot) → flawOf b (firstOf b begin end) ≡ s → Each P (lanesFrom (suc n) b at)
+      by : (begin end : ℕ) → trackFrom (length b) b at ≡ Track begin end → Each P (lanesFrom n b end) → (s : Spot) → flawOf b (firstEntry b begin end) ≡ s → Each P (lanesFrom (suc n) b at)
       by begin end e more None f = rw (lanes-on b n at begin end e f .0) (start begin end (track-begins (length b) b at begin end e .1) (track-held (length b) b at begin end e), more)
       by begin end e more (At place) f = rw (lanes-flawed b n at begin end place e f .0) (start begin end (track-begins (length b) b at begin end e .1) (track-held (length b) b at begin end e), tt)
 
       go : ((from : ℕ) → Each P (lanesFrom n b from)) → (h : Header) → trackFrom (length b) b at ≡ h → Each P (lanesFrom (suc n) b at)
       go more (Refused number place) e = rw (lanes-cut b n at number place e .0) tt
-      go more (Track begin end) e = by begin end e (more end) (flawOf b (firstOf b begin end)) refl
+      go more (Track begin end) e = by begin end e (more end) (flawOf b (firstEntry b begin end)) refl
 
   -- of the events of some tracks
   each-tracks : (es : List Entry) → Each P es → Each (λ (x : Entry). P x × (isBad (x .item) ≡ false)) (entriesOf b es)

@@ -19,7 +19,7 @@ use Rattle.merge.specs.Fronts.{frontOf}
 use Rattle.merge.specs.Lanes.{lanesFrom, flawIn, entriesOf}
 use Rattle.merge.specs.Lateness.{lateOf}
 use Rattle.merge.specs.Marks.{scoreOf}
-use Rattle.merge.specs.Merging.{Outcome, Refused, Written, sequenceOf, fileOf, fitted, judged, joinedOf, mergedOf}
+use Rattle.merge.specs.Merging.{Joined, Declined, Issued, sequenceOf, joinedFile, fitted, judged, joinedOf, mergedOf}
 use Rattle.merge.specs.Kept.{EventsKept}
 use Rattle.merge.proofs.FrontsLaws.{FrontIn, front-in}
 use Rattle.merge.proofs.KeptOrderLaws.{order-rises}
@@ -29,28 +29,28 @@ use Rattle.merge.proofs.KeptItemsLaws.{sequence-fair}
 -- ---- 1. What is known where something is written
 
 -- nothing is written on a refusal
-pub never-written : (number place : ℕ) (w : List ℕ) → Refused number place ≡ Written w → ⊥
+pub never-written : (number place : ℕ) (w : List ℕ) → Declined number place ≡ Issued w → ⊥
 never-written number place w e = let z : _≡_ {A = ℕ} 0 1 = cc in omega arith
 
 -- the file of a sequence that is not late, of tracks without a fault
-pub record Joined (b w : List ℕ) (count division at : ℕ) : Type 0 where
+pub record JoinedBy (b w : List ℕ) (count division at : ℕ) : Type 0 where
   pub short : length b ≤ 16777216
   pub in-time : lateOf division (sequenceOf count b at) ≡ None
   pub faultless : flawIn count b at ≡ None
-  pub bytes : fileOf division (sequenceOf count b at) ≡ w
+  pub bytes : joinedFile division (sequenceOf count b at) ≡ w
 
 -- what is judged good
-judged-good : (late flaw : Spot) (o : Outcome) (w : List ℕ) → judged late flaw o ≡ Written w → (late ≡ None) × (flaw ≡ None) × (o ≡ Written w)
+judged-good : (late flaw : Spot) (o : Joined) (w : List ℕ) → judged late flaw o ≡ Issued w → (late ≡ None) × (flaw ≡ None) × (o ≡ Issued w)
 judged-good (At place) flaw o w e = absurd (never-written 11 place w e)
 judged-good None (At place) o w e = absurd (never-written 9 place w e)
 judged-good None None o w e = (refl, refl, e)
 
 -- what fits
-fitted-good : (room : ℕ) (bytes w : List ℕ) → fitted room bytes ≡ Written w → bytes ≡ w
+fitted-good : (room : ℕ) (bytes w : List ℕ) → fitted room bytes ≡ Issued w → bytes ≡ w
 unfolding fitted
 fitted-good room bytes w e = go (ltb room (length bytes)) e
   where
-    go : (t : Bool) → cond t (Refused 43 0) (Written bytes) ≡ Written w → bytes ≡ w
+    go : (t : Bool) → cond t (Declined 43 0) (Issued bytes) ≡ Issued w → bytes ≡ w
     go true e = absurd (never-written 43 0 w e)
     go false e = cc
 
@@ -60,7 +60,7 @@ unfolding mergedOf
 merged-by b room count division at h e = rw (le-ltb _ _ h) (rw (e, mergedOf) refl)
 
 -- .. or refused by it
-pub merged-refused : (b : List ℕ) (room number place : ℕ) → length b ≤ 16777216 → frontOf b ≡ Front.Refused number place → mergedOf b room ≡ Refused number place
+pub merged-refused : (b : List ℕ) (room number place : ℕ) → length b ≤ 16777216 → frontOf b ≡ Front.Refused number place → mergedOf b room ≡ Declined number place
 unfolding mergedOf
 merged-refused b room number place h e = rw (le-ltb _ _ h) (rw (e, mergedOf) refl)
 
@@ -74,20 +74,20 @@ pub merged-short : (b w : List ℕ) (room : ℕ) → mergedOf b room ≡ Written
 unfolding mergedOf
 merged-short b w room e = go (ltb 16777216 (length b)) refl e
   where
-    rest : Outcome
-    rest = elim (frontOf b) [ Front.Refused number place ↦ Refused number place | Front.Song count division at ↦ joinedOf b count division at room ]
+    rest : Joined
+    rest = elim (frontOf b) [ Front.Refused number place ↦ Declined number place | Front.Song count division at ↦ joinedOf b count division at room ]
 
-    go : (t : Bool) → ltb 16777216 (length b) ≡ t → cond t (Refused 9 16777216) rest ≡ Written w → length b ≤ 16777216
+    go : (t : Bool) → ltb 16777216 (length b) ≡ t → cond t (Declined 9 16777216) rest ≡ Issued w → length b ≤ 16777216
     go true t e = absurd (never-written 9 16777216 w e)
     go false t e = ltb-false _ _ t
 
 -- so it is of all that is written
-pub joined-by : (b w : List ℕ) (room count division at : ℕ) → frontOf b ≡ Front.Song count division at → mergedOf b room ≡ Written w → Joined b w count division at
+pub joined-by : (b w : List ℕ) (room count division at : ℕ) → frontOf b ≡ Front.Song count division at → mergedOf b room ≡ Issued w → JoinedBy b w count division at
 unfolding joinedOf
 joined-by b w room count division at f e =
     let short = merged-short b w room e in
-    let j = judged-good (lateOf division (sequenceOf count b at)) (flawIn count b at) (fitted room (fileOf division (sequenceOf count b at))) w (sym (merged-by b room count division at short f) ∙ e) in
-    record { short = short; in-time = j .0; faultless = j .1; bytes = fitted-good room (fileOf division (sequenceOf count b at)) w (j .2) }
+    let j = judged-good (lateOf division (sequenceOf count b at)) (flawIn count b at) (fitted room (joinedFile division (sequenceOf count b at))) w (sym (merged-by b room count division at short f) ∙ e) in
+    record { short = short; in-time = j .0; faultless = j .1; bytes = fitted-good room (joinedFile division (sequenceOf count b at)) w (j .2) }
 
 -- ---- 2. The events are kept
 
@@ -103,7 +103,7 @@ song-good b count division at a f =
 
 -- M-101 reads the events of the sequence
 pub events-kept : EventsKept
-unfolding fileOf
+unfolding joinedFile
 events-kept b w room count division at a f e short =
     let es = sequenceOf count b at in
     let j = joined-by b w room count division at f e in

@@ -121,7 +121,7 @@ module _ (b : List ℕ) (a : AllBytes b) (short : length b ≤ 16777216) where
       go more false t = takes n e l t more
 
   -- the first event of a track
-  lies-first : (begin end : ℕ) → begin ≤ end → end ≤ length b → Lies b (firstOf b begin end)
+  lies-first : (begin end : ℕ) → begin ≤ end → end ≤ length b → Lies b (firstEntry b begin end)
   lies-first begin end h k = lies-at end 0 begin 0 k h (omega arith) .0
 
   -- the tracks lie one behind the other, so that they have no more events than the file has bytes
@@ -130,26 +130,26 @@ module _ (b : List ℕ) (a : AllBytes b) (short : length b ≤ 16777216) where
   tracks-few zero at h = omega (arith, h)
   tracks-few (suc n) at h = go (tracks-few n) (trackFrom (length b) b at) refl
     where
-      first-few : (begin end : ℕ) → begin ≤ end → end ≤ length b → length (entriesFrom (turns b) b (firstOf b begin end)) + begin ≤ end
+      first-few : (begin end : ℕ) → begin ≤ end → end ≤ length b → length (entriesFrom (turns b) b (firstEntry b begin end)) + begin ≤ end
       first-few begin end p q =
           let l = lies-at end 0 begin 0 q p (omega arith) in
-          let few = track-few (turns b) (firstOf b begin end) (l .0) in
+          let few = track-few (turns b) (firstEntry b begin end) (l .0) in
           let from = seated-at b end 0 begin 0 q .1 in
           omega (arith, few, from, l .1)
 
-      by : (begin end : ℕ) → trackFrom (length b) b at ≡ Track begin end → length (entriesOf b (lanesFrom n b end)) + end ≤ length b → (s : Spot) → flawOf b (firstOf b begin end) ≡ s
+      by : (begin end : ℕ) → trackFrom (length b) b at ≡ Track begin end → length (entriesOf b (lanesFrom n b end)) + end ≤ length b → (s : Spot) → flawOf b (firstEntry b begin end) ≡ s
           → length (entriesOf b (lanesFrom (suc n) b at)) + at ≤ length b
       by begin end e more None f =
           let k = track-begins (length b) b at begin end e in
           let few = first-few begin end (k .1) (track-held (length b) b at begin end e) in
-          let l = length-append (entriesFrom (turns b) b (firstOf b begin end)) (entriesOf b (lanesFrom n b end)) in
+          let l = length-append (entriesFrom (turns b) b (firstEntry b begin end)) (entriesOf b (lanesFrom n b end)) in
           let same = ap (λ (es : List Entry). length (entriesOf b es)) (lanes-on b n at begin end e f .0) in
           omega (arith, k, few, l, same, more)
       by begin end e more (At place) f =
           let k = track-begins (length b) b at begin end e in
           let held = track-held (length b) b at begin end e in
           let few = first-few begin end (k .1) held in
-          let l = length-append (entriesFrom (turns b) b (firstOf b begin end)) [] in
+          let l = length-append (entriesFrom (turns b) b (firstEntry b begin end)) [] in
           let same = ap (λ (es : List Entry). length (entriesOf b es)) (lanes-flawed b n at begin end place e f .0) in
           omega (arith, k, few, l, same, held)
 
@@ -158,7 +158,7 @@ module _ (b : List ℕ) (a : AllBytes b) (short : length b ≤ 16777216) where
       go more (Refused number place) e =
           let same = ap (λ (es : List Entry). length (entriesOf b es)) (lanes-cut b n at number place e .0) in
           omega (arith, same, h)
-      go more (Track begin end) e = by begin end e (more end (track-held (length b) b at begin end e)) (flawOf b (firstOf b begin end)) refl
+      go more (Track begin end) e = by begin end e (more end (track-held (length b) b at begin end e)) (flawOf b (firstEntry b begin end)) refl
 
   -- none is behind tick 2^52
   sequence-under : (n at : ℕ) → Each (λ (e : Entry). e .tick ≤ 4503599627370496) (sequenceOf n b at)
@@ -222,11 +222,11 @@ end-most k running last =
 -- ---- 3. How long the file is
 
 -- the last end of track is not behind a tick that none is behind
-end-under : (es : List Entry) (begun top : ℕ) → begun ≤ top → Each (λ (e : Entry). e .tick ≤ top) es → endFrom begun es ≤ top
+end-under : (es : List Entry) (begun top : ℕ) → begun ≤ top → Each (λ (e : Entry). e .tick ≤ top) es → lastEndFrom begun es ≤ top
 end-under [] begun top h u = rw (adds-none begun 0 0 0 .0) h
 end-under (x ∷ xs) begun top h u = go (λ start k. end-under xs start top k (u .1)) (x .item) refl
   where
-    go : ((start : ℕ) → start ≤ top → endFrom start xs ≤ top) → (i : Item) → x .item ≡ i → endFrom begun (x ∷ xs) ≤ top
+    go : ((start : ℕ) → start ≤ top → lastEndFrom start xs ≤ top) → (i : Item) → x .item ≡ i → lastEndFrom begun (x ∷ xs) ≤ top
     go more Bad p = rw (adds-bad x xs begun 0 0 0 p .0) (more begun h)
     go more End p = rw (adds-end x xs begun 0 0 0 p .0) (more (x .tick) (u .0))
     go more (Passed behind) p = rw (adds-passed x xs begun 0 0 0 behind p .0) (more begun h)
@@ -280,7 +280,7 @@ none-negative (e ∷ es) = (omega arith, none-negative es)
 
 -- so a chunk's length always says it
 pub never-so-long : NeverSoLong
-unfolding fileOf scoreOf
+unfolding joinedFile scoreOf
 never-so-long b count division at a short f =
     let es = sequenceOf count b at in
     let front : FrontIn b (Front.Song count division at) = subst (λ (x : Front). FrontIn b x) f (front-in b) in
@@ -289,7 +289,7 @@ never-so-long b count division at a short f =
     let under = sequence-under b a short count at in
     let rise = order-rises (entriesOf b (lanesFrom count b at)) in
     let most =
-    track-most es (endFrom 0 es) 0 500000 4503599627370496 0 0 (omega arith) (end-under es 0 4503599627370496 (omega arith) under) (none-negative es) rise under in
+    track-most es (lastEndFrom 0 es) 0 500000 4503599627370496 0 0 (omega arith) (end-under es 0 4503599627370496 (omega arith) under) (none-negative es) rise under in
     let size = written (λ k. true) (scoreOf division es) .size in
     omega (arith, few, same, most, size, short)
 

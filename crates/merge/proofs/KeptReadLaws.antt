@@ -425,17 +425,17 @@ track-nine (suc n) b at number place e =
 
 module _ (b : List ℕ) (at begin end : ℕ) (e : trackFrom (length b) b at ≡ Header.Track begin end) where
   -- the sequence of one track is the track's, and its fault the track's
-  one-track : (sequenceOf 1 b at ≡ entriesFrom (turns b) b (firstOf b begin end)) × (flawIn 1 b at ≡ flawOf b (firstOf b begin end))
+  one-track : (sequenceOf 1 b at ≡ entriesFrom (turns b) b (firstEntry b begin end)) × (flawIn 1 b at ≡ flawOf b (firstEntry b begin end))
   unfolding entriesOf lanesFrom flawIn
-  one-track = go (flawOf b (firstOf b begin end)) refl
+  one-track = go (flawOf b (firstEntry b begin end)) refl
     where
-      by : lanesFrom 1 b at ≡ firstOf b begin end ∷ [] → sequenceOf 1 b at ≡ entriesFrom (turns b) b (firstOf b begin end)
+      by : lanesFrom 1 b at ≡ firstEntry b begin end ∷ [] → sequenceOf 1 b at ≡ entriesFrom (turns b) b (firstEntry b begin end)
       by l =
           ap (λ (xs : List Entry). inOrder (entriesOf b xs)) l
-          ∙ ap inOrder (append-nil (entriesFrom (turns b) b (firstOf b begin end)))
-          ∙ order-stays (entriesFrom (turns b) b (firstOf b begin end)) (track-ordered (turns b) b (firstOf b begin end))
+          ∙ ap inOrder (append-nil (entriesFrom (turns b) b (firstEntry b begin end)))
+          ∙ order-stays (entriesFrom (turns b) b (firstEntry b begin end)) (track-ordered (turns b) b (firstEntry b begin end))
 
-      go : (s : Spot) → flawOf b (firstOf b begin end) ≡ s → (sequenceOf 1 b at ≡ entriesFrom (turns b) b (firstOf b begin end)) × (flawIn 1 b at ≡ flawOf b (firstOf b begin end))
+      go : (s : Spot) → flawOf b (firstEntry b begin end) ≡ s → (sequenceOf 1 b at ≡ entriesFrom (turns b) b (firstEntry b begin end)) × (flawIn 1 b at ≡ flawOf b (firstEntry b begin end))
       go None f = let l = lanes-on b 0 at begin end e f in (by (l .0), l .1 ∙ sym f)
       go (At place) f = let l = lanes-flawed b 0 at begin end place e f in (by (l .0), l .1 ∙ sym f)
 
@@ -479,14 +479,14 @@ module _ (b : List ℕ) (room : ℕ) (short : length b ≤ 65536) (z : twoAt b 8
 
 module _ (b : List ℕ) (number place room : ℕ) (short : length b ≤ 65536) (z : twoAt b 8 ≡ 0) (e : eventsOf b ≡ Refused number place) where
   -- by the head
-  refused-head : (n p : ℕ) → frontOf b ≡ Front.Refused n p → mergedOf b room ≡ Outcome.Refused number place
+  refused-head : (n p : ℕ) → frontOf b ≡ Front.Refused n p → mergedOf b room ≡ Joined.Declined number place
   refused-head n p f =
       let s = same-refusal n p number place (sym (events-refused b n p short (front-head b z ∙ ap (headBy b) f)) ∙ e) in
       merged-refused b room n p (omega (arith, short)) f ∙ rw (s .0, s .1) refl
 
   module _ (count division at : ℕ) (f : frontOf b ≡ Front.Song count division at) where
     -- where no track is found
-    refused-cut : (n p : ℕ) → trackFrom (length b) b at ≡ Header.Refused n p → mergedOf b room ≡ Outcome.Refused number place
+    refused-cut : (n p : ℕ) → trackFrom (length b) b at ≡ Header.Refused n p → mergedOf b room ≡ Joined.Declined number place
     unfolding joinedOf entriesOf inOrder
     refused-cut n p t =
         let s = same-refusal n p number place (sym (events-refused b n p short (front-head b z ∙ ap (headBy b) f ∙ t)) ∙ e) in
@@ -497,7 +497,7 @@ module _ (b : List ℕ) (number place room : ℕ) (short : length b ≤ 65536) (
         joined-is b room short z count division at f ∙ rw (l .0, l .1, late, s .1, is) refl
 
     -- by the track
-    refused-track : (begin end : ℕ) → trackFrom (length b) b at ≡ Header.Track begin end → mergedOf b room ≡ Outcome.Refused number place
+    refused-track : (begin end : ℕ) → trackFrom (length b) b at ≡ Header.Track begin end → mergedOf b room ≡ Joined.Declined number place
     unfolding joinedOf
     refused-track begin end t =
         let song = sym (events-is b begin end short (front-head b z ∙ ap (headBy b) f ∙ t)) ∙ e in
@@ -505,11 +505,11 @@ module _ (b : List ℕ) (number place room : ℕ) (short : length b ≤ 65536) (
         let j = joined-is b room short z count division at f in
         ⊎-elim (λ x. j ∙ rw (x .0, x .1, x .2) refl) (λ x. j ∙ rw (x .0, x .1) refl) told
 
-    refused-song : (h : Header) → trackFrom (length b) b at ≡ h → mergedOf b room ≡ Outcome.Refused number place
+    refused-song : (h : Header) → trackFrom (length b) b at ≡ h → mergedOf b room ≡ Joined.Declined number place
     refused-song (Header.Refused n p) t = refused-cut n p t
     refused-song (Header.Track begin end) t = refused-track begin end t
 
-  refused-by : (x : Front) → frontOf b ≡ x → mergedOf b room ≡ Outcome.Refused number place
+  refused-by : (x : Front) → frontOf b ≡ x → mergedOf b room ≡ Joined.Declined number place
   refused-by (Front.Refused n p) f = refused-head n p f
   refused-by (Front.Song count division at) f = refused-song count division at f (trackFrom (length b) b at) refl
 

@@ -16,7 +16,7 @@ use Rattle.merge.specs.declared.Spot.{Spot}
 use Rattle.merge.specs.declared.Spot.the-variants.{None, At}
 use Rattle.merge.specs.Lateness.{tempoAfter, sumAt, nearer, lateFrom, lateOf, sounding, struckFrom, struckOf}
 use Rattle.merge.specs.Bridges.{bridgesOf, restOf, bridged}
-use Rattle.merge.specs.Marks.{endFrom, marksFrom, lastFrom, scoreOf}
+use Rattle.merge.specs.Marks.{lastEndFrom, marksFrom, lastFrom, scoreOf}
 use Rattle.merge.specs.Kept.{NoneBefore, TicksRise}
 use Rattle.merge.proofs.BridgesLaws.{bridges-most, rest-small}
 use Rattle.merge.proofs.KeptOrderLaws.{Each}
@@ -108,41 +108,41 @@ marks-rung (x ∷ xs) division end tick now tempo sum u h k r e =
 module _ (e : Entry) (es : List Entry) (begun end tick tempo : ℕ) where
   -- a tempo change
   pub adds-tempo : (next behind : ℕ) → e .item ≡ Tempo next behind
-      → (endFrom begun (e ∷ es) ≡ endFrom begun es)
+      → (lastEndFrom begun (e ∷ es) ≡ lastEndFrom begun es)
       × (marksFrom end tick tempo (e ∷ es) ≡ bridged tempo (bridgesOf (e .tick - tick)) (Mark.Tempo (restOf (e .tick - tick)) next ∷ marksFrom end (e .tick) next es))
       × (lastFrom end tick (e ∷ es) ≡ lastFrom end (e .tick) es)
-  unfolding endFrom marksFrom lastFrom
-  adds-tempo next behind p = (rw (p, endFrom) refl, rw (p, marksFrom) refl, rw (p, lastFrom) refl)
+  unfolding lastEndFrom marksFrom lastFrom
+  adds-tempo next behind p = (rw (p, lastEndFrom) refl, rw (p, marksFrom) refl, rw (p, lastFrom) refl)
 
   -- a channel event
   pub adds-channel : (status first second behind : ℕ) → e .item ≡ Channel status first second behind
-      → (endFrom begun (e ∷ es) ≡ endFrom begun es)
+      → (lastEndFrom begun (e ∷ es) ≡ lastEndFrom begun es)
       × (marksFrom end tick tempo (e ∷ es) ≡ bridged tempo (bridgesOf (e .tick - tick)) (Mark.Channel (restOf (e .tick - tick)) status first second ∷ marksFrom end (e .tick) tempo es))
       × (lastFrom end tick (e ∷ es) ≡ lastFrom end (e .tick) es)
-  unfolding endFrom marksFrom lastFrom
-  adds-channel status first second behind p = (rw (p, endFrom) refl, rw (p, marksFrom) refl, rw (p, lastFrom) refl)
+  unfolding lastEndFrom marksFrom lastFrom
+  adds-channel status first second behind p = (rw (p, lastEndFrom) refl, rw (p, marksFrom) refl, rw (p, lastFrom) refl)
 
   -- an end of track
   pub adds-end : e .item ≡ End
-      → (endFrom begun (e ∷ es) ≡ endFrom (e .tick) es) × (marksFrom end tick tempo (e ∷ es) ≡ marksFrom end tick tempo es) × (lastFrom end tick (e ∷ es) ≡ lastFrom end tick es)
-  unfolding endFrom marksFrom lastFrom
-  adds-end p = (rw (p, endFrom) refl, rw (p, marksFrom) refl, rw (p, lastFrom) refl)
+      → (lastEndFrom begun (e ∷ es) ≡ lastEndFrom (e .tick) es) × (marksFrom end tick tempo (e ∷ es) ≡ marksFrom end tick tempo es) × (lastFrom end tick (e ∷ es) ≡ lastFrom end tick es)
+  unfolding lastEndFrom marksFrom lastFrom
+  adds-end p = (rw (p, lastEndFrom) refl, rw (p, marksFrom) refl, rw (p, lastFrom) refl)
 
   -- an event that is stepped over
   pub adds-passed : (behind : ℕ) → e .item ≡ Passed behind
-      → (endFrom begun (e ∷ es) ≡ endFrom begun es) × (marksFrom end tick tempo (e ∷ es) ≡ marksFrom end tick tempo es) × (lastFrom end tick (e ∷ es) ≡ lastFrom end tick es)
-  unfolding endFrom marksFrom lastFrom
-  adds-passed behind p = (rw (p, endFrom) refl, rw (p, marksFrom) refl, rw (p, lastFrom) refl)
+      → (lastEndFrom begun (e ∷ es) ≡ lastEndFrom begun es) × (marksFrom end tick tempo (e ∷ es) ≡ marksFrom end tick tempo es) × (lastFrom end tick (e ∷ es) ≡ lastFrom end tick es)
+  unfolding lastEndFrom marksFrom lastFrom
+  adds-passed behind p = (rw (p, lastEndFrom) refl, rw (p, marksFrom) refl, rw (p, lastFrom) refl)
 
   -- a fault
   pub adds-bad : e .item ≡ Bad
-      → (endFrom begun (e ∷ es) ≡ endFrom begun es) × (marksFrom end tick tempo (e ∷ es) ≡ marksFrom end tick tempo es) × (lastFrom end tick (e ∷ es) ≡ lastFrom end tick es)
-  unfolding endFrom marksFrom lastFrom
-  adds-bad p = (rw (p, endFrom) refl, rw (p, marksFrom) refl, rw (p, lastFrom) refl)
+      → (lastEndFrom begun (e ∷ es) ≡ lastEndFrom begun es) × (marksFrom end tick tempo (e ∷ es) ≡ marksFrom end tick tempo es) × (lastFrom end tick (e ∷ es) ≡ lastFrom end tick es)
+  unfolding lastEndFrom marksFrom lastFrom
+  adds-bad p = (rw (p, lastEndFrom) refl, rw (p, marksFrom) refl, rw (p, lastFrom) refl)
 
 -- nothing is left
-pub adds-none : (begun end tick tempo : ℕ) → (endFrom begun [] ≡ begun) × (marksFrom end tick tempo [] ≡ bridged tempo (bridgesOf (end - tick)) []) × (lastFrom end tick [] ≡ restOf (end - tick))
-unfolding endFrom marksFrom lastFrom
+pub adds-none : (begun end tick tempo : ℕ) → (lastEndFrom begun [] ≡ begun) × (marksFrom end tick tempo [] ≡ bridged tempo (bridgesOf (end - tick)) []) × (lastFrom end tick [] ≡ restOf (end - tick))
+unfolding lastEndFrom marksFrom lastFrom
 adds-none begun end tick tempo = (refl, refl, refl)
 
 -- ---- 4. Time
@@ -211,7 +211,7 @@ module _ (division tempo gap last sum u : ℕ) (ms : List Mark) (e : u ≡ sum +
 -- the marks of a sequence of which no event is past an hour are in time, with their end
 pub marks-in-time : (es : List Entry) (division begun tick now tempo sum u : ℕ) → tick ≤ now → begun ≤ now → NoneBefore now es → TicksRise es → u ≡ sum + (now - tick) * tempo
     → sum + (begun - tick) * tempo ≤ 3600000000 * division → lateFrom division now tempo u es ≡ None
-    → inTimeFrom division tempo sum (marksFrom (endFrom begun es) tick tempo es) (lastFrom (endFrom begun es) tick es) ≡ true
+    → inTimeFrom division tempo sum (marksFrom (lastEndFrom begun es) tick tempo es) (lastFrom (lastEndFrom begun es) tick es) ≡ true
 marks-in-time [] division begun tick now tempo sum u h g k r e l n =
     let a = adds-none begun begun tick tempo in
     rw (a .0, a .1, a .2) (end-in-time division tempo (begun - tick) sum l)
@@ -230,31 +230,31 @@ marks-in-time (x ∷ xs) division begun tick now tempo sum u h g k r e l n =
 
     go : S ≡ sum + (x .tick - tick) * tempo → S ≤ 3600000000 * division → lateFrom division (x .tick) (tempoAfter tempo (x .item)) S xs ≡ None
         → ((start : ℕ) → start ≤ x .tick → sum + (start - tick) * tempo ≤ 3600000000 * division → lateFrom division (x .tick) tempo S xs ≡ None
-        → inTimeFrom division tempo sum (marksFrom (endFrom start xs) tick tempo xs) (lastFrom (endFrom start xs) tick xs) ≡ true)
+        → inTimeFrom division tempo sum (marksFrom (lastEndFrom start xs) tick tempo xs) (lastFrom (lastEndFrom start xs) tick xs) ≡ true)
         → ((next s : ℕ) → s + (begun - x .tick) * next ≤ 3600000000 * division → lateFrom division (x .tick) next s xs ≡ None
-        → inTimeFrom division next s (marksFrom (endFrom begun xs) (x .tick) next xs) (lastFrom (endFrom begun xs) (x .tick) xs) ≡ true)
+        → inTimeFrom division next s (marksFrom (lastEndFrom begun xs) (x .tick) next xs) (lastFrom (lastEndFrom begun xs) (x .tick) xs) ≡ true)
         → (i : Item) → x .item ≡ i
-        → inTimeFrom division tempo sum (marksFrom (endFrom begun (x ∷ xs)) tick tempo (x ∷ xs)) (lastFrom (endFrom begun (x ∷ xs)) tick (x ∷ xs)) ≡ true
+        → inTimeFrom division tempo sum (marksFrom (lastEndFrom begun (x ∷ xs)) tick tempo (x ∷ xs)) (lastFrom (lastEndFrom begun (x ∷ xs)) tick (x ∷ xs)) ≡ true
     go u1 l1 n1 left more Bad p =
-        let a = adds-bad x xs begun (endFrom begun xs) tick tempo p in
+        let a = adds-bad x xs begun (lastEndFrom begun xs) tick tempo p in
         rw (a .0, a .1, a .2) (left begun (omega (arith, g, k .0)) l (rw p at n1))
     go u1 l1 n1 left more End p =
-        let a = adds-end x xs begun (endFrom (x .tick) xs) tick tempo p in
+        let a = adds-end x xs begun (lastEndFrom (x .tick) xs) tick tempo p in
         rw (a .0, a .1, a .2) (left (x .tick) (omega arith) (omega (arith, u1, l1)) (rw p at n1))
     go u1 l1 n1 left more (Passed behind) p =
-        let a = adds-passed x xs begun (endFrom begun xs) tick tempo behind p in
+        let a = adds-passed x xs begun (lastEndFrom begun xs) tick tempo behind p in
         rw (a .0, a .1, a .2) (left begun (omega (arith, g, k .0)) l (rw p at n1))
     go u1 l1 n1 left more (Tempo next behind) p =
-        let a = adds-tempo x xs begun (endFrom begun xs) tick tempo next behind p in
+        let a = adds-tempo x xs begun (lastEndFrom begun xs) tick tempo next behind p in
         let z = none-add (x .tick) begun next (omega (arith, g, k .0)) in
         rw (a .0, a .1, a .2)
-        (tempo-in-time division tempo (x .tick - tick) (lastFrom (endFrom begun xs) (x .tick) xs) sum S (marksFrom (endFrom begun xs) (x .tick) next xs) u1 l1 next
+        (tempo-in-time division tempo (x .tick - tick) (lastFrom (lastEndFrom begun xs) (x .tick) xs) sum S (marksFrom (lastEndFrom begun xs) (x .tick) next xs) u1 l1 next
         (more next S (omega (arith, z, l1)) (rw p at n1)))
     go u1 l1 n1 left more (Channel status first second behind) p =
-        let a = adds-channel x xs begun (endFrom begun xs) tick tempo status first second behind p in
+        let a = adds-channel x xs begun (lastEndFrom begun xs) tick tempo status first second behind p in
         let z = none-add (x .tick) begun tempo (omega (arith, g, k .0)) in
         rw (a .0, a .1, a .2)
-        (channel-in-time division tempo (x .tick - tick) (lastFrom (endFrom begun xs) (x .tick) xs) sum S (marksFrom (endFrom begun xs) (x .tick) tempo xs) u1 l1 status first second
+        (channel-in-time division tempo (x .tick - tick) (lastFrom (lastEndFrom begun xs) (x .tick) xs) sum S (marksFrom (lastEndFrom begun xs) (x .tick) tempo xs) u1 l1 status first second
         (more tempo S (omega (arith, z, l1)) (rw p at n1)))
 
 -- ---- 5. Marks that can be written
@@ -337,13 +337,13 @@ module _ (division : ℕ) (es : List Entry) where
   -- its parts
   pub score-plain : AllFair es → AllPlain (scoreOf division es .marks)
   unfolding scoreOf
-  score-plain f = marks-plain es (endFrom 0 es) 0 500000 (omega arith) f
+  score-plain f = marks-plain es (lastEndFrom 0 es) 0 500000 (omega arith) f
 
   -- it can be written
   pub score-good : 1 ≤ division → division ≤ 32767 → AllFair es → GoodScore (scoreOf division es)
   unfolding scoreOf
   score-good low high f =
-      record { low = low; high = high; marks = plain-good (marksFrom (endFrom 0 es) 0 500000 es) (marks-plain es (endFrom 0 es) 0 500000 (omega arith) f); last = last-small es (endFrom 0 es) 0 }
+      record { low = low; high = high; marks = plain-good (marksFrom (lastEndFrom 0 es) 0 500000 es) (marks-plain es (lastEndFrom 0 es) 0 500000 (omega arith) f); last = last-small es (lastEndFrom 0 es) 0 }
 
   -- nothing is earlier than tick 0
   all-behind : (xs : List Entry) → NoneBefore 0 xs
@@ -353,7 +353,7 @@ module _ (division : ℕ) (es : List Entry) where
   -- its events are those of the sequence
   pub score-rung : TicksRise es → rung (scoreOf division es) ≡ struckOf division es
   unfolding scoreOf
-  score-rung r = marks-rung es division (endFrom 0 es) 0 0 500000 0 0 (omega arith) (all-behind es) r (omega arith)
+  score-rung r = marks-rung es division (lastEndFrom 0 es) 0 0 500000 0 0 (omega arith) (all-behind es) r (omega arith)
 
   -- it is in time where the sequence is
   pub score-in-time : TicksRise es → lateOf division es ≡ None → inTime (scoreOf division es) ≡ true

@@ -18,8 +18,8 @@ use Rattle.merge.specs.Lanes.{lanesFrom, flawIn, entriesOf}
 use Rattle.merge.specs.Order.{inserted, inOrder}
 use Rattle.merge.specs.Lateness.{lateFrom}
 use Rattle.merge.specs.Bridges.{bridgesOf, restOf, bridged}
-use Rattle.merge.specs.Marks.{endFrom, marksFrom, lastFrom, scoreOf}
-use Rattle.merge.specs.Merging.{Outcome, fileOf, fitted, joinedOf, mergedOf}
+use Rattle.merge.specs.Marks.{lastEndFrom, marksFrom, lastFrom, scoreOf}
+use Rattle.merge.specs.Merging.{Joined, joinedFile, fitted, joinedOf, mergedOf}
 
 -- format 1, two tracks, 96 ticks of a quarter note. The first: a bell, struck at tick 0 and left at tick 96 with its status running, and its end there. The second: half
 -- the pace from tick 0 on, another bell struck at tick 96 and left at tick 192 with its status running, and its end there
@@ -58,12 +58,12 @@ fourEvents =
 
 -- it is written so into a room of 48 bytes, and refused in one of 47; merged again it is the same
 pub record Two-tracks : Type 0 where
-  pub written : mergedOf twoTracks 48 ≡ Outcome.Written oneTrack
-  pub no-room : mergedOf twoTracks 47 ≡ Outcome.Refused 43 0
-  pub again : mergedOf oneTrack 48 ≡ Outcome.Written oneTrack
+  pub written : mergedOf twoTracks 48 ≡ Joined.Issued oneTrack
+  pub no-room : mergedOf twoTracks 47 ≡ Joined.Declined 43 0
+  pub again : mergedOf oneTrack 48 ≡ Joined.Issued oneTrack
   pub events : eventsOf oneTrack ≡ Events fourEvents
 
 -- so it is
 pub two-tracks : Two-tracks
-unfolding u8At between twoAt threeAt fourAt quantityFrom quantityAt chunkEnd trackFrom headOf shortAt longAt spokenAt exclusiveAt metaOf metaAt itemAt frameOf acted obeyed meetAt songFrom eventsOf twoBytes threeBytes fourBytes quantityBytes statusBytes dataBytes eventBytes trackBytes fileBytes countNumber frontOf settledAt advancedOf entriesFrom flawFrom lanesFrom flawIn entriesOf inserted inOrder lateFrom bridgesOf restOf bridged endFrom marksFrom lastFrom scoreOf fileOf fitted joinedOf mergedOf
+unfolding u8At between twoAt threeAt fourAt quantityFrom quantityAt chunkEnd trackFrom headOf shortAt longAt spokenAt exclusiveAt metaOf metaAt itemAt frameOf acted obeyed meetAt songFrom eventsOf twoBytes threeBytes fourBytes quantityBytes statusBytes dataBytes eventBytes trackBytes fileBytes countNumber frontOf settledAt advancedOf entriesFrom flawFrom lanesFrom flawIn entriesOf inserted inOrder lateFrom bridgesOf restOf bridged lastEndFrom marksFrom lastFrom scoreOf joinedFile fitted joinedOf mergedOf
 two-tracks = record { written = refl; no-room = refl; again = refl; events = refl }

@@ -13,7 +13,7 @@ use Rattle.smf.specs.Quantities.{fourAt}
 use Rattle.smf.specs.Head.{chunkEnd, trackName, trackFrom}
 use Rattle.merge.specs.declared.Entry.{Entry}
 use Rattle.merge.specs.declared.Spot.the-variants.{None, At}
-use Rattle.merge.specs.Lanes.{firstOf, flawOf, lanesBehind, orElse, lanesFrom, flawIn}
+use Rattle.merge.specs.Lanes.{firstEntry, flawOf, lanesBehind, flawOr, lanesFrom, flawIn}
 use Rattle.merge.specs.Internal.Lanes.{tickOf}
 
 -- a track lies in the file
@@ -39,14 +39,14 @@ module _ (b : List ℕ) (n at : ℕ) where
   lanes-cut number place e = (rw (e, lanesFrom) refl, rw (e, flawIn) refl)
 
   -- a track that has a fault
-  pub lanes-flawed : (begin end place : ℕ) → trackFrom (length b) b at ≡ Track begin end → flawOf b (firstOf b begin end) ≡ At place
-      → (lanesFrom (suc n) b at ≡ firstOf b begin end ∷ []) × (flawIn (suc n) b at ≡ At place)
+  pub lanes-flawed : (begin end place : ℕ) → trackFrom (length b) b at ≡ Track begin end → flawOf b (firstEntry b begin end) ≡ At place
+      → (lanesFrom (suc n) b at ≡ firstEntry b begin end ∷ []) × (flawIn (suc n) b at ≡ At place)
   unfolding lanesFrom flawIn
   lanes-flawed begin end place e f = (rw (e, lanesFrom) (rw f refl), rw (e, flawIn) (rw f refl))
 
   -- one that has none
-  pub lanes-on : (begin end : ℕ) → trackFrom (length b) b at ≡ Track begin end → flawOf b (firstOf b begin end) ≡ None
-      → (lanesFrom (suc n) b at ≡ firstOf b begin end ∷ lanesFrom n b end) × (flawIn (suc n) b at ≡ flawIn n b end)
+  pub lanes-on : (begin end : ℕ) → trackFrom (length b) b at ≡ Track begin end → flawOf b (firstEntry b begin end) ≡ None
+      → (lanesFrom (suc n) b at ≡ firstEntry b begin end ∷ lanesFrom n b end) × (flawIn (suc n) b at ≡ flawIn n b end)
   unfolding lanesFrom flawIn
   lanes-on begin end e f = (rw (e, lanesFrom) (rw f refl), rw (e, flawIn) (rw f refl))
 

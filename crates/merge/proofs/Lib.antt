@@ -6,6 +6,7 @@ pub mod LinesLaws
 pub mod PagesLaws
 pub mod LanesLaws
 pub mod OrderLaws
+pub mod MergingLaws
 pub mod KeptOrderLaws
 pub mod KeptScoreLaws
 pub mod KeptItemsLaws

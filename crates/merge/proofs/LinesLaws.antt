@@ -9,11 +9,11 @@ use Rattle.smf.specs.Spelling.{Mark, quantityBytes, eventBytes, threeBytes}
 use Rattle.smf.specs.declared.Item.{Item}
 use Rattle.merge.specs.declared.Entry.{Entry}
 use Rattle.merge.specs.declared.Line.{Line}
-use Rattle.merge.specs.Bridges.{longest, bridgesOf, restOf}
+use Rattle.merge.specs.Bridges.{longestDelta, bridgesOf, restOf}
 use Rattle.merge.specs.Internal.Lines.{bridgeBytes, gapBytes, runningAfter, entryBytes, closingBytes}
 
 -- a bridge has ten bytes
-pub bridge-ten : (tempo : ℕ) → length (quantityBytes longest ++ eventBytes true 0 (Mark.Tempo longest tempo)) ≡ 10
+pub bridge-ten : (tempo : ℕ) → length (quantityBytes longestDelta ++ eventBytes true 0 (Mark.Tempo longestDelta tempo)) ≡ 10
 unfolding quantityBytes eventBytes threeBytes
 bridge-ten tempo = refl
 
@@ -22,7 +22,7 @@ pub bridges-length : (tempo n : ℕ) → length (bridgeBytes tempo n) ≡ n * 10
 unfolding bridgeBytes
 bridges-length tempo zero = refl
 bridges-length tempo (suc n) =
-    length-append (bridgeBytes tempo n) (quantityBytes longest ++ eventBytes true 0 (Mark.Tempo longest tempo))
+    length-append (bridgeBytes tempo n) (quantityBytes longestDelta ++ eventBytes true 0 (Mark.Tempo longestDelta tempo))
     ∙ omega (arith, bridges-length tempo n, bridge-ten tempo)
 
 -- a gap, whatever the tempo

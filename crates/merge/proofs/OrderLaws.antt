@@ -240,9 +240,9 @@ module _ (b : List ℕ) (n : ℕ) (entries : List Entry) (ticks : List ℕ) (w :
       let e = getD-take n entries j d h in
       let t = tick-at es j d (omega (arith, first-length)) ∙ ticks-are j h in
       let step =
-          merge-step b es j d (w .settled) (omega (arith, first-length)) (rw t (f .found h))
-          (λ i k. rw (t, ticks-are i (omega arith)) (f .earlier i k (omega arith) h))
-          (λ i k. let l : i < n = omega (arith, first-length) in rw (t, ticks-are i l) (f .later i l h)) in
+      merge-step b es j d (w .settled) (omega (arith, first-length)) (rw t (f .found h))
+      (λ i k. rw (t, ticks-are i (omega arith)) (f .earlier i k (omega arith) h))
+      (λ i k. let l : i < n = omega (arith, first-length) in rw (t, ticks-are i l) (f .later i l h)) in
       rw e at step ∙ ap (λ (xs : List Entry). getD entries j d ∷ inOrder (entriesOf b xs)) (sym (take-set-lt n entries j (advancedOf b (getD entries j d)) h))
 
   -- where none is found, nothing is left

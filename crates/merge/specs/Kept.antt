@@ -44,14 +44,14 @@ InSequence = (es : List Entry) → TicksRise (inOrder es) × ((tick : ℕ) → o
 -- what is written for a file of some bytes, where M-101 has room for it: its events are those of the one sequence
 abbrev pub EventsKept : Type 0
 EventsKept =
-    (b w : List ℕ) (room count division at : ℕ) → AllBytes b → frontOf b ≡ Front.Song count division at → mergedOf b room ≡ Outcome.Written w → length w ≤ 65536
+    (b w : List ℕ) (room count division at : ℕ) → AllBytes b → frontOf b ≡ Front.Song count division at → mergedOf b room ≡ Joined.Issued w → length w ≤ 65536
     → eventsOf w ≡ Events (struckOf division (sequenceOf count b at))
 
 -- merging again what was written changes no byte, in any room that holds it
 abbrev pub MergedAgain : Type 0
 MergedAgain =
-    (b w : List ℕ) (room again : ℕ) → AllBytes b → mergedOf b room ≡ Outcome.Written w → length w ≤ 16777216 → length w ≤ again
-    → mergedOf w again ≡ Outcome.Written w
+    (b w : List ℕ) (room again : ℕ) → AllBytes b → mergedOf b room ≡ Joined.Issued w → length w ≤ 16777216 → length w ≤ again
+    → mergedOf w again ≡ Joined.Issued w
 
 -- ---- 3. Files of format 0
 
@@ -71,7 +71,7 @@ MergedAsRead =
 abbrev pub RefusedAsRead : Type 0
 RefusedAsRead =
     (b : List ℕ) (number place room : ℕ) → length b ≤ 65536 → twoAt b 8 ≡ 0 → eventsOf b ≡ Refused number place
-    → mergedOf b room ≡ Outcome.Refused number place
+    → mergedOf b room ≡ Joined.Declined number place
 
 -- ---- 4. Lengths
 

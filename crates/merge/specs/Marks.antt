@@ -8,15 +8,15 @@ use Rattle.merge.specs.declared.Entry.{Entry}
 use Rattle.merge.specs.Bridges.{bridgesOf, restOf, bridged}
 
 -- the tick of the last end of track, where none is found a given one
-unfoldable pub endFrom : ℕ → List Entry → ℕ
-endFrom end [] = end
-endFrom end (e ∷ es) =
+unfoldable pub lastEndFrom : ℕ → List Entry → ℕ
+lastEndFrom end [] = end
+lastEndFrom end (e ∷ es) =
     elim (e .item) [
-      | Bad ↦ endFrom end es
-      | End ↦ endFrom (e .tick) es
-      | Passed behind ↦ endFrom end es
-      | Tempo tempo behind ↦ endFrom end es
-      | Channel status first second behind ↦ endFrom end es
+      | Bad ↦ lastEndFrom end es
+      | End ↦ lastEndFrom (e .tick) es
+      | Passed behind ↦ lastEndFrom end es
+      | Tempo tempo behind ↦ lastEndFrom end es
+      | Channel status first second behind ↦ lastEndFrom end es
     ]
 
 -- the marks of a sequence that ends at a tick, from a written tick and the tempo in force on
@@ -47,4 +47,4 @@ lastFrom end tick (e ∷ es) =
 -- the score of a sequence: it ends at the last end of track
 unfoldable pub scoreOf : ℕ → List Entry → Score
 scoreOf division es =
-    record { division = division; marks = marksFrom (endFrom 0 es) 0 500000 es; last = lastFrom (endFrom 0 es) 0 es }
+    record { division = division; marks = marksFrom (lastEndFrom 0 es) 0 500000 es; last = lastFrom (lastEndFrom 0 es) 0 es }

@@ -18,49 +18,49 @@ use Rattle.merge.specs.Lateness.{lateOf}
 use Rattle.merge.specs.Marks.{scoreOf}
 
 -- a refusal with its number and place, or the bytes that are written
-pub data Outcome : Type 0 where
-  Refused : (number place : ℕ) → Outcome
-  Written : List ℕ → Outcome
+pub data Joined : Type 0 where
+  Declined : (number place : ℕ) → Joined
+  Issued : List ℕ → Joined
 
 -- the one sequence of the events of n tracks, from a place on
 abbrev pub sequenceOf : ℕ → List ℕ → ℕ → List Entry
 sequenceOf n b at = inOrder (entriesOf b (lanesFrom n b at))
 
 -- a sequence as a file: a status byte is left out wherever it runs
-unfoldable pub fileOf : ℕ → List Entry → List ℕ
-fileOf division es = fileBytes (λ k. true) (scoreOf division es)
+unfoldable pub joinedFile : ℕ → List Entry → List ℕ
+joinedFile division es = fileBytes (λ k. true) (scoreOf division es)
 
 -- a file that has to fit into a room
-unfoldable pub fitted : ℕ → List ℕ → Outcome
-fitted room bytes = cond (ltb room (length bytes)) (Refused 43 0) (Written bytes)
+unfoldable pub fitted : ℕ → List ℕ → Joined
+fitted room bytes = cond (ltb room (length bytes)) (Declined 43 0) (Issued bytes)
 
 -- what is past an hour goes before what is not well formed, which lies behind it
-abbrev pub judged : Spot → Spot → Outcome → Outcome
-judged (At place) flaw o = Refused 11 place
-judged None (At place) o = Refused 9 place
+abbrev pub judged : Spot → Spot → Joined → Joined
+judged (At place) flaw o = Declined 11 place
+judged None (At place) o = Declined 9 place
 judged None None o = o
 
 -- a file of n tracks, whose chunks stand from a place on
-unfoldable pub joinedOf : List ℕ → ℕ → ℕ → ℕ → ℕ → Outcome
+unfoldable pub joinedOf : List ℕ → ℕ → ℕ → ℕ → ℕ → Joined
 joinedOf b n division at room =
-    judged (lateOf division (sequenceOf n b at)) (flawIn n b at) (fitted room (fileOf division (sequenceOf n b at)))
+    judged (lateOf division (sequenceOf n b at)) (flawIn n b at) (fitted room (joinedFile division (sequenceOf n b at)))
 
 -- the room for a file: a chunk's length has 32 bits, and 22 bytes stand in front of the track
 abbrev pub roomOf : List ℕ → ℕ
 roomOf out = min (length out) 4294967317
 
 -- a file in so much room: its length before everything else, then the head, then the tracks
-unfoldable pub mergedOf : List ℕ → ℕ → Outcome
+unfoldable pub mergedOf : List ℕ → ℕ → Joined
 mergedOf b room =
-    cond (ltb 16777216 (length b)) (Refused 9 16777216)
-    (elim (frontOf b) [ Front.Refused number place ↦ Refused number place | Song count division at ↦ joinedOf b count division at room ])
+    cond (ltb 16777216 (length b)) (Declined 9 16777216)
+    (elim (frontOf b) [ Front.Refused number place ↦ Declined number place | Song count division at ↦ joinedOf b count division at room ])
 
 -- the answer: 0 and how many bytes are written, or the refusal
-abbrev pub answerOf : Outcome → Merged
-answerOf (Refused number place) = record { number = number; place = place; size = 0 }
-answerOf (Written bytes) = record { number = 0; place = 0; size = length bytes }
+abbrev pub answerOf : Joined → Merged
+answerOf (Declined number place) = record { number = number; place = place; size = 0 }
+answerOf (Issued bytes) = record { number = 0; place = 0; size = length bytes }
 
 -- the output behind an outcome: a refusal leaves it as it was
-abbrev pub writtenInto : Outcome → List ℕ → List ℕ
-writtenInto (Refused number place) out = out
-writtenInto (Written bytes) out = bytes ++ drop (length bytes) out
+abbrev pub writtenInto : Joined → List ℕ → List ℕ
+writtenInto (Declined number place) out = out
+writtenInto (Issued bytes) out = bytes ++ drop (length bytes) out

@@ -117,6 +117,10 @@ read-determined file out o p h k = ends o p (h .0 ∙ sym (k .0)) (h .1 ∙ sym 
 pub find-determined : D.FindDetermined
 find-determined file = equation Found (findOf file)
 
+-- ---- merge
+pub merge-determined : D.MergeDetermined
+merge-determined file out o p h k = ends o p (h .0 ∙ sym (k .0)) (h .1 ∙ sym (k .1))
+
 -- ---- player
 pub idle-determined : D.IdleDetermined
 idle-determined = equation Player idle

@@ -27,6 +27,8 @@ use Rattle.smf.specs.declared.Handed.{Handed}
 use Rattle.smf.specs.declared.Opening.{Opening}
 use Rattle.smf.specs.declared.Tested.{Tested}
 use Rattle.smf.specs.Songs.{testOf, openingOf, handedOf, bytesOf}
+use Rattle.merge.specs.declared.Merged.{Merged}
+use Rattle.merge.specs.Merging.{mergedOf, roomOf, answerOf, writtenInto}
 use Rattle.riff.specs.declared.Found.{Found}
 use Rattle.riff.specs.Form.{findOf}
 use Rattle.player.specs.declared.Answer.{Answer}
@@ -203,6 +205,15 @@ ReadDetermined =
 -- contract of riff::find(file)
 abbrev pub FindDetermined : Type 0
 FindDetermined = (file : List ℕ) → Settles Found (λ r. r ≡ findOf file)
+
+-- ---- merge
+
+-- the number, the place and how many bytes are written, and all of the output
+-- contract of merge::merge(file, out)
+abbrev pub MergeDetermined : Type 0
+MergeDetermined =
+    (file out : List ℕ) → Settles (Ends Merged (List ℕ))
+    (λ o. (o .answer ≡ answerOf (mergedOf file (roomOf out))) × (o .output ≡ writtenInto (mergedOf file (roomOf out)) out))
 
 -- ---- player
 

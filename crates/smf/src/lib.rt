@@ -49,7 +49,8 @@ pub struct Message {
     pub second: u8,
 }
 
-// A channel event: a message, and its frame from the song's start.
+// A channel event: a message, and its frame from the song's start. C keeps it as it is.
+#[repr(C)]
 pub struct Event {
     pub frame: u32,
     pub status: u8,
@@ -58,7 +59,8 @@ pub struct Event {
 }
 
 // A place in a track, with all that the events in front of it say about those behind: running status (0: none), ticks of a quarter note,
-// microseconds of a quarter note, and U, the sum of ticks times tempo.
+// microseconds of a quarter note, and U, the sum of ticks times tempo. C keeps it as it is.
+#[repr(C)]
 pub struct Cursor {
     pub at: u32,
     pub end: u32,

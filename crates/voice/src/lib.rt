@@ -66,7 +66,8 @@ pub struct Voice {
     pub release: u32,
 }
 
-// A channel, as the messages left it.
+// A channel, as the messages left it. C keeps it as it is.
+#[repr(C)]
 pub struct Channel {
     pub program: u8,
     // the bank that control 0 stored, and the one that the last program change took

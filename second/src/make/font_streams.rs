@@ -18,5 +18,5 @@ pub fn stream() -> Vec<u8> {
 
 /// Inputs that end with `bad`, and those that just do not.
 pub fn damaged() -> Vec<Named> {
-    Files { name: "font", good: font(), refused: form(&[]), byte: 0x52 }.damaged()
+    Files { name: "font", between: vec![], good: font(), refused: form(&[]), byte: 0x52 }.damaged()
 }

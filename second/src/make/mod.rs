@@ -103,6 +103,31 @@
 //! - a font cut off at every byte and changed at every byte: font_cases (cut_at_every_byte, one_byte_off); by chance:
 //!   font_chance
 //! - inputs that are themselves damaged: font_streams, over file_streams
+//!
+//! What the merges must reach (songs of format 1):
+//!
+//! - a file cut off at every byte, lengths of the head around 6 and past the file's end, every format with every number of
+//!   tracks and every division at both sides of their edges: merge_cases (cut_at_every_byte, lengths_of_heads,
+//!   fields_of_heads, letters_of_names)
+//! - other chunks in every place, chunks past the file's end, tracks missing, bytes behind each end of track and behind the
+//!   last track: merge_cases (chunks_between, chunks_past_the_end, tracks_missing, behind_the_tracks); 255, 256 and 257
+//!   tracks: numbers_of_tracks; the longest files: long_files
+//! - rooms around what is needed, none, and refusals with and without room: merge_cases (rooms, rooms_of_refused)
+//! - each fault of a track in the first, the middle and the last, chunks shorter than their tracks: merge_track_cases
+//!   (faults_in_each_track, chunks_that_hold_less); running status at a track's start, ended in one track and not in the
+//!   other, every status: running_status, every_status
+//! - every kind of event at the hour and a tick past it in each track, U at its limit by other divisions and tempos, tempos
+//!   of other tracks and at one tick: merge_time_cases (hours, limits, tempos_of_other_tracks); ticks past 32 bits:
+//!   far_past_the_limit
+//! - several late events of which the first in the file is not the first in the sequence, late events in front of a fault
+//!   and behind it, tempos in front of it and behind: merge_time_cases (several_late, late_and_broken, tempos_and_faults)
+//! - equal ticks in several tracks, what is left out, what ends running status, tempos of more than three bytes, delta
+//!   times at the edges of one to four bytes, ends at different ticks: merge_written_cases (equal_ticks, left_out, running,
+//!   tempos, deltas, ends)
+//! - gaps at the longest delta time, its multiples and one more, in front of every kind of event, taken apart by other
+//!   tracks, and what runs behind a bridge: merge_written_cases (gaps, gaps_in_parts); all of these merged again
+//! - songs of several tracks by chance, whole and changed: merge_chance
+//! - inputs that are themselves damaged: merge_streams, over file_streams
 
 mod admission;
 pub mod bad_cases;
@@ -121,6 +146,13 @@ mod gain_cases;
 mod key_cases;
 mod layer_cases;
 mod listing_cases;
+pub mod merge_builder;
+mod merge_cases;
+pub mod merge_chance;
+pub mod merge_streams;
+mod merge_time_cases;
+mod merge_track_cases;
+mod merge_written_cases;
 mod number_lines;
 mod numbers_of_table;
 pub mod player_cases;
@@ -147,13 +179,13 @@ mod wave_read_cases;
 pub mod wave_streams;
 mod wave_write_cases;
 
-use crate::{case, fonts, record, songs, waves};
+use crate::{case, fonts, merges, record, songs, waves};
 use script::Script;
 use std::fs;
 use std::io;
 use std::path::Path;
 
-/// Writes drive/, record/, songs/, waves/, fonts/, numbers/ and the examples of promises/ and voice/ into the directory.
+/// Writes drive/, record/, songs/, waves/, fonts/, merges/, numbers/ and the examples of promises/ and voice/ into the directory.
 pub fn write_all(directory: &Path) -> io::Result<()> {
     let damaged = [bad_cases::all(case::MEMORY_ROOM), bad_cases::of_player()].concat();
     write_program(&directory.join("drive"), |case, trace| case::play(case, trace), &all_cases().bytes, damaged)?;
@@ -180,6 +212,12 @@ pub fn write_all(directory: &Path) -> io::Result<()> {
         |files, lines| fonts::play(files, lines),
         &font_streams::stream(),
         font_streams::damaged(),
+    )?;
+    write_program(
+        &directory.join("merges"),
+        |files, lines| merges::play(files, lines),
+        &merge_streams::stream(),
+        merge_streams::damaged(),
     )?;
     let numbers = number_lines::lines();
     write_file(&directory.join("numbers/stdout"), numbers.as_bytes())?;

@@ -35,6 +35,12 @@ pub fn song(division: u16, track: &[u8]) -> Vec<u8> {
     [head(0, 1, division), chunk(b"MTrk", track)].concat()
 }
 
+/// A file with another byte at a place.
+pub fn with(mut file: Vec<u8>, place: usize, byte: u8) -> Vec<u8> {
+    file[place] = byte;
+    file
+}
+
 // Events
 
 /// A variable-length quantity in as few bytes as it needs.
@@ -53,6 +59,9 @@ pub const LARGEST_QUANTITY: u32 = 0x0fff_ffff;
 
 pub const NOTE: [u8; 3] = [0x90, 60, 64];
 pub const END: [u8; 3] = [0xff, 0x2f, 0];
+
+/// An end of track with its delta time, which is 0.
+pub const END_NOW: [u8; 4] = [0, 0xff, 0x2f, 0];
 
 pub fn meta(kind: u8, said: &[u8]) -> Vec<u8> {
     [&[0xff, kind], quantity(said.len() as u32).as_slice(), said].concat()

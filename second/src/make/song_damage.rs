@@ -50,7 +50,7 @@ fn mend_length(bytes: &mut [u8]) {
 }
 
 /// One change. A file of no byte can only get some.
-fn change(c: &mut Chance, bytes: &mut Vec<u8>) {
+pub(super) fn change(c: &mut Chance, bytes: &mut Vec<u8>) {
     if bytes.is_empty() {
         return put_in(c, bytes);
     }

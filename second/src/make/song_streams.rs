@@ -20,5 +20,5 @@ pub fn stream() -> Vec<u8> {
 /// Inputs that end with `bad`, and those that just do not.
 pub fn damaged() -> Vec<Named> {
     let good = Piece::default().then(96, &NOTE).song();
-    Files { name: "song", good, refused: song(0, &[]), byte: 0x4d }.damaged()
+    Files { name: "song", between: vec![], good, refused: song(0, &[]), byte: 0x4d }.damaged()
 }

@@ -35,7 +35,7 @@ fn command(c: &mut Chance) -> Vec<u8> {
 }
 
 /// Enough room, most often; else a little more or less, or none.
-fn room_near(c: &mut Chance, need: u32) -> u32 {
+pub(super) fn room_near(c: &mut Chance, need: u32) -> u32 {
     match c.from(0, 9) {
         0..=3 => need,
         4 | 5 => need + c.from(1, 9) as u32,

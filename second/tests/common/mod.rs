@@ -1,6 +1,8 @@
 //! An engine with what is lent to it, for tests.
 #![allow(dead_code)]
 
+pub mod songs;
+
 use second::bank::Bank;
 use second::bank_admission::{admit, Fault};
 use second::make::bank_builder::BankPlan;

@@ -9,7 +9,7 @@ use Rattle.smf.specs.declared.Item.the-variants.{Bad, End, Passed, Tempo, Chann
 use Rattle.smf.specs.Spelling.{Mark, twoBytes, fourBytes, quantityBytes, eventBytes}
 use Rattle.merge.specs.declared.Entry.{Entry}
 use Rattle.merge.specs.declared.Line.{Line}
-use Rattle.merge.specs.Bridges.{longest, bridgesOf, restOf}
+use Rattle.merge.specs.Bridges.{longestDelta, bridgesOf, restOf}
 
 -- some bytes over those of an output from a place on
 abbrev pub laidOver : List ℕ → ℕ → List ℕ → List ℕ
@@ -18,7 +18,7 @@ laidOver out at bytes = take at out ++ bytes ++ drop (at + length bytes) out
 -- n bridges
 unfoldable pub bridgeBytes : ℕ → ℕ → List ℕ
 bridgeBytes tempo zero = []
-bridgeBytes tempo (suc n) = bridgeBytes tempo n ++ (quantityBytes longest ++ eventBytes true 0 (Mark.Tempo longest tempo))
+bridgeBytes tempo (suc n) = bridgeBytes tempo n ++ (quantityBytes longestDelta ++ eventBytes true 0 (Mark.Tempo longestDelta tempo))
 
 -- the bytes for a gap: its bridges and its delta time
 unfoldable pub gapBytes : ℕ → ℕ → List ℕ

@@ -13,7 +13,7 @@ use Rattle.merge.specs.declared.Entry.{Entry}
 use Rattle.merge.specs.declared.Tracks.{Tracks}
 use Rattle.merge.specs.declared.Spot.the-variants.{None, At}
 use Rattle.merge.specs.Entries.{noTick}
-use Rattle.merge.specs.Lanes.{firstOf, flawOf, lanesFrom, flawIn}
+use Rattle.merge.specs.Lanes.{firstEntry, flawOf, lanesFrom, flawIn}
 use Rattle.merge.specs.Internal.Entries.{Settled}
 use Rattle.merge.specs.Internal.Lanes.{AllSettled, noLane, tickOf, Lined}
 use Rattle.merge.proofs.LanesLaws.{track-held, lanes-cut, lanes-flawed, lanes-on, ticks-none}
@@ -54,7 +54,7 @@ module _ (b : List ℕ) (count from : ℕ) (ticks : List ℕ) (entries : List En
       (sym l, sym f)
 
   -- one that has a fault
-  flawed : (begin end place : ℕ) (e : Entry) → k < 256 → e ≡ firstOf b begin end → trackFrom (length b) b at ≡ Track begin end → flawOf b e ≡ At place
+  flawed : (begin end place : ℕ) (e : Entry) → k < 256 → e ≡ firstEntry b begin end → trackFrom (length b) b at ≡ Track begin end → flawOf b e ≡ At place
       → (take (k + 1) (set entries k e) ≡ lanesFrom count b from) × (At place ≡ flawIn count b from)
   flawed begin end place e r i t f =
       let c = lanes-flawed b (count - (k + 1)) at begin end place t (rw i at f) in
@@ -64,7 +64,7 @@ module _ (b : List ℕ) (count from : ℕ) (ticks : List ℕ) (entries : List En
       (rw add-one (stored ∙ ap (λ (x : Entry). take k entries ++ (x ∷ [])) i ∙ sym l), sym g)
 
   -- one that has none
-  goes-on : (begin end : ℕ) (e : Entry) → k < 256 → Settled b e → e ≡ firstOf b begin end → trackFrom (length b) b at ≡ Track begin end → flawOf b e ≡ None
+  goes-on : (begin end : ℕ) (e : Entry) → k < 256 → Settled b e → e ≡ firstEntry b begin end → trackFrom (length b) b at ≡ Track begin end → flawOf b e ≡ None
       → Standing b count from (set ticks k (e .tick)) (set entries k e) end (k + 1)
   goes-on begin end e r u i t f =
       let c = lanes-on b (count - (k + 1)) at begin end t (rw i at f) in
@@ -72,12 +72,12 @@ module _ (b : List ℕ) (count from : ℕ) (ticks : List ℕ) (entries : List En
       let l = rw (next-is, c .0) at (s .lanes) in
       let g = rw (next-is, c .1) at (s .flaw) in
       let rest = lanesFrom (count - (k + 1)) b end in
-      let there : take (k + 1) (set entries k e) ≡ take k entries ++ (firstOf b begin end ∷ []) = rw add-one (stored ∙ ap (λ (x : Entry). take k entries ++ (x ∷ [])) i) in
+      let there : take (k + 1) (set entries k e) ≡ take k entries ++ (firstEntry b begin end ∷ []) = rw add-one (stored ∙ ap (λ (x : Entry). take k entries ++ (x ∷ [])) i) in
       record {
         few = omega arith;
         place = track-held (length b) b at begin end t;
         way = way-more b k entries ticks e r (s .way) u;
-        lanes = l ∙ sym (append-assoc (take k entries) (firstOf b begin end ∷ []) rest) ∙ ap (λ (xs : List Entry). xs ++ rest) (sym there);
+        lanes = l ∙ sym (append-assoc (take k entries) (firstEntry b begin end ∷ []) rest) ∙ ap (λ (xs : List Entry). xs ++ rest) (sym there);
         flaw = g;
       }
 

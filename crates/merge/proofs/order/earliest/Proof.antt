@@ -67,16 +67,16 @@ abbrev μ-loop : tie.MeasureT-loop
 
 loop-holds : tie.Need-loop-holds Inv-loop μ-loop
 loop-holds c = (
-    omega arith,
-    record {
-      in-lanes = omega arith;
-      some = omega arith;
-      least = λ k h. absurd (omega arith);
-      first = λ g. absurd (omega arith);
-      found = λ g. absurd (omega arith);
-      none = λ g. refl;
-    },
-  )
+  omega arith,
+  record {
+    in-lanes = omega arith;
+    some = omega arith;
+    least = λ k h. absurd (omega arith);
+    first = λ g. absurd (omega arith);
+    found = λ g. absurd (omega arith);
+    none = λ g. refl;
+  },
+)
 
 mul-better : tie.Need-mul-better Inv-loop μ-loop
 mul-better c = omega arith

@@ -1,0 +1,4 @@
+pub mod Twins
+pub mod Keeping
+pub mod Questions
+pub mod Files
