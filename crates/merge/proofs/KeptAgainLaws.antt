@@ -22,12 +22,12 @@ use Rattle.merge.specs.declared.Front.{Front}
 use Rattle.merge.specs.declared.Spot.the-variants.{None}
 use Rattle.merge.specs.Fronts.{countNumber, frontOf}
 use Rattle.merge.specs.Entries.{noted, settledAt, advancedOf, entriesFrom, flawFrom}
-use Rattle.merge.specs.Lanes.{firstOf, flawOf, lanesFrom, flawIn, entriesOf}
+use Rattle.merge.specs.Lanes.{firstEntry, flawOf, lanesFrom, flawIn, entriesOf}
 use Rattle.merge.specs.Lateness.{tempoAfter, sumAt, lateFrom}
 use Rattle.merge.specs.Bridges.{bridgesOf, restOf, bridged}
 use Rattle.merge.specs.Order.{inOrder}
-use Rattle.merge.specs.Marks.{endFrom, marksFrom, lastFrom, scoreOf}
-use Rattle.merge.specs.Merging.{Outcome, sequenceOf, fileOf, fitted, joinedOf, mergedOf}
+use Rattle.merge.specs.Marks.{lastEndFrom, marksFrom, lastFrom, scoreOf}
+use Rattle.merge.specs.Merging.{Joined, sequenceOf, joinedFile, fitted, joinedOf, mergedOf}
 use Rattle.merge.specs.Kept.{NoneBefore, TicksRise, MergedAgain}
 use Rattle.merge.proofs.BridgesLaws.{no-bridges, rest-whole}
 use Rattle.merge.proofs.FrontsLaws.{Counted, front-good}
@@ -275,9 +275,11 @@ read-as (m ∷ ms) k running last (suc n) b at tick e g l h =
 -- ---- 5. The file
 
 module _ (s : Score) (g : GoodScore s) where
+  -- the file of a score
   abbrev file : List ℕ
   file = fileBytes (λ i. true) s
 
+  -- what its head says
   whole : Written file s (trackOf (λ i. true) s)
   whole = written (λ i. true) s
 
@@ -304,13 +306,14 @@ module _ (s : Score) (g : GoodScore s) where
   abbrev events : List Entry
   events = entriesFrom (turns file) file (firstEntry file 22 (length file))
 
+  -- they are its marks, and its track has no fault
   file-read : ReadAs 0 (s .marks) (s .last) events × (flawOf file (firstEntry file 22 (length file)) ≡ None)
   file-read =
       let w = whole in
       let few = marks-fit (s .marks) (λ i. true) 0 0 (s .last) in
       read-as (s .marks) 0 0 (s .last) (turns file) file 22 0 (w .behind) (g .marks) (g .last) (omega (arith, few, w .size))
 
-  -- .. are its one sequence, without a fault
+  -- they are its one sequence
   file-sequence : (sequenceOf 1 file 14 ≡ events) × (flawIn 1 file 14 ≡ None)
   unfolding entriesOf lanesFrom flawIn
   file-sequence =

@@ -65,12 +65,12 @@ unfolding mergedOf
 merged-refused b room number place h e = rw (le-ltb _ _ h) (rw (e, mergedOf) refl)
 
 -- .. or by its length
-pub merged-long : (b : List ℕ) (room : ℕ) → 16777216 < length b → mergedOf b room ≡ Refused 9 16777216
+pub merged-long : (b : List ℕ) (room : ℕ) → 16777216 < length b → mergedOf b room ≡ Declined 9 16777216
 unfolding mergedOf
 merged-long b room h = rw (lt-ltb _ _ h) refl
 
 -- what is written is of a file that is not too long
-pub merged-short : (b w : List ℕ) (room : ℕ) → mergedOf b room ≡ Written w → length b ≤ 16777216
+pub merged-short : (b w : List ℕ) (room : ℕ) → mergedOf b room ≡ Issued w → length b ≤ 16777216
 unfolding mergedOf
 merged-short b w room e = go (ltb 16777216 (length b)) refl e
   where

@@ -29,10 +29,10 @@ use Rattle.merge.specs.declared.Spot.the-variants.{None, At}
 use Rattle.merge.specs.Entries.{settledAt, advancedOf, entriesFrom}
 use Rattle.merge.specs.Fronts.{frontOf}
 use Rattle.merge.specs.Lateness.{lateOf}
-use Rattle.merge.specs.Lanes.{firstOf, flawOf, lanesFrom, flawIn, entriesOf}
+use Rattle.merge.specs.Lanes.{firstEntry, flawOf, lanesFrom, flawIn, entriesOf}
 use Rattle.merge.specs.Bridges.{bridgesOf, restOf, bridged}
-use Rattle.merge.specs.Marks.{endFrom, marksFrom, lastFrom, scoreOf}
-use Rattle.merge.specs.Merging.{Outcome, sequenceOf, fileOf, fitted, judged, joinedOf, roomOf, mergedOf}
+use Rattle.merge.specs.Marks.{lastEndFrom, marksFrom, lastFrom, scoreOf}
+use Rattle.merge.specs.Merging.{Joined, sequenceOf, joinedFile, fitted, judged, joinedOf, roomOf, mergedOf}
 use Rattle.merge.specs.Internal.Entries.{EndsIn, Settled, goesOn}
 use Rattle.merge.specs.Kept.{NoneBefore, TicksRise, NeverSoLong, RoomIsLength}
 use Rattle.merge.proofs.BridgesLaws.{bridges-most}
@@ -301,7 +301,7 @@ unfolding fitted
 fitted-held room most bytes h = go (ltb room (length bytes)) refl
   where
     go : (t : Bool) → ltb room (length bytes) ≡ t
-        → cond (ltb (min room most) (length bytes)) (Outcome.Refused 43 0) (Outcome.Written bytes) ≡ cond (ltb room (length bytes)) (Outcome.Refused 43 0) (Outcome.Written bytes)
+        → cond (ltb (min room most) (length bytes)) (Joined.Declined 43 0) (Joined.Issued bytes) ≡ cond (ltb room (length bytes)) (Joined.Declined 43 0) (Joined.Issued bytes)
     go true t = let l = ltb-true room (length bytes) t in rw (t, lt-ltb (min room most) (length bytes) (omega (arith, l))) refl
     go false t = let l = ltb-false room (length bytes) t in rw (t, le-ltb (min room most) (length bytes) (omega (arith, l, h))) refl
 
@@ -318,5 +318,5 @@ room-is-length b out a = go (ltb 16777216 (length b)) refl (frontOf b) refl
     go false t (Front.Song count division at) f =
         let l = ltb-false 16777216 (length b) t in
         merged-by b (roomOf out) count division at l f
-        ∙ ap (judged (lateOf division (sequenceOf count b at)) (flawIn count b at)) (fitted-held (length out) 4294967317 (fileOf division (sequenceOf count b at)) (never-so-long b count division at a l f))
+        ∙ ap (judged (lateOf division (sequenceOf count b at)) (flawIn count b at)) (fitted-held (length out) 4294967317 (joinedFile division (sequenceOf count b at)) (never-so-long b count division at a l f))
         ∙ sym (merged-by b (length out) count division at l f)

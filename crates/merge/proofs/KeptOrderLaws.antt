@@ -72,12 +72,13 @@ on-order t (e ∷ es) =
 pub in-sequence : InSequence
 in-sequence es = (order-rises es, λ t. on-order t es)
 
--- events whose ticks never fall are in order already
+-- an event that none is in front of comes first
 first-stays : (e : Entry) (es : List Entry) → NoneBefore (e .tick) es → inserted e es ≡ e ∷ es
 unfolding inserted
 first-stays e [] h = refl
 first-stays e (x ∷ xs) h = rw (le-leb _ _ (h .0)) refl
 
+-- events whose ticks never fall are in order already
 pub order-stays : (es : List Entry) → TicksRise es → inOrder es ≡ es
 unfolding inOrder
 order-stays [] r = refl
@@ -98,7 +99,7 @@ pub each-so : (P Q : Entry → Type 0) (es : List Entry) → ((e : Entry) → P 
 each-so P Q [] f p = tt
 each-so P Q (e ∷ es) f p = (f e (p .0), each-so P Q es f (p .1))
 
--- in order it is still so
+-- .. of one more, put in order
 each-inserted : (P : Entry → Type 0) (e : Entry) (es : List Entry) → P e → Each P es → Each P (inserted e es)
 unfolding inserted
 each-inserted P e [] f k = (f, tt)
@@ -108,12 +109,13 @@ each-inserted P e (x ∷ xs) f k = go (each-inserted P e xs f (k .1)) (leb (e .t
     go more true = (f, k)
     go more false = (k .0, more)
 
+-- .. of all, put in order
 pub each-order : (P : Entry → Type 0) (es : List Entry) → Each P es → Each P (inOrder es)
 unfolding inOrder
 each-order P [] k = tt
 each-order P (e ∷ es) k = each-inserted P e (inOrder es) (k .0) (each-order P es (k .1))
 
--- none is lost or added
+-- one more is put in order
 length-inserted : (e : Entry) (es : List Entry) → length (inserted e es) ≡ suc (length es)
 unfolding inserted
 length-inserted e [] = refl
@@ -123,6 +125,7 @@ length-inserted e (x ∷ xs) = go (length-inserted e xs) (leb (e .tick) (x .tick
     go more true = refl
     go more false = ap suc more
 
+-- none is lost or added
 pub length-order : (es : List Entry) → length (inOrder es) ≡ length es
 unfolding inOrder
 length-order [] = refl

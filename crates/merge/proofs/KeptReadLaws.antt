@@ -34,10 +34,10 @@ use Rattle.merge.specs.declared.Spot.{Spot}
 use Rattle.merge.specs.declared.Spot.the-variants.{None, At}
 use Rattle.merge.specs.Fronts.{countNumber, frontOf}
 use Rattle.merge.specs.Entries.{noted, settledAt, advancedOf, entriesFrom, flawFrom}
-use Rattle.merge.specs.Lanes.{firstOf, flawOf, lanesFrom, flawIn, entriesOf}
+use Rattle.merge.specs.Lanes.{firstEntry, flawOf, lanesFrom, flawIn, entriesOf}
 use Rattle.merge.specs.Lateness.{tempoAfter, sumAt, nearer, lateFrom, sounding, struckFrom}
 use Rattle.merge.specs.Order.{inOrder}
-use Rattle.merge.specs.Merging.{Outcome, sequenceOf, fileOf, fitted, joinedOf, mergedOf}
+use Rattle.merge.specs.Merging.{Joined, sequenceOf, joinedFile, fitted, joinedOf, mergedOf}
 use Rattle.merge.specs.Internal.Entries.{Seated, goesOn}
 use Rattle.merge.specs.Kept.{NoneBefore, TicksRise, SameAsRead, MergedAsRead, RefusedAsRead}
 use Rattle.merge.proofs.EntriesLaws.{settled-bad, settled-good, seated-at, onward, on-bad, on-end}
@@ -81,19 +81,22 @@ places-from (suc n) b e place s h =
     go more true = tt
     go more false = (h, more)
 
--- so of those that are late the first is the nearest
+-- a place that is found lies at a place or behind it
 abbrev SpotFrom : ℕ → Spot → Type 0
 SpotFrom place None = Unit {0}
 SpotFrom place (At other) = place ≤ other
 
+-- so of those that are late the first is the nearest
 nearest : (place : ℕ) (s : Spot) → SpotFrom place s → nearer place s ≡ At place
 nearest place None h = refl
 nearest place (At other) h = ap At (omega (arith, h))
 
+-- the smaller of two places
 spot-nearer : (place at : ℕ) (s : Spot) → place ≤ at → SpotFrom place s → SpotFrom place (nearer at s)
 spot-nearer place at None h k = h
 spot-nearer place at (At other) h k = omega (arith, h, k)
 
+-- what is late lies where the events lie
 late-from : (es : List Entry) (division tick tempo sum place : ℕ) → AllFrom place es → SpotFrom place (lateFrom division tick tempo sum es)
 unfolding lateFrom
 late-from [] division tick tempo sum place a = tt
@@ -106,11 +109,12 @@ late-from (e ∷ es) division tick tempo sum place a =
     go more true = spot-nearer place (e .place) (lateFrom division (e .tick) (tempoAfter tempo (e .item)) (sumAt tick tempo sum e) es) (a .0) more
     go more false = more
 
--- ticks never fall in a track
+-- none is earlier than a tick, said in two ways
 none-least : (t : ℕ) (es : List Entry) → AtLeast t es → NoneBefore t es
 none-least t [] h = tt
 none-least t (e ∷ es) h = (h .0, none-least t es (h .1))
 
+-- ticks never fall in a track
 track-ordered : (n : ℕ) (b : List ℕ) (e : Entry) → TicksRise (entriesFrom n b e)
 unfolding entriesFrom
 track-ordered zero b e = tt
@@ -169,23 +173,26 @@ unfolding entriesFrom flawFrom lateFrom
 tells-fault n b division tick tempo sum now place end = inl (refl, refl, refl)
 
 module _ (n : ℕ) (b : List ℕ) (tick place end : ℕ) where
-  -- the events of a track from one on, and its fault
+  -- the events of a track from its end on, and its fault
   from-end : (entriesFrom (suc n) b (noted End tick place end) ≡ noted End tick place end ∷ []) × (flawFrom (suc n) b (noted End tick place end) ≡ None)
   unfolding entriesFrom
   from-end = (ap (λ (xs : List Entry). noted End tick place end ∷ xs) (end-last n b tick place end), flaw-end n b tick place end)
 
+  -- .. from an event on that is stepped over
   from-passed : (behind : ℕ)
       → (entriesFrom (suc n) b (noted (Passed behind) tick place end) ≡ noted (Passed behind) tick place end ∷ entriesFrom n b (settledAt b end 0 behind tick))
       × (flawFrom (suc n) b (noted (Passed behind) tick place end) ≡ flawFrom n b (settledAt b end 0 behind tick))
   unfolding entriesFrom flawFrom advancedOf
   from-passed behind = (refl, refl)
 
+  -- .. from a tempo change on
   from-tempo : (tempo behind : ℕ)
       → (entriesFrom (suc n) b (noted (Tempo tempo behind) tick place end) ≡ noted (Tempo tempo behind) tick place end ∷ entriesFrom n b (settledAt b end 0 behind tick))
       × (flawFrom (suc n) b (noted (Tempo tempo behind) tick place end) ≡ flawFrom n b (settledAt b end 0 behind tick))
   unfolding entriesFrom flawFrom advancedOf
   from-tempo tempo behind = (refl, refl)
 
+  -- .. from a channel event on
   from-channel : (status first second behind : ℕ)
       → (entriesFrom (suc n) b (noted (Channel status first second behind) tick place end) ≡ noted (Channel status first second behind) tick place end ∷ entriesFrom n b (settledAt b end status behind tick))
       × (flawFrom (suc n) b (noted (Channel status first second behind) tick place end) ≡ flawFrom n b (settledAt b end status behind tick))
@@ -206,6 +213,7 @@ TellsFrom n b =
     → Tells (c .division) tick (c .tempo) (c .sum) (songFrom n b c) (entriesFrom n b (settledAt b (c .end) (c .running) (c .at) tick)) (flawFrom n b (settledAt b (c .end) (c .running) (c .at) tick))
 
 module _ (n : ℕ) (b : List ℕ) (c : Cursor) (tick : ℕ) (held : c .end ≤ length b) where
+  -- the track lies in the file
   edge : edgeOf b c ≡ c .end
   edge = omega (arith, held)
 
@@ -213,6 +221,7 @@ module _ (n : ℕ) (b : List ℕ) (c : Cursor) (tick : ℕ) (held : c .end ≤ l
   abbrev first : Entry
   first = settledAt b (c .end) (c .running) (c .at) tick
 
+  -- what the song tells from here on
   abbrev Told : Type 0
   Told = Tells (c .division) tick (c .tempo) (c .sum) (songFrom (suc n) b c) (entriesFrom (suc n) b first) (flawFrom (suc n) b first)
 
@@ -225,6 +234,7 @@ module _ (n : ℕ) (b : List ℕ) (c : Cursor) (tick : ℕ) (held : c .end ≤ l
       (tells-fault n b (c .division) tick (c .tempo) (c .sum) tick (c .at) (c .end))
 
   module _ (ticks place : ℕ) (q : quantityAt b (c .end) (c .at) ≡ Good ticks place) where
+    -- U there
     abbrev sum : ℕ
     sum = sumAfter c ticks
 
@@ -390,11 +400,12 @@ count-one n e = test (eqb n 1) refl e
     test true t f = eqb-true n 1 t
     test false t f = absurd (omega (arith, f))
 
--- .. with one track, and the same division
+-- one track, and the division that M-101 reads
 abbrev OneTrack : List ℕ → Front → Type 0
 OneTrack b (Front.Refused number place) = Unit {0}
 OneTrack b (Front.Song count division at) = (count ≡ 1) × (division ≡ twoAt b 12)
 
+-- a good head of format 0 says so
 front-one : (b : List ℕ) → twoAt b 8 ≡ 0 → OneTrack b (frontOf b)
 unfolding frontOf
 front-one b z =
@@ -505,10 +516,12 @@ module _ (b : List ℕ) (number place room : ℕ) (short : length b ≤ 65536) (
         let j = joined-is b room short z count division at f in
         ⊎-elim (λ x. j ∙ rw (x .0, x .1, x .2) refl) (λ x. j ∙ rw (x .0, x .1) refl) told
 
+    -- by either
     refused-song : (h : Header) → trackFrom (length b) b at ≡ h → mergedOf b room ≡ Joined.Declined number place
     refused-song (Header.Refused n p) t = refused-cut n p t
     refused-song (Header.Track begin end) t = refused-track begin end t
 
+  -- by the head or what is behind it
   refused-by : (x : Front) → frontOf b ≡ x → mergedOf b room ≡ Joined.Declined number place
   refused-by (Front.Refused n p) f = refused-head n p f
   refused-by (Front.Song count division at) f = refused-song count division at f (trackFrom (length b) b at) refl
@@ -520,16 +533,18 @@ refused-as-read b number place room short z e = refused-by b number place room s
 module _ (b : List ℕ) (es : List Event) (room : ℕ) (a : AllBytes b) (z : twoAt b 8 ≡ 0) (e : eventsOf b ≡ Events es) where
   -- for want of room, or else with its events
   abbrev Merges : Type 0
-  Merges = (mergedOf b room ≡ Outcome.Refused 43 0) ⊎ ((w : List ℕ) × (mergedOf b room ≡ Outcome.Written w) × (length w ≤ 65536 → eventsOf w ≡ Events es))
+  Merges = (mergedOf b room ≡ Joined.Declined 43 0) ⊎ ((w : List ℕ) × (mergedOf b room ≡ Joined.Issued w) × (length w ≤ 65536 → eventsOf w ≡ Events es))
 
+  -- by its room
   merges-fitted : (count division at : ℕ) → frontOf b ≡ Front.Song count division at → (bytes : List ℕ) → mergedOf b room ≡ fitted room bytes → Merges
   unfolding fitted
   merges-fitted count division at f bytes m = go (ltb room (length bytes)) m
     where
-      go : (t : Bool) → mergedOf b room ≡ cond t (Outcome.Refused 43 0) (Outcome.Written bytes) → Merges
+      go : (t : Bool) → mergedOf b room ≡ cond t (Joined.Declined 43 0) (Joined.Issued bytes) → Merges
       go true m = inl m
       go false m = inr (bytes, m, λ h. events-kept b bytes room count division at a f m h ∙ ap Events (same-as-read b es count division at z e f))
 
+  -- its track is in time, and has no fault
   merges-song : (count division at : ℕ) → frontOf b ≡ Front.Song count division at → Merges
   unfolding joinedOf
   merges-song count division at f =
@@ -537,8 +552,9 @@ module _ (b : List ℕ) (es : List Event) (room : ℕ) (a : AllBytes b) (z : two
       let track : trackFrom (length b) b at ≡ Header.Track (t .at) (t .end) = sym (front-head b z ∙ ap (headBy b) f) ∙ t .head in
       let song = sym (events-is b (t .at) (t .end) (t .short) (t .head)) ∙ e in
       let told = one-tells b at (t .at) (t .end) track (Events es) song in
-      merges-fitted count division at f (fileOf (twoAt b 12) (sequenceOf 1 b at)) (joined-is b room (t .short) z count division at f ∙ rw (told .1, told .2) refl)
+      merges-fitted count division at f (joinedFile (twoAt b 12) (sequenceOf 1 b at)) (joined-is b room (t .short) z count division at f ∙ rw (told .1, told .2) refl)
 
+  -- its head is good
   merges-by : (x : Front) → frontOf b ≡ x → Merges
   merges-by (Front.Refused number place) f =
       let t = has-track b es e in

@@ -39,6 +39,7 @@ none-add tick end tempo h =
     let y : (end - tick) * tempo ≡ 0 * tempo = ap (λ (n : ℕ). n * tempo) z in
     omega (arith, y)
 
+-- .. from a tick to itself
 no-ticks : (tick tempo sum : ℕ) → sum ≡ sum + (tick - tick) * tempo
 no-ticks tick tempo sum = let z = none-add tick tick tempo (omega arith) in omega (arith, z)
 
@@ -147,11 +148,12 @@ adds-none begun end tick tempo = (refl, refl, refl)
 
 -- ---- 4. Time
 
--- where no event is past an hour, the first is not, nor is one behind it
+-- the smaller of two places is one
 never-none : (place : ℕ) (s : Spot) → nearer place s ≡ None → ⊥
 never-none place None e = let z : _≡_ {A = ℕ} 0 1 = cc in omega arith
 never-none place (At other) e = let z : _≡_ {A = ℕ} 0 1 = cc in omega arith
 
+-- where no event is past an hour, the first is not, nor is one behind it
 pub late-none : (division tick tempo sum : ℕ) (e : Entry) (es : List Entry) → lateFrom division tick tempo sum (e ∷ es) ≡ None
     → (sumAt tick tempo sum e ≤ 3600000000 * division) × (lateFrom division (e .tick) (tempoAfter tempo (e .item)) (sumAt tick tempo sum e) es ≡ None)
 unfolding lateFrom
@@ -283,6 +285,7 @@ abbrev pub AllPlain : List Mark → Type 0
 AllPlain [] = Unit {0}
 AllPlain (m ∷ ms) = GoodMark m × Plain m × AllPlain ms
 
+-- they are good
 pub plain-good : (ms : List Mark) → AllPlain ms → GoodMarks ms
 plain-good [] p = tt
 plain-good (m ∷ ms) p = (p .0, plain-good ms (p .2))

@@ -16,7 +16,7 @@ use Rattle.merge.specs.declared.Front.{Front}
 use Rattle.merge.specs.Fronts.{frontOf}
 use Rattle.merge.specs.Order.{inOrder}
 use Rattle.merge.specs.Lateness.{struckOf}
-use Rattle.merge.specs.Merging.{Outcome, sequenceOf, fileOf, roomOf, mergedOf}
+use Rattle.merge.specs.Merging.{Joined, sequenceOf, joinedFile, roomOf, mergedOf}
 
 -- ---- 1. The one sequence
 
@@ -65,7 +65,7 @@ SameAsRead =
 abbrev pub MergedAsRead : Type 0
 MergedAsRead =
     (b : List ℕ) (es : List Event) (room : ℕ) → AllBytes b → twoAt b 8 ≡ 0 → eventsOf b ≡ Events es
-    → (mergedOf b room ≡ Outcome.Refused 43 0) ⊎ ((w : List ℕ) × (mergedOf b room ≡ Outcome.Written w) × (length w ≤ 65536 → eventsOf w ≡ Events es))
+    → (mergedOf b room ≡ Joined.Declined 43 0) ⊎ ((w : List ℕ) × (mergedOf b room ≡ Joined.Issued w) × (length w ≤ 65536 → eventsOf w ≡ Events es))
 
 -- one that M-101 refuses, and that is not too long for M-101, is refused with the same number and place
 abbrev pub RefusedAsRead : Type 0
@@ -79,7 +79,7 @@ RefusedAsRead =
 abbrev pub NeverSoLong : Type 0
 NeverSoLong =
     (b : List ℕ) (count division at : ℕ) → AllBytes b → length b ≤ 16777216 → frontOf b ≡ Front.Song count division at
-    → length (fileOf division (sequenceOf count b at)) ≤ 4294967317
+    → length (joinedFile division (sequenceOf count b at)) ≤ 4294967317
 
 -- so the 32 bits never refuse a song: the room for a file is as good as all of the output
 abbrev pub RoomIsLength : Type 0
