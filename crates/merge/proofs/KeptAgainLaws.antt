@@ -36,7 +36,8 @@ use Rattle.merge.proofs.LanesLaws.{lanes-on}
 use Rattle.merge.proofs.KeptOrderLaws.{none-before, order-rises, order-stays}
 use Rattle.merge.proofs.KeptScoreLaws.{adds-tempo, adds-channel, adds-end, adds-none, AllPlain, score-plain, score-in-time}
 use Rattle.merge.proofs.KeptItemsLaws.{sequence-fair}
-use Rattle.merge.proofs.KeptLaws.{never-written, joined-by, merged-by, merged-refused, merged-short, song-good}
+use Rattle.merge.proofs.KeptLaws.{never-written, joined-by, merged-short, song-good}
+use Rattle.merge.proofs.MergingLaws.{merged-front, merged-song}
 
 -- ---- 1. Events that are marks
 
@@ -330,22 +331,22 @@ module _ (s : Score) (g : GoodScore s) where
       let r = file-read .0 in
       let late = read-late (s .marks) (s .division) (s .last) 0 500000 0 events r t in
       let score = read-score s events p (g .last) r in
-      merged-by file room 1 (s .division) 14 short file-front ∙ rw (q .0, q .1, late, score, le-ltb _ _ fits) refl
+      merged-song file room 1 (s .division) 14 short file-front ∙ rw (q .0, q .1, late, score, le-ltb _ _ fits) refl
 
 -- ---- 6. Merging again
 
 -- what was merged has a good head
-merged-front : (b w : List ℕ) (room : ℕ) → mergedOf b room ≡ Joined.Issued w → (f : Front) → frontOf b ≡ f
+good-front : (b w : List ℕ) (room : ℕ) → mergedOf b room ≡ Joined.Issued w → (f : Front) → frontOf b ≡ f
     → (count : ℕ) × (division : ℕ) × (at : ℕ) × (frontOf b ≡ Front.Song count division at)
-merged-front b w room e (Front.Refused number place) f =
-    absurd (never-written number place w (sym (merged-refused b room number place (merged-short b w room e) f) ∙ e))
-merged-front b w room e (Front.Song count division at) f = (count, division, at, f)
+good-front b w room e (Front.Refused number place) f =
+    absurd (never-written number place w (sym (merged-front b room number place (merged-short b w room e) f) ∙ e))
+good-front b w room e (Front.Song count division at) f = (count, division, at, f)
 
 -- merging again what was written changes no byte
 pub merged-again : MergedAgain
 unfolding joinedFile
 merged-again b w room again a e short fits =
-    let f = merged-front b w room e (frontOf b) refl in
+    let f = good-front b w room e (frontOf b) refl in
     let count = f .0 in
     let division = f .1 in
     let at = f .2 in

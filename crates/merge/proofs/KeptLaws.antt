@@ -2,9 +2,9 @@
 use mathlib.Core.Bool.{Bool, true, false, cond}
 use mathlib.Core.List.{List}
 use mathlib.Core.Path.{_≡_, refl, sym, ap, subst, _∙_}
-use Prim.Native.Nat.{ℕ, _<_, _≤_}
+use Prim.Native.Nat.{ℕ, _≤_}
 use native.Mathlib.Omega.{arith}
-use borrow.Author.Tests.{ltb-false, lt-ltb, le-ltb}
+use borrow.Author.Tests.{ltb-false}
 use lib.Dec.{ltb}
 use lib.ListN.{length}
 use Rattle.arith.specs.Bytes.{AllBytes}
@@ -22,6 +22,7 @@ use Rattle.merge.specs.Marks.{scoreOf}
 use Rattle.merge.specs.Merging.{Joined, Declined, Issued, sequenceOf, joinedFile, fitted, judged, joinedOf, mergedOf}
 use Rattle.merge.specs.Kept.{EventsKept}
 use Rattle.merge.proofs.FrontsLaws.{FrontIn, front-in}
+use Rattle.merge.proofs.MergingLaws.{merged-song}
 use Rattle.merge.proofs.KeptOrderLaws.{order-rises}
 use Rattle.merge.proofs.KeptScoreLaws.{score-good, score-rung, score-in-time}
 use Rattle.merge.proofs.KeptItemsLaws.{sequence-fair}
@@ -54,21 +55,6 @@ fitted-good room bytes w e = go (ltb room (length bytes)) e
     go true e = absurd (never-written 43 0 w e)
     go false e = cc
 
--- where a file is merged by its head
-pub merged-by : (b : List ℕ) (room count division at : ℕ) → length b ≤ 16777216 → frontOf b ≡ Front.Song count division at → mergedOf b room ≡ joinedOf b count division at room
-unfolding mergedOf
-merged-by b room count division at h e = rw (le-ltb _ _ h) (rw (e, mergedOf) refl)
-
--- .. or refused by it
-pub merged-refused : (b : List ℕ) (room number place : ℕ) → length b ≤ 16777216 → frontOf b ≡ Front.Refused number place → mergedOf b room ≡ Declined number place
-unfolding mergedOf
-merged-refused b room number place h e = rw (le-ltb _ _ h) (rw (e, mergedOf) refl)
-
--- .. or by its length
-pub merged-long : (b : List ℕ) (room : ℕ) → 16777216 < length b → mergedOf b room ≡ Declined 9 16777216
-unfolding mergedOf
-merged-long b room h = rw (lt-ltb _ _ h) refl
-
 -- what is written is of a file that is not too long
 pub merged-short : (b w : List ℕ) (room : ℕ) → mergedOf b room ≡ Issued w → length b ≤ 16777216
 unfolding mergedOf
@@ -86,7 +72,7 @@ pub joined-by : (b w : List ℕ) (room count division at : ℕ) → frontOf b �
 unfolding joinedOf
 joined-by b w room count division at f e =
     let short = merged-short b w room e in
-    let j = judged-good (lateOf division (sequenceOf count b at)) (flawIn count b at) (fitted room (joinedFile division (sequenceOf count b at))) w (sym (merged-by b room count division at short f) ∙ e) in
+    let j = judged-good (lateOf division (sequenceOf count b at)) (flawIn count b at) (fitted room (joinedFile division (sequenceOf count b at))) w (sym (merged-song b room count division at short f) ∙ e) in
     record { short = short; in-time = j .0; faultless = j .1; bytes = fitted-good room (joinedFile division (sequenceOf count b at)) w (j .2) }
 
 -- ---- 2. The events are kept

@@ -43,7 +43,7 @@ use Rattle.merge.proofs.KeptOrderLaws.{Each, each-so, order-rises, leng
 use Rattle.merge.proofs.KeptScoreLaws.{adds-tempo, adds-channel, adds-end, adds-passed, adds-bad, adds-none}
 use Rattle.merge.proofs.KeptItemsLaws.{byte-at, track-begins, each-sequence}
 use Rattle.merge.proofs.KeptAgainLaws.{entries-gone}
-use Rattle.merge.proofs.KeptLaws.{merged-by, merged-refused, merged-long}
+use Rattle.merge.proofs.MergingLaws.{merged-front, merged-song, merged-long}
 
 -- ---- 1. How many events there are
 
@@ -314,9 +314,9 @@ room-is-length b out a = go (ltb 16777216 (length b)) refl (frontOf b) refl
     go true t x f = let l = ltb-true 16777216 (length b) t in merged-long b (roomOf out) l ∙ sym (merged-long b (length out) l)
     go false t (Front.Refused number place) f =
         let l = ltb-false 16777216 (length b) t in
-        merged-refused b (roomOf out) number place l f ∙ sym (merged-refused b (length out) number place l f)
+        merged-front b (roomOf out) number place l f ∙ sym (merged-front b (length out) number place l f)
     go false t (Front.Song count division at) f =
         let l = ltb-false 16777216 (length b) t in
-        merged-by b (roomOf out) count division at l f
+        merged-song b (roomOf out) count division at l f
         ∙ ap (judged (lateOf division (sequenceOf count b at)) (flawIn count b at)) (fitted-held (length out) 4294967317 (joinedFile division (sequenceOf count b at)) (never-so-long b count division at a l f))
-        ∙ sym (merged-by b (length out) count division at l f)
+        ∙ sym (merged-song b (length out) count division at l f)

@@ -45,7 +45,8 @@ use Rattle.merge.proofs.LanesLaws.{track-held, lanes-cut, lanes-flawed,
 use Rattle.merge.proofs.OrderLaws.{AtLeast, track-rises}
 use Rattle.merge.proofs.KeptOrderLaws.{order-stays}
 use Rattle.merge.proofs.KeptItemsLaws.{track-begins}
-use Rattle.merge.proofs.KeptLaws.{merged-by, merged-refused, events-kept}
+use Rattle.merge.proofs.KeptLaws.{events-kept}
+use Rattle.merge.proofs.MergingLaws.{merged-front, merged-song}
 use Rattle.merge.proofs.KeptAgainLaws.{sum-on, late-empty, end-last, flaw-end}
 
 -- ---- 1. Places rise in a track
@@ -486,14 +487,14 @@ module _ (b : List ℕ) (room : ℕ) (short : length b ≤ 65536) (z : twoAt b 8
 
   -- and is merged by it
   joined-is : mergedOf b room ≡ joinedOf b 1 (twoAt b 12) at room
-  joined-is = merged-by b room count division at (omega (arith, short)) f ∙ rw (has-one .0, has-one .1) refl
+  joined-is = merged-song b room count division at (omega (arith, short)) f ∙ rw (has-one .0, has-one .1) refl
 
 module _ (b : List ℕ) (number place room : ℕ) (short : length b ≤ 65536) (z : twoAt b 8 ≡ 0) (e : eventsOf b ≡ Refused number place) where
   -- by the head
   refused-head : (n p : ℕ) → frontOf b ≡ Front.Refused n p → mergedOf b room ≡ Joined.Declined number place
   refused-head n p f =
       let s = same-refusal n p number place (sym (events-refused b n p short (front-head b z ∙ ap (headBy b) f)) ∙ e) in
-      merged-refused b room n p (omega (arith, short)) f ∙ rw (s .0, s .1) refl
+      merged-front b room n p (omega (arith, short)) f ∙ rw (s .0, s .1) refl
 
   module _ (count division at : ℕ) (f : frontOf b ≡ Front.Song count division at) where
     -- where no track is found
