@@ -12,15 +12,48 @@ pub struct Thularek {
 extern "C" {
     fn thularek_message(number: u32) -> *const std::ffi::c_char;
     fn thularek_init(state: *mut Thularek) -> u32;
-    fn thularek_note_on(state: *mut Thularek, bank: *const u8, bank_length: usize, ram: *const i16, ram_length: usize, rom: *const i16, rom_length: usize, channel: u8, key: u8, velocity: u8) -> u32;
+    fn thularek_note_on(
+        state: *mut Thularek,
+        bank: *const u8,
+        bank_length: usize,
+        ram: *const i16,
+        ram_length: usize,
+        rom: *const i16,
+        rom_length: usize,
+        channel: u8,
+        key: u8,
+        velocity: u8,
+    ) -> u32;
     fn thularek_note_off(state: *mut Thularek, channel: u8, key: u8) -> u32;
     fn thularek_control_change(state: *mut Thularek, channel: u8, control: u8, value: u8) -> u32;
     fn thularek_program_change(state: *mut Thularek, channel: u8, program: u8) -> u32;
     fn thularek_pitch_bend(state: *mut Thularek, channel: u8, bend: u16) -> u32;
-    fn thularek_render(state: *mut Thularek, ram: *const i16, ram_length: usize, rom: *const i16, rom_length: usize, out: *mut f32, out_length: usize, to: u32) -> u32;
+    fn thularek_render(
+        state: *mut Thularek,
+        ram: *const i16,
+        ram_length: usize,
+        rom: *const i16,
+        rom_length: usize,
+        out: *mut f32,
+        out_length: usize,
+        to: u32,
+    ) -> u32;
     fn thularek_song_start(state: *mut Thularek, song: *const u8, song_length: usize) -> u32;
     fn thularek_song_stop(state: *mut Thularek) -> u32;
-    fn thularek_song_render(state: *mut Thularek, song: *const u8, song_length: usize, bank: *const u8, bank_length: usize, ram: *const i16, ram_length: usize, rom: *const i16, rom_length: usize, out: *mut f32, out_length: usize, to: u32) -> u32;
+    fn thularek_song_render(
+        state: *mut Thularek,
+        song: *const u8,
+        song_length: usize,
+        bank: *const u8,
+        bank_length: usize,
+        ram: *const i16,
+        ram_length: usize,
+        rom: *const i16,
+        rom_length: usize,
+        out: *mut f32,
+        out_length: usize,
+        to: u32,
+    ) -> u32;
     fn thularek_count(state: *const Thularek) -> u32;
     fn thularek_refused(state: *const Thularek) -> u32;
     fn thularek_place(state: *const Thularek) -> u32;
@@ -31,14 +64,35 @@ extern "C" {
     fn thularek_held_count(state: *const Thularek) -> u32;
     fn thularek_panel_stage(state: *const Thularek, slot: u8) -> u32;
     fn thularek_panel_level(state: *const Thularek, slot: u8) -> f32;
-    fn thularek_font(file: *const u8, file_length: usize, bank: *mut usize, bank_size: *mut usize, samples: *mut usize, samples_size: *mut usize, place: *mut usize) -> u32;
+    fn thularek_font(
+        file: *const u8,
+        file_length: usize,
+        bank: *mut usize,
+        bank_size: *mut usize,
+        samples: *mut usize,
+        samples_size: *mut usize,
+        place: *mut usize,
+    ) -> u32;
     fn thularek_admit(bank: *const u8, bank_length: usize) -> u32;
     fn thularek_bank_fault(bank: *const u8, bank_length: usize, place: *mut usize) -> u32;
-    fn thularek_list(bytes: *const u8, bytes_length: usize, place: u32, program: *mut u16, bank: *mut u16, next: *mut usize) -> u32;
+    fn thularek_list(
+        bytes: *const u8,
+        bytes_length: usize,
+        place: u32,
+        program: *mut u16,
+        bank: *mut u16,
+        next: *mut usize,
+    ) -> u32;
     fn thularek_song_test(song: *const u8, song_length: usize, place: *mut u32) -> u32;
     fn thularek_wave_heading(frames: u64, out: *mut u8, out_length: usize) -> u32;
     fn thularek_wave_pour(numbers: *const f32, numbers_length: usize, out: *mut u8, out_length: usize) -> u32;
-    fn thularek_wave_read(file: *const u8, file_length: usize, out: *mut i16, out_length: usize, frames: *mut u32) -> u32;
+    fn thularek_wave_read(
+        file: *const u8,
+        file_length: usize,
+        out: *mut i16,
+        out_length: usize,
+        frames: *mut u32,
+    ) -> u32;
 }
 
 impl Thularek {
@@ -86,7 +140,22 @@ impl Thularek {
     pub fn song_render(&mut self, song: &[u8], bank: &[u8], ram: &[i16], rom: &[i16], out: &mut [f32], to: u32) -> u32 {
         let (s, b, r, o) = (song.as_ptr(), bank.as_ptr(), ram.as_ptr(), rom.as_ptr());
         let out_length = out.len();
-        unsafe { thularek_song_render(self, s, song.len(), b, bank.len(), r, ram.len(), o, rom.len(), out.as_mut_ptr(), out_length, to) }
+        unsafe {
+            thularek_song_render(
+                self,
+                s,
+                song.len(),
+                b,
+                bank.len(),
+                r,
+                ram.len(),
+                o,
+                rom.len(),
+                out.as_mut_ptr(),
+                out_length,
+                to,
+            )
+        }
     }
 
     pub fn count(&self) -> u32 {
@@ -144,7 +213,9 @@ pub fn message(number: u32) -> &'static str {
 pub fn font(file: &[u8]) -> Result<(std::ops::Range<usize>, std::ops::Range<usize>), (u32, usize)> {
     let [mut bank, mut bank_size, mut samples, mut samples_size, mut place] = [0; 5];
     let length = file.len();
-    match unsafe { thularek_font(file.as_ptr(), length, &mut bank, &mut bank_size, &mut samples, &mut samples_size, &mut place) } {
+    match unsafe {
+        thularek_font(file.as_ptr(), length, &mut bank, &mut bank_size, &mut samples, &mut samples_size, &mut place)
+    } {
         0 => Ok((bank..bank + bank_size, samples..samples + samples_size)),
         number => Err((number, place)),
     }

@@ -1,4 +1,4 @@
-// Holds library/thularek.h to crate cabinet: nothing else compares what C is told with what is proved.
+// Holds library/thularek.h and thularek.rs to crate cabinet: nothing else compares what C and Rust are told with what is proved.
 //
 //     rustc --edition 2021 -O -o target/header tools/header.rs && target/header
 //
@@ -11,7 +11,11 @@ use std::fs;
 use std::process::ExitCode;
 
 const HEADER: &str = "library/thularek.h";
+const BINDINGS: &str = "library/thularek.rs";
+/// The one function that is written in C, where it stands, and how it is declared.
 const MESSAGES: &str = "library/message.c";
+const MESSAGE: &str = "const char *thularek_message(uint32_t number)";
+const MESSAGE_IN_RUST: &str = "fn thularek_message(number: u32) -> *const std::ffi::c_char";
 /// The crates with what C is handed: the functions and the twin, and the structs that the twin has as they are.
 const CABINET: &str = "crates/cabinet/src";
 const OTHERS: [&str; 2] = ["crates/voice/src", "crates/smf/src"];
@@ -56,40 +60,70 @@ fn number_in_c(rattle: &str) -> &'static str {
     }
 }
 
-/// A parameter in C. Lifetimes mean nothing there.
-fn parameter_in_c(name: &str, rattle: &str) -> String {
-    let Some(lent) = rattle.strip_prefix('&') else { return format!("{} {name}", number_in_c(rattle)) };
-    let lent = lent.trim_start_matches("'a ");
-    let (constant, lent) = match lent.strip_prefix("mut ") {
-        Some(lent) => ("", lent),
-        None => ("const ", lent),
-    };
-    match lent.strip_prefix('[').and_then(|slice| slice.strip_suffix(']')) {
-        Some(element) => format!("{constant}{} *{name}, size_t {name}_length", number_in_c(element)),
-        None => format!("{constant}{} *{name}", number_in_c(lent)),
+/// A number's type in Rust.
+fn number_in_rust(rattle: &str) -> &str {
+    match rattle {
+        "Flat" => "Thularek",
+        _ => rattle,
     }
 }
 
-/// The name of an exported function and its prototype, from the text behind `fn `.
-fn exported(text: &str) -> Option<(String, String)> {
+/// What is lent: its type, whether it is written, and whether it is a slice. Lifetimes mean nothing beyond Rattle.
+fn lent(rattle: &str) -> Option<(&str, bool, bool)> {
+    let lent = rattle.strip_prefix('&')?.trim_start_matches("'a ");
+    let target = lent.strip_prefix("mut ").unwrap_or(lent);
+    let element = target.strip_prefix('[').and_then(|slice| slice.strip_suffix(']'));
+    Some((element.unwrap_or(target), target != lent, element.is_some()))
+}
+
+fn parameter_in_c(name: &str, rattle: &str) -> String {
+    let Some((target, written, slice)) = lent(rattle) else { return format!("{} {name}", number_in_c(rattle)) };
+    let constant = if written { "" } else { "const " };
+    let length = if slice { format!(", size_t {name}_length") } else { String::new() };
+    format!("{constant}{} *{name}{length}", number_in_c(target))
+}
+
+fn parameter_in_rust(name: &str, rattle: &str) -> String {
+    let Some((target, written, slice)) = lent(rattle) else { return format!("{name}: {rattle}") };
+    let pointer = if written { "*mut" } else { "*const" };
+    let length = if slice { format!(", {name}_length: usize") } else { String::new() };
+    format!("{name}: {pointer} {}{length}", number_in_rust(target))
+}
+
+/// Prototypes by the names of their functions.
+type Prototypes = BTreeMap<String, String>;
+
+/// An exported function's name, its parameters with their types, and its answer.
+type Export = (String, Vec<(String, String)>, String);
+
+/// An exported function, from the text behind `fn `.
+fn exported(text: &str) -> Option<Export> {
     let (head, rest) = text.split_once('(')?;
     let (parameters, rest) = rest.split_once(')')?;
     let answer = rest.trim_start().strip_prefix("-> ")?.split_whitespace().next()?;
     let name = head.split('<').next()?;
-    let parameters: Vec<String> = parameters
-        .split(',')
-        .filter_map(|parameter| parameter.trim().split_once(": "))
-        .map(|(name, rattle)| parameter_in_c(name, rattle))
-        .collect();
-    Some((name.to_string(), format!("{} {name}({})", number_in_c(answer), parameters.join(", "))))
+    let pairs = parameters.split(',').filter_map(|parameter| parameter.trim().split_once(": "));
+    let parameters = pairs.map(|(name, rattle)| (name.to_string(), rattle.to_string())).collect();
+    Some((name.to_string(), parameters, answer.to_string()))
 }
 
-/// The prototypes of the functions that crate cabinet exports, by name.
-fn exports() -> BTreeMap<String, String> {
+/// The functions that crate cabinet exports.
+fn exports() -> Vec<Export> {
     let source = sources(CABINET);
     let marked = source.split("#[no_mangle]\n").skip(1);
     let heads = marked.map(|text| text.strip_prefix("pub extern \"C\" fn ").and_then(exported));
     heads.map(|head| head.unwrap_or_else(|| fail("an export that cannot be read"))).collect()
+}
+
+/// The exports as C and as Rust have to declare them.
+fn in_c((name, parameters, answer): &Export) -> (String, String) {
+    let parameters: Vec<String> = parameters.iter().map(|(name, rattle)| parameter_in_c(name, rattle)).collect();
+    (name.clone(), format!("{} {name}({})", number_in_c(answer), parameters.join(", ")))
+}
+
+fn in_rust((name, parameters, answer): &Export) -> (String, String) {
+    let parameters: Vec<String> = parameters.iter().map(|(name, rattle)| parameter_in_rust(name, rattle)).collect();
+    (name.clone(), format!("fn {name}({}) -> {answer}", parameters.join(", ")))
 }
 
 /// A text of C without its comments and without the lines of its preprocessor.
@@ -102,37 +136,53 @@ fn bare(text: &str) -> String {
     left.lines().filter(|line| !line.starts_with('#')).map(|line| format!("{line}\n")).collect()
 }
 
-/// The prototypes of the header, by name.
-fn prototypes(header: &str) -> BTreeMap<String, String> {
-    let text = bare(header);
-    let statements = text.split(';').map(|it| spaced(it.rsplit(['{', '}']).next().unwrap_or(it)));
-    let functions = statements.filter(|it| it.contains('(') && !it.starts_with("typedef"));
-    let named = |it: String| {
-        let head = it.split('(').next().unwrap_or_default();
-        let name = head.rsplit([' ', '*']).next().unwrap_or_default().to_string();
-        (name, it)
-    };
-    functions.map(named).collect()
+/// A prototype with the function's name in front.
+fn named(prototype: String) -> (String, String) {
+    let head = prototype.split('(').next().unwrap_or_default();
+    (head.rsplit([' ', '*']).next().unwrap_or_default().to_string(), prototype)
 }
 
-/// What is wrong with the prototypes. One that the crate does not export is a function of message.c.
-fn complaints(header: &str) -> Vec<String> {
-    let (exports, prototypes, messages) = (exports(), prototypes(header), spaced(&read(MESSAGES)));
-    if exports.is_empty() {
-        fail("crate cabinet exports nothing");
-    }
+/// The prototypes of the header.
+fn of_header(header: &str) -> Prototypes {
+    let text = bare(header);
+    let statements = text.split(';').map(|it| spaced(it.rsplit(['{', '}']).next().unwrap_or(it)));
+    statements.filter(|it| it.contains('(') && !it.starts_with("typedef")).map(named).collect()
+}
+
+/// The prototypes of the block `extern "C"` of the bindings.
+fn of_bindings(bindings: &str) -> Prototypes {
+    let block = bindings.split("extern \"C\" {").nth(1).and_then(|rest| rest.split('}').next()).unwrap_or_default();
+    let on_one_line = |it: &str| spaced(it).replace("( ", "(").replace(", )", ")");
+    block.split(';').map(on_one_line).filter(|it| !it.is_empty()).map(named).collect()
+}
+
+/// Where the prototypes of a file are not the exports'. The file may have one of its own, as it is told.
+fn differences(file: &str, exports: &Prototypes, told: &Prototypes, own: &str) -> Vec<String> {
     let mut wrong = Vec::new();
-    for (name, export) in &exports {
-        match prototypes.get(name) {
-            None => wrong.push(format!("{name} is not in {HEADER}; it is\n    {export};")),
-            Some(told) if told != export => wrong.push(format!("{name} is\n    {export};\nand not\n    {told};")),
+    for (name, export) in exports {
+        match told.get(name) {
+            None => wrong.push(format!("{file} lacks '{export}'")),
+            Some(told) if told != export => wrong.push(format!("{file} has '{told}' for '{export}'")),
             Some(_) => {}
         }
     }
-    for (name, told) in &prototypes {
-        if !exports.contains_key(name) && !messages.contains(&format!("{told} {{")) {
-            wrong.push(format!("{name} is in {HEADER}, and neither crate cabinet nor {MESSAGES} has it so"));
-        }
+    let strange = told.iter().filter(|(name, told)| !exports.contains_key(*name) && *told != own);
+    wrong.extend(strange.map(|(_, told)| format!("{file} has '{told}', which is not exported")));
+    wrong
+}
+
+/// What is wrong with the prototypes of both files.
+fn complaints(header: &str) -> Vec<String> {
+    let exports = exports();
+    if exports.is_empty() {
+        fail("crate cabinet exports nothing");
+    }
+    let (c, rust): (Prototypes, Prototypes) =
+        (exports.iter().map(in_c).collect(), exports.iter().map(in_rust).collect());
+    let mut wrong = differences(HEADER, &c, &of_header(header), MESSAGE);
+    wrong.extend(differences(BINDINGS, &rust, &of_bindings(&read(BINDINGS)), MESSAGE_IN_RUST));
+    if !spaced(&read(MESSAGES)).contains(&format!("{MESSAGE} {{")) {
+        wrong.push(format!("{MESSAGES} lacks '{MESSAGE}'"));
     }
     wrong
 }

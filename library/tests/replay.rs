@@ -280,7 +280,14 @@ mod player {
             self.engine.look();
         }
 
-        pub fn render(&mut self, _: &Tables, lent: &Lent, song: &[u8], clock: u32, output: &mut [f32]) -> Result<Applied, u32> {
+        pub fn render(
+            &mut self,
+            _: &Tables,
+            lent: &Lent,
+            song: &[u8],
+            clock: u32,
+            output: &mut [f32],
+        ) -> Result<Applied, u32> {
             let state = &mut self.engine.state;
             let number = state.song_render(song, lent.bytes(), lent.ram, lent.rom, output, clock);
             let applied = Applied { events: state.count(), refused: state.refused() };
@@ -428,7 +435,11 @@ mod wave_file {
         let written = if number == 0 { 44 + 2 * numbers.len() } else { 0 };
         assert!(file[written..].iter().all(|&byte| byte == BEFORE));
         file.truncate(written);
-        if number == 0 { Ok(file) } else { Err(number) }
+        if number == 0 {
+            Ok(file)
+        } else {
+            Err(number)
+        }
     }
 
     pub fn read(file: &[u8], room: usize) -> Result<Vec<i16>, u32> {
@@ -436,7 +447,11 @@ mod wave_file {
         let (number, frames) = wave_read(file, &mut out);
         assert!(out[2 * frames as usize..].iter().all(|&sample| sample == i16::from(BEFORE)));
         out.truncate(2 * frames as usize);
-        if number == 0 { Ok(out) } else { Err(number) }
+        if number == 0 {
+            Ok(out)
+        } else {
+            Err(number)
+        }
     }
 }
 
