@@ -93,8 +93,8 @@ enum {
     THULAREK_FONT_NO_FORM = 40,
     THULAREK_FONT_CUT = 41,
     THULAREK_FONT_MISSING = 42,
-    THULAREK_MERGE_NO_ROOM = 43,        /* later */
-    THULAREK_MERGE_TOO_MANY_TRACKS = 44 /* later */
+    THULAREK_MERGE_NO_ROOM = 43,
+    THULAREK_MERGE_TOO_MANY_TRACKS = 44
 };
 
 /* What a number says, in words: a line without a full stop, in memory that is always there. Any
@@ -136,7 +136,8 @@ uint32_t thularek_pitch_bend(thularek *state, uint8_t channel, uint16_t bend);
 uint32_t thularek_render(thularek *state, const int16_t *ram, size_t ram_length, const int16_t *rom,
                          size_t rom_length, float *out, size_t out_length, uint32_t to);
 
-/* ---- Songs: Standard MIDI Files of format 0, at most 65,536 bytes */
+/* ---- Songs: Standard MIDI Files of format 0, at most 65,536 bytes. thularek_merge makes such files of
+ * those of format 1, which most are. */
 
 /* A song starts at the clock's value; what sounded is let go. The same bytes are lent to each
  * thularek_song_render. 0; else 9, 10, 11, thularek_place is the fault's byte, and nothing starts. */
@@ -208,6 +209,12 @@ uint32_t thularek_list(const uint8_t *bytes, size_t bytes_length, uint32_t place
 
 /* Whether a song can be played: 0; else 9, 10, 11 and the place of its first fault. */
 uint32_t thularek_song_test(const uint8_t *song, size_t song_length, uint32_t *place);
+
+/* A song of several tracks (format 1) as one that can be played: its bytes go to the front of `out`, and
+ * how many there are to `size`. Songs of format 0 go through too. At most 256 tracks and 16,777,216
+ * bytes. 0; else 9, 10, 11, 44, 43, and `place` is the fault's; a refusal writes nothing to `out`. */
+uint32_t thularek_merge(const uint8_t *file, size_t file_length, uint8_t *out, size_t out_length, size_t *size,
+                        uint32_t *place);
 
 /* The 44 bytes in front of so many frames, to the front of `out`. 0, or 14, 15. */
 uint32_t thularek_wave_heading(uint64_t frames, uint8_t *out, size_t out_length);

@@ -84,6 +84,9 @@ extern "C" {
         next: *mut usize,
     ) -> u32;
     fn thularek_song_test(song: *const u8, song_length: usize, place: *mut u32) -> u32;
+    fn thularek_merge(
+        file: *const u8, file_length: usize, out: *mut u8, out_length: usize, size: *mut usize, place: *mut u32,
+    ) -> u32;
     fn thularek_wave_heading(frames: u64, out: *mut u8, out_length: usize) -> u32;
     fn thularek_wave_pour(numbers: *const f32, numbers_length: usize, out: *mut u8, out_length: usize) -> u32;
     fn thularek_wave_read(
@@ -244,6 +247,14 @@ pub fn song_test(song: &[u8]) -> (u32, u32) {
     let mut place = 0;
     let number = unsafe { thularek_song_test(song.as_ptr(), song.len(), &mut place) };
     (number, place)
+}
+
+/// A song of several tracks as one: its number, how many bytes were written, and the place of its first fault.
+pub fn merge(file: &[u8], out: &mut [u8]) -> (u32, usize, u32) {
+    let (mut size, mut place) = (0, 0);
+    let number =
+        unsafe { thularek_merge(file.as_ptr(), file.len(), out.as_mut_ptr(), out.len(), &mut size, &mut place) };
+    (number, size, place)
 }
 
 pub fn wave_heading(frames: u64, out: &mut [u8]) -> u32 {

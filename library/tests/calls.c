@@ -191,6 +191,7 @@ static void no_files(void) {
     CHECK(thularek_bank_fault(NULL, 0, &place) == THULAREK_BANK_CHUNK - 20 && place == 0);
     CHECK(thularek_list(NULL, 0, 0, &program, &bank, &a) == 1 && !program && !bank && !a);
     CHECK(thularek_song_test(NULL, 0, &at) == THULAREK_SONG_MALFORMED && at == 0);
+    CHECK(thularek_merge(NULL, 0, NULL, 0, &a, &at) == THULAREK_SONG_MALFORMED && !a && at == 0);
     CHECK(thularek_wave_heading(1, NULL, 0) == THULAREK_WAVE_NO_ROOM);
     CHECK(thularek_wave_pour(NULL, 0, NULL, 0) == THULAREK_DONE);
     CHECK(thularek_wave_read(NULL, 0, NULL, 0, &frames) == THULAREK_WAVE_OTHER_FILE && frames == 0);
@@ -210,6 +211,8 @@ static void any_file(const uint8_t *good, size_t most, uint32_t files) {
         CHECK(thularek_admit(file, length) == (thularek_bank_fault(file, length, &place) != 0));
         CHECK(thularek_list(file, length, chance() % 4, &program, &bank, &a) <= 2);
         CHECK(thularek_song_test(file, length, &at) <= THULAREK_SONG_TOO_LATE && at <= 65536);
+        uint8_t merged[64] = {0};
+        CHECK(thularek_merge(file, length, merged, 64, &a, &at) == THULAREK_DONE ? a <= 64 : a == 0 && merged[0] == 0);
         CHECK(thularek_wave_read(file, length, heard, 64, &frames) != THULAREK_DONE || frames <= 32);
         munmap(room, 131072);
     }

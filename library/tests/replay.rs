@@ -12,6 +12,9 @@
 mod case;
 #[path = "../../second/src/fonts.rs"]
 mod fonts;
+#[path = "../../second/src/merges.rs"]
+#[allow(dead_code)]
+mod merges;
 #[path = "../../second/src/songs.rs"]
 #[allow(dead_code)]
 mod songs;
@@ -455,6 +458,26 @@ mod wave_file {
     }
 }
 
+mod merge_file {
+    pub struct Fault {
+        pub number: u32,
+        pub place: u32,
+    }
+
+    pub fn merge(file: &[u8], room: usize) -> Result<Vec<u8>, Fault> {
+        const BEFORE: u8 = 0x5a;
+        let mut out = vec![BEFORE; room];
+        let (number, size, place) = crate::thularek::merge(file, &mut out);
+        assert!(out[size..].iter().all(|&byte| byte == BEFORE));
+        out.truncate(size);
+        if number == 0 {
+            Ok(out)
+        } else {
+            Err(Fault { number, place })
+        }
+    }
+}
+
 fn main() -> std::io::Result<()> {
     let (input, output) = (std::io::stdin().lock(), std::io::BufWriter::new(std::io::stdout().lock()));
     let input = std::io::BufReader::new(input);
@@ -463,6 +486,7 @@ fn main() -> std::io::Result<()> {
         Some("fonts") => fonts::play(input, output),
         Some("songs") => songs::play(input, output),
         Some("waves") => waves::play(input, output),
-        _ => Err(std::io::Error::other("usage: replay play|fonts|songs|waves < INPUT > LINES")),
+        Some("merges") => merges::play(input, output),
+        _ => Err(std::io::Error::other("usage: replay play|fonts|songs|waves|merges < INPUT > LINES")),
     }
 }
