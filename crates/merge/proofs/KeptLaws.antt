@@ -17,7 +17,7 @@ use Rattle.merge.specs.declared.Spot.{Spot}
 use Rattle.merge.specs.declared.Spot.the-variants.{None, At}
 use Rattle.merge.specs.Fronts.{frontOf}
 use Rattle.merge.specs.Lanes.{lanesFrom, flawIn, entriesOf}
-use Rattle.merge.specs.Lateness.{lateOf}
+use Rattle.merge.specs.Lateness.{lateOf, struckOf}
 use Rattle.merge.specs.Marks.{scoreOf}
 use Rattle.merge.specs.Merging.{Joined, Declined, Issued, sequenceOf, joinedFile, fitted, judged, joinedOf, mergedOf}
 use Rattle.merge.specs.Kept.{EventsKept}
@@ -88,14 +88,18 @@ song-good b count division at a f =
     score-good division (sequenceOf count b at) (d .0) (d .1) (sequence-fair b a count at)
 
 -- M-101 reads the events of the sequence
-pub events-kept : EventsKept
+pub song-kept : (b w : List ℕ) (count division at : ℕ) → AllBytes b → frontOf b ≡ Front.Song count division at → JoinedBy b w count division at → length w ≤ 65536
+    → eventsOf w ≡ Events (struckOf division (sequenceOf count b at))
 unfolding joinedFile
-events-kept b w room count division at a f e short =
+song-kept b w count division at a f j short =
     let es = sequenceOf count b at in
-    let j = joined-by b w room count division at f e in
     let rise = order-rises (entriesOf b (lanesFrom count b at)) in
     let same : fileBytes (λ k. true) (scoreOf division es) ≡ w = j .bytes in
     let few : length (fileBytes (λ k. true) (scoreOf division es)) ≤ 65536 = rw same short in
     sym (ap eventsOf same)
     ∙ written-is-rung (λ k. true) (scoreOf division es) (song-good b count division at a f) few (score-in-time division es rise (j .in-time))
     ∙ ap Events (score-rung division es rise)
+
+-- the events are kept
+pub events-kept : EventsKept
+events-kept b w room count division at a f e short = song-kept b w count division at a f (joined-by b w room count division at f e) short

@@ -35,7 +35,7 @@ use Rattle.merge.specs.declared.Spot.the-variants.{None, At}
 use Rattle.merge.specs.Fronts.{countNumber, frontOf}
 use Rattle.merge.specs.Entries.{noted, settledAt, advancedOf, entriesFrom, flawFrom}
 use Rattle.merge.specs.Lanes.{firstEntry, flawOf, lanesFrom, flawIn, entriesOf}
-use Rattle.merge.specs.Lateness.{tempoAfter, sumAt, nearer, lateFrom, sounding, struckFrom}
+use Rattle.merge.specs.Lateness.{tempoAfter, sumAt, nearer, lateFrom, sounding, struckFrom, struckOf}
 use Rattle.merge.specs.Order.{inOrder}
 use Rattle.merge.specs.Merging.{Joined, sequenceOf, joinedFile, fitted, joinedOf, mergedOf}
 use Rattle.merge.specs.Internal.Entries.{Seated, goesOn}
@@ -45,7 +45,7 @@ use Rattle.merge.proofs.LanesLaws.{track-held, lanes-cut, lanes-flawed,
 use Rattle.merge.proofs.OrderLaws.{AtLeast, track-rises}
 use Rattle.merge.proofs.KeptOrderLaws.{order-stays}
 use Rattle.merge.proofs.KeptItemsLaws.{track-begins}
-use Rattle.merge.proofs.KeptLaws.{events-kept}
+use Rattle.merge.proofs.KeptLaws.{joined-by, song-kept}
 use Rattle.merge.proofs.MergingLaws.{merged-front, merged-song}
 use Rattle.merge.proofs.KeptAgainLaws.{sum-on, late-empty, end-last, flaw-end}
 
@@ -537,23 +537,25 @@ module _ (b : List ℕ) (es : List Event) (room : ℕ) (a : AllBytes b) (z : two
   Merges = (mergedOf b room ≡ Joined.Declined 43 0) ⊎ ((w : List ℕ) × (mergedOf b room ≡ Joined.Issued w) × (length w ≤ 65536 → eventsOf w ≡ Events es))
 
   -- by its room
-  merges-fitted : (count division at : ℕ) → frontOf b ≡ Front.Song count division at → (bytes : List ℕ) → mergedOf b room ≡ fitted room bytes → Merges
+  merges-fitted : (at : ℕ) → frontOf b ≡ Front.Song 1 (twoAt b 12) at → struckOf (twoAt b 12) (sequenceOf 1 b at) ≡ es → (bytes : List ℕ) → mergedOf b room ≡ fitted room bytes → Merges
   unfolding fitted
-  merges-fitted count division at f bytes m = go (ltb room (length bytes)) m
+  merges-fitted at f k bytes m = go (ltb room (length bytes)) m
     where
       go : (t : Bool) → mergedOf b room ≡ cond t (Joined.Declined 43 0) (Joined.Issued bytes) → Merges
       go true m = inl m
-      go false m = inr (bytes, m, λ h. events-kept b bytes room count division at a f m h ∙ ap Events (same-as-read b es count division at z e f))
+      go false m = inr (bytes, m, λ h. song-kept b bytes 1 (twoAt b 12) at a f (joined-by b bytes room 1 (twoAt b 12) at f m) h ∙ ap Events k)
 
   -- its track is in time, and has no fault
   merges-song : (count division at : ℕ) → frontOf b ≡ Front.Song count division at → Merges
   unfolding joinedOf
   merges-song count division at f =
       let t = has-track b es e in
+      let one = has-one b room (t .short) z count division at f in
       let track : trackFrom (length b) b at ≡ Header.Track (t .at) (t .end) = sym (front-head b z ∙ ap (headBy b) f) ∙ t .head in
       let song = sym (events-is b (t .at) (t .end) (t .short) (t .head)) ∙ e in
       let told = one-tells b at (t .at) (t .end) track (Events es) song in
-      merges-fitted count division at f (joinedFile (twoAt b 12) (sequenceOf 1 b at)) (joined-is b room (t .short) z count division at f ∙ rw (told .1, told .2) refl)
+      merges-fitted at (f ∙ rw (one .0, one .1) refl) (told .0) (joinedFile (twoAt b 12) (sequenceOf 1 b at))
+      (joined-is b room (t .short) z count division at f ∙ rw (told .1, told .2) refl)
 
   -- its head is good
   merges-by : (x : Front) → frontOf b ≡ x → Merges
