@@ -5,7 +5,7 @@
 // complains, with status 1, where a prototype is not the one of the function that is exported under its name (result, order,
 // names and C types of the parameters; a slice is a pointer and a length), where one of the two has no other, and where
 // THULAREK_STATE_USED is not the size of `Flat` by C's rules. `--layout` prints where each number of `Flat` lies: its
-// place, its size in bytes and its name.
+// place, its size in bytes and its name. `--twin` prints `Flat` in C with an assertion of each place, for a C compiler.
 use std::collections::BTreeMap;
 use std::fs;
 use std::process::ExitCode;
@@ -260,6 +260,45 @@ impl Layout {
     }
 }
 
+/// A field in C.
+fn field_in_c(name: &str, kind: &str) -> String {
+    let type_in_c = |kind: &str| match kind {
+        "i32" => "int32_t".to_string(),
+        _ if kind.starts_with(char::is_uppercase) => kind.to_string(),
+        _ => number_in_c(kind).to_string(),
+    };
+    match array(kind) {
+        Some((element, length)) => format!("{} {name}[{length}];", type_in_c(element)),
+        None => format!("{} {name};", type_in_c(kind)),
+    }
+}
+
+/// The structs that a type has in it and then itself, in C, each once.
+fn structs_in_c(layout: &Layout, kind: &str, written: &mut Vec<String>) -> String {
+    let kind = array(kind).map_or(kind, |(element, _)| element);
+    if Layout::number(kind).is_some() || written.iter().any(|name| name == kind) {
+        return String::new();
+    }
+    written.push(kind.to_string());
+    let fields = layout.fields(kind);
+    let inner: String = fields.iter().map(|(_, kind)| structs_in_c(layout, kind, written)).collect();
+    let own: Vec<String> = fields.iter().map(|(name, kind)| field_in_c(name, kind)).collect();
+    format!("{inner}typedef struct {kind} {{ {} }} {kind};\n", own.join(" "))
+}
+
+/// `Flat` as a struct of C, with an assertion of each place of the layout.
+fn twin(layout: &Layout) -> String {
+    let mut text = "#include \"thularek.h\"\n".to_string();
+    text += &structs_in_c(layout, "Flat", &mut Vec::new());
+    text += "_Static_assert(sizeof(Flat) == THULAREK_STATE_USED, \"size\");\n";
+    for line in &layout.lines {
+        let (place, rest) = line.split_once(' ').unwrap_or_default();
+        let name = rest.split_once(" state.").unwrap_or_default().1;
+        text += &format!("_Static_assert(offsetof(Flat, {name}) == {place}, \"{name}\");\n");
+    }
+    text
+}
+
 fn main() -> ExitCode {
     let mut layout = Layout { structs: structs(), lines: Vec::new() };
     let size = layout.put("state", "Flat", 0);
@@ -268,7 +307,11 @@ fn main() -> ExitCode {
             layout.lines.iter().for_each(|line| println!("{line}"));
             return ExitCode::SUCCESS;
         }
-        Some(_) => fail("usage: header [--layout]"),
+        Some("--twin") => {
+            print!("{}", twin(&layout));
+            return ExitCode::SUCCESS;
+        }
+        Some(_) => fail("usage: header [--layout|--twin]"),
         None => {}
     }
     let header = read(HEADER);

@@ -93,7 +93,8 @@ static lent from_files(const char *bank_name, const char *song_name) {
 static uint32_t act(thularek *s, const lent *l, uint32_t which) {
     uint8_t channel = (uint8_t)chance_below(16), first = (uint8_t)chance_below(128), second = (uint8_t)chance_below(128);
     uint32_t to = thularek_clock(s) + chance_below(600);
-    switch (which % 10) {
+    if (which % 50 == 0) return thularek_init(s);
+    switch (which % 9) {
     case 0: return thularek_note_off(s, channel, first);
     case 1: return thularek_control_change(s, channel, first, second);
     case 2: return thularek_program_change(s, channel, first);
@@ -104,7 +105,6 @@ static uint32_t act(thularek *s, const lent *l, uint32_t which) {
     case 7:
         return thularek_song_render(s, l->song, l->song_length, l->bank, l->bank_length, l->ram, l->ram_length, l->rom,
                                     l->rom_length, l->out, l->out_length, to);
-    case 8: return chance() % 50 ? 0 : thularek_init(s);
     default:
         return thularek_note_on(s, l->bank, l->bank_length, l->ram, l->ram_length, l->rom, l->rom_length, channel, first,
                                 second);
@@ -113,7 +113,9 @@ static uint32_t act(thularek *s, const lent *l, uint32_t which) {
 
 static void ask(const thularek *s) {
     thularek before = *s;
+    uint32_t last[4]; /* number, count, refused and place of the last call */
     uint8_t slot = (uint8_t)chance();
+    memcpy(last, s, sizeof last);
     uint32_t stage = thularek_panel_stage(s, slot), voices = thularek_voice_count(s);
     float level = thularek_panel_level(s, slot);
     CHECK(stage <= THULAREK_NO_SLOT && (stage == THULAREK_NO_SLOT) == (slot >= THULAREK_VOICES));
@@ -121,6 +123,7 @@ static void ask(const thularek *s) {
     CHECK(voices <= THULAREK_VOICES && thularek_held_count(s) <= voices);
     CHECK(thularek_is_silent(s) == (voices == 0));
     CHECK(thularek_song_is_over(s) <= 1);
+    CHECK(thularek_count(s) == last[1] && thularek_refused(s) == last[2] && thularek_place(s) == last[3]);
     CHECK(memcmp(&before, s, sizeof before) == 0);
 }
 
@@ -129,29 +132,39 @@ static const struct { uint16_t at, size; } numbers[] = {
 #include "layout.inc"
 };
 
-static int same(const thularek *one, const thularek *other) {
-    size_t count = sizeof numbers / sizeof *numbers, i = 0;
+/* Whether all numbers are the same, but for so many at the front, and the room behind them too. */
+static int same(const thularek *one, const thularek *other, size_t but) {
+    size_t count = sizeof numbers / sizeof *numbers, i = but;
     const char *a = (const char *)one, *b = (const char *)other;
     while (i < count && !memcmp(a + numbers[i].at, b + numbers[i].at, numbers[i].size)) i++;
     return i == count && !memcmp(a + THULAREK_STATE_USED, b + THULAREK_STATE_USED, sizeof *one - THULAREK_STATE_USED);
 }
 
-/* Each state goes through calls by chance: any bytes, a fresh one with some bytes changed, or a fresh one. A copy is as good
- * as the state: the same call gives the same number and leaves the same state. */
+/* One call by chance on a state and on a copy of it: both get the same number, which is the first in the state, and are the same
+ * after it. A refusal changes the last call's four numbers alone. */
+static void act_twice(thularek *s, thularek *copy, const lent *l, int settled) {
+    thularek before = *s;
+    uint64_t drawn = chance_at;
+    uint32_t number = act(s, l, chance()), first;
+    chance_at = drawn;
+    CHECK(act(copy, l, chance()) == number);
+    CHECK(number <= THULAREK_SONG_TOO_LATE);
+    CHECK(memcpy(&first, s, sizeof first) && first == number);
+    CHECK(same(s, copy, 0));
+    CHECK(number == THULAREK_DONE || !settled || same(s, &before, 4));
+}
+
+/* Each state goes through calls by chance: any bytes, a fresh one with some bytes changed, or a fresh one. The first call settles
+ * what stood there in an unusual way, a flag of 7 as an example. */
 static void any_state(const lent *l, uint32_t states) {
     thularek *s = guarded(sizeof *s), *copy = guarded(sizeof *copy);
     for (uint32_t i = 0; i < states; i++) {
         if (i % 2) thularek_init(s);
         if (i % 2 == 0) scatter(s, sizeof *s);
-        for (uint32_t k = chance() % 20; i % 4 == 1 && k > 0; k--) ((uint8_t *)s)[chance() % THULAREK_STATE_USED] = (uint8_t)chance();
+        for (uint32_t k = i % 4 == 1 ? chance() % 20 : 0; k > 0; k--) ((uint8_t *)s)[chance() % THULAREK_STATE_USED] = (uint8_t)chance();
         *copy = *s;
-        for (uint32_t call = 0; call < 10; call++) {
-            uint64_t drawn = chance_at;
-            uint32_t number = act(s, l, chance());
-            chance_at = drawn;
-            CHECK(act(copy, l, chance()) == number);
-            CHECK(number <= THULAREK_SONG_TOO_LATE);
-            CHECK(same(s, copy));
+        for (int call = 0; call < 10; call++) {
+            act_twice(s, copy, l, call > 0);
             ask(s);
         }
     }
