@@ -2,6 +2,8 @@
 
 use crate::bank_admission::admit;
 use crate::case::{MEMORY_ROOM, OUTPUT_ROOM};
+use crate::merge_file;
+use crate::midi_file::{self, Fault};
 use crate::player::Player;
 use crate::slots_keys_clock::Lent;
 use crate::tables_and_steps::tables;
@@ -278,10 +280,23 @@ fn render(out: &mut impl Write, letter: u8, clock: u32, frames: u32) -> io::Resu
     out.write_all(&(2 * frames).to_le_bytes())
 }
 
-/// The case of a whole piece that the player plays, as its file is: it is started and rendered until it is over and
-/// silent, or for so long behind its last event. Each render is followed by the question whether it is over. How many
-/// renders that takes is found by playing it here.
+fn not_admitted(fault: Fault) -> Error {
+    Error::other(format!("M-101 does not admit this file: {} at byte {}", fault.number, fault.place))
+}
+
+/// A song as the player takes it: of one that M-101 refuses the tracks are merged, into as many bytes as it takes.
+fn playable(song: &[u8]) -> io::Result<Vec<u8>> {
+    match midi_file::read(song) {
+        Ok(_) => Ok(song.to_vec()),
+        Err(_) => merge_file::merge(song, midi_file::LONGEST_FILE).map_err(not_admitted),
+    }
+}
+
+/// The case of a whole piece that the player plays, merged where that is needed: it is started and rendered until it is
+/// over and silent, or for so long behind its last event. Each render is followed by the question whether it is over.
+/// How many renders that takes is found by playing it here.
 pub fn song_case(bank: &RealBank, song: &[u8]) -> io::Result<Vec<u8>> {
+    let song = &playable(song)?;
     let renders = renders_of(bank, song)?;
     let (mut case, frames) = (Vec::new(), FRAMES_A_RENDER as u32);
     bank.lend_and_list(&mut case)?;
@@ -298,10 +313,7 @@ pub fn song_case(bank: &RealBank, song: &[u8]) -> io::Result<Vec<u8>> {
 fn renders_of(bank: &RealBank, song: &[u8]) -> io::Result<u32> {
     let (mut player, admitted) = (Player::fresh(0), admit(&bank.body));
     let lent = Lent { bank: &admitted, ram: &bank.ram, rom: &[] };
-    player.start(tables(), song).map_err(|fault| {
-        let (number, place) = (fault.number, fault.place);
-        Error::other(format!("M-101 does not admit this file: {number} at byte {place}"))
-    })?;
+    player.start(tables(), song).map_err(not_admitted)?;
     let (mut renders, mut echo) = (0, 0);
     let mut output = vec![0.0; 2 * FRAMES_A_RENDER as usize];
     while !player.over() || (player.engine.word() != 0 && echo < LONGEST_ECHO) {
