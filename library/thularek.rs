@@ -85,7 +85,12 @@ extern "C" {
     ) -> u32;
     fn thularek_song_test(song: *const u8, song_length: usize, place: *mut u32) -> u32;
     fn thularek_merge(
-        file: *const u8, file_length: usize, out: *mut u8, out_length: usize, size: *mut usize, place: *mut u32,
+        file: *const u8,
+        file_length: usize,
+        out: *mut u8,
+        out_length: usize,
+        size: *mut usize,
+        place: *mut u32,
     ) -> u32;
     fn thularek_wave_heading(frames: u64, out: *mut u8, out_length: usize) -> u32;
     fn thularek_wave_pour(numbers: *const f32, numbers_length: usize, out: *mut u8, out_length: usize) -> u32;

@@ -166,14 +166,21 @@ fn bank_trial(t: &mut Tally, c: &mut Chance, bank: &[u8], ram: &[i16]) {
     for _ in 0..c.from(1, 5) {
         let (channel, program) = (c.from(0, 2) as u8, if c.once_in(3) { c.from(0, 3) as u8 } else { row.1 as u8 });
         let (key, velocity) = (c.from(30, 100) as u8, c.from(1, 127) as u8);
-        same(t, "a program", state.program_change(channel, program), player.engine.program(channel, program).err().unwrap_or(0));
+        same(
+            t,
+            "a program",
+            state.program_change(channel, program),
+            player.engine.program(channel, program).err().unwrap_or(0),
+        );
         let number = t.timed("note_on", || state.note_on(bank, ram, &rom, channel, key, velocity));
         let answer = player.engine.note_on(tables(), &lent, channel, key, velocity);
         same(t, "a key", (number, state.count()), answer.map_or_else(|number| (number, 0), |count| (0, count)));
     }
-    heard(t, |out| (state.render(ram, &rom, out, FRAMES as u32), 0, 0), |out| {
-        (player.engine.render(tables(), &lent, FRAMES as u32, out).err().unwrap_or(0), 0, 0)
-    });
+    heard(
+        t,
+        |out| (state.render(ram, &rom, out, FRAMES as u32), 0, 0),
+        |out| (player.engine.render(tables(), &lent, FRAMES as u32, out).err().unwrap_or(0), 0, 0),
+    );
 }
 
 /// A short render by both, with what it answers.
@@ -242,7 +249,8 @@ fn tracks_trial(t: &mut Tally, c: &mut Chance, bells: &Bells, file: &[u8]) {
 /// A SoundFont file: where its parts lie, and its bank with its samples.
 fn font_trial(t: &mut Tally, c: &mut Chance, file: &[u8]) {
     let found = t.timed("font", || thularek::font(file));
-    let parts = riff_file::read(file).map(|parts| (parts.bank, parts.samples)).map_err(|fault| (fault.number, fault.place));
+    let parts =
+        riff_file::read(file).map(|parts| (parts.bank, parts.samples)).map_err(|fault| (fault.number, fault.place));
     same(t, "the parts of a font", found.clone(), parts);
     t.answered(Kind::Font, found.as_ref().err().map_or(0, |fault| fault.0));
     if let Ok((bank, samples)) = found {
@@ -335,6 +343,10 @@ fn report(t: &Tally, count: u64) {
         println!("{kind:?}: {trials} trials; answers: {}", answers.join(", "));
     }
     let (took, call, trial) = t.slowest;
-    println!("{} short renders sounded; the slowest call was a {call} of {} us, in trial {trial}", t.sounded, took.as_micros());
+    println!(
+        "{} short renders sounded; the slowest call was a {call} of {} us, in trial {trial}",
+        t.sounded,
+        took.as_micros()
+    );
     println!("{count} trials, the same by both");
 }
