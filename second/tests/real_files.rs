@@ -109,8 +109,17 @@ fn a_piece_whose_keys_stay_held_is_heard_for_20_seconds_more() {
 }
 
 #[test]
+fn a_piece_of_format_1_is_merged_first() {
+    let bell = ended(in_frames().then(5_000, &[0x90, 60, 100]).then(9_000, &[0x80, 60, 0]));
+    let mut tracks = bell.clone();
+    tracks[9] = 1;
+    assert_eq!(whole_piece(&tracks), whole_piece(&bell));
+}
+
+#[test]
 fn a_piece_that_the_player_does_not_start_has_no_case() {
     let bank = real::bank(&tower_file()).unwrap();
-    let complaint = real::song_case(&bank, b"MThd\0\0\0\x06\0\x01\0\x01\0\x60").unwrap_err().to_string();
-    assert_eq!(complaint, "M-101 does not admit this file: 10 at byte 8");
+    let complaint = |song: &[u8]| real::song_case(&bank, song).unwrap_err().to_string();
+    assert_eq!(complaint(b"MThd\0\0\0\x06\0\x02\0\x01\0\x60"), "M-101 does not admit this file: 10 at byte 8");
+    assert_eq!(complaint(b"MThd\0\0\0\x06\0\x01\0\x01\0\x60"), "M-101 does not admit this file: 9 at byte 14");
 }
