@@ -1,9 +1,9 @@
-// The counts that README.md states, from the tree.
+// The counts that README.md and docs/MAP.md state, from the tree.
 //
 //     rustc --edition 2021 -O -o target/counts tools/counts.rs && target/counts
 //
-// prints each as a line `KEY VALUE`. `--check README.md` complains, with status 1, where a sentence or a row of the
-// table of crates has another number or is not there; `--write README.md` puts the right numbers in.
+// prints each as a line `KEY VALUE`. `--check FILE..` complains, with status 1, where a sentence or a row of the table of
+// crates has another number, or stands in none of the files; `--write FILE..` puts the right numbers in.
 // the tools share these, and each asks for a part of them
 #[allow(dead_code)]
 mod antt;
@@ -17,8 +17,8 @@ use std::ops::Range;
 use std::process::ExitCode;
 use tree::Tree;
 
-/// The sentences of README.md that have counts, each in braces by its key. A line may end wherever a space stands. One
-/// whose count the tree no longer has is not asked for.
+/// The sentences that have counts, each in braces by its key. A line may end wherever a space stands. One whose count the
+/// tree no longer has is not asked for.
 const SENTENCES: [&str; 8] = [
     "The {crates} crates, each with its functions and the must-fail changes",
     "all {functions} functions of all crates",
@@ -202,48 +202,61 @@ fn row_of(text: &str, krate: &str) -> Option<[Place; 2]> {
     Some([cell(3, "functions")?, cell(2, "changes")?])
 }
 
-/// All places of a text where a count stands, and a complaint for each sentence and row that is missing or too many.
-fn places_in(text: &str, crates: &[String], counts: &Counts) -> (Vec<Place>, Vec<String>) {
-    let (mut places, mut complaints) = (Vec::new(), Vec::new());
-    for sentence in SENTENCES.into_iter().filter(|sentence| counts.has_all(sentence)) {
-        match sentence_in(text, sentence) {
-            Some(found) => places.extend(found),
-            None => complaints.push(format!("does not say '{sentence}'")),
-        }
-    }
-    for krate in crates {
-        match row_of(text, krate) {
-            Some(found) => places.extend(found),
-            None => complaints.push(format!("has no row for crate {krate}")),
-        }
-    }
-    for name in text.lines().filter_map(|line| line.strip_prefix("| `")?.split('`').next()) {
-        if !crates.iter().any(|krate| krate == name) {
-            complaints.push(format!("has a row for {name}, which is no crate"));
-        }
-    }
-    (places, complaints)
+/// All places of a text where a count stands.
+fn places_in(text: &str, crates: &[String], counts: &Counts) -> Vec<Place> {
+    let asked = SENTENCES.into_iter().filter(|sentence| counts.has_all(sentence));
+    let sentences = asked.filter_map(|sentence| sentence_in(text, sentence)).flatten();
+    sentences.chain(crates.iter().filter_map(|krate| row_of(text, krate)).flatten()).collect()
 }
 
-/// Complains of each wrong number of a file, or puts the right ones in; gives how many complaints there are.
-fn hold(file: &str, write: bool) -> usize {
-    let tree = Tree::load();
-    let counts = counts_of(&tree);
-    let mut text = read(file);
-    let (mut places, mut complaints) = places_in(&text, &tree.crates, &counts);
-    places.sort_by_key(|(range, _)| std::cmp::Reverse(range.start));
-    for (range, key) in places {
-        let right = counts.text(&key).unwrap_or_else(|| format!("no count '{key}'"));
-        if write {
-            text.replace_range(range, &right);
-        } else if text[range.clone()] != right {
-            complaints.push(format!("says {} for {key}; the tree has {right}", &text[range]));
+/// A complaint for each sentence and row that stands in no text, and for each row too many.
+fn missing_in(texts: &[String], crates: &[String], counts: &Counts) -> Vec<String> {
+    let mut complaints = Vec::new();
+    for sentence in SENTENCES.into_iter().filter(|sentence| counts.has_all(sentence)) {
+        if texts.iter().all(|text| sentence_in(text, sentence).is_none()) {
+            complaints.push(format!("no file says '{sentence}'"));
         }
     }
-    if write && std::fs::write(file, text).is_err() {
-        complaints.push("cannot be written".to_string());
+    for krate in crates.iter().filter(|krate| texts.iter().all(|text| row_of(text, krate).is_none())) {
+        complaints.push(format!("no file has a row for crate {krate}"));
     }
-    complaints.iter().for_each(|complaint| println!("counts: {file} {complaint}"));
+    let rows = texts.iter().flat_map(|text| text.lines()).filter_map(|line| line.strip_prefix("| `")?.split('`').next());
+    for name in rows.filter(|name| !crates.iter().any(|krate| krate == name)) {
+        complaints.push(format!("there is a row for {name}, which is no crate"));
+    }
+    complaints
+}
+
+/// A text with the right counts, and a complaint for each that was wrong.
+fn righted(file: &str, mut text: String, crates: &[String], counts: &Counts) -> (String, Vec<String>) {
+    let mut places = places_in(&text, crates, counts);
+    places.sort_by_key(|(range, _)| std::cmp::Reverse(range.start));
+    let mut complaints = Vec::new();
+    for (range, key) in places {
+        let right = counts.text(&key).unwrap_or_else(|| format!("no count '{key}'"));
+        if text[range.clone()] != right {
+            complaints.push(format!("{file} says {} for {key}; the tree has {right}", &text[range.clone()]));
+        }
+        text.replace_range(range, &right);
+    }
+    (text, complaints)
+}
+
+/// Complains of each wrong number of some files, or puts the right ones in; gives how many complaints there are.
+fn hold(files: &[&str], write: bool) -> usize {
+    let tree = Tree::load();
+    let counts = counts_of(&tree);
+    let texts: Vec<String> = files.iter().map(read).collect();
+    let mut complaints = missing_in(&texts, &tree.crates, &counts);
+    for (file, text) in files.iter().zip(texts) {
+        let (right, wrong) = righted(file, text, &tree.crates, &counts);
+        match write {
+            false => complaints.extend(wrong),
+            true if std::fs::write(file, right).is_err() => complaints.push(format!("{file} cannot be written")),
+            true => {}
+        }
+    }
+    complaints.iter().for_each(|complaint| println!("counts: {complaint}"));
     complaints.len()
 }
 
@@ -257,10 +270,10 @@ fn main() -> ExitCode {
             counts.0.iter().for_each(|(key, value)| println!("{key} {value}"));
             0
         }
-        ["--check", file] => hold(file, false),
-        ["--write", file] => hold(file, true),
+        ["--check", ref files @ ..] if !files.is_empty() => hold(files, false),
+        ["--write", ref files @ ..] if !files.is_empty() => hold(files, true),
         _ => {
-            eprintln!("usage: counts [--check FILE | --write FILE], in the repository's root");
+            eprintln!("usage: counts [--check FILE.. | --write FILE..], in the repository's root");
             return ExitCode::from(2);
         }
     };
