@@ -31,7 +31,7 @@ use Rattle.promises.proofs.Cuts.{done-frames, done-numbers}
 use Rattle.promises.proofs.Demand1.{render-numbers}
 use Rattle.promises.proofs.Output.{done-state}
 use Rattle.recitals.specs.Turns.{Turn, Start, Stop, Play, Step, Direct, nextTurn, framesOfTurn, numbersOfTurn, appliedIn, refusedIn, writtenIn, runTurns, numbersTurns, appliedTurns, refusedTurns}
-use Rattle.recitals.specs.Parts.{Parts, no-part, stands, part, alone, event, PartsDone, AnyCutOfPlay}
+use Rattle.recitals.specs.Parts.{Parts, no-part, stands, part, alone, stepped, PartsDone, AnyCutOfPlay}
 use Rattle.recitals.proofs.Clocks.{Clear, of-clear}
 use Rattle.recitals.proofs.Acts.{applying-acts, frames-go}
 use Rattle.recitals.proofs.Turns.{play-done, play-refused, play-number, render-number, done-clear, play-frames, play-numbers, step-none, step-one}
@@ -326,7 +326,7 @@ module _ (song bank : List ℕ) (ram rom : List ℤ) where
         behind n (together ns) (Direct (Render (ahead e n) ram rom out)) xs p same (own-numbers n out e (r .1) ok ∙ sym (quiet-numbers n p bounded quiet))
             (sym (ap (λ (u : Tally). u .applied) frames ∙ forward-none-counted n p .0)) (sym (ap (λ (u : Tally). u .refused) frames ∙ forward-none-counted n p .1)) (g .1),
       )
-  any-parts (x ∷ xs) ns p (event due some q) h c k =
+  any-parts (x ∷ xs) ns p (stepped due some q) h c k =
       let a = applying-acts ram rom song bank (opened p) in
       let s : nextTurn (Step song bank ram rom) p ≡ applying song bank ram rom (opened p) .player = ap (λ (x : Stepped). x .player) (step-one song bank ram rom p (due-open p due)) in
       let t : nextTurn (Step song bank ram rom) p .engine .clock < 4294967296 = rw (ap (λ (u : Player). u .engine .clock) s ∙ a .clock) h in

@@ -28,7 +28,7 @@ pub data Parts (song bank : List ℕ) (ram rom : List ℤ) : List Turn → List 
       → p .began < 4294967296 → p .event .frame < 4294967296
       → Parts song bank ram rom xs ns (nextTurn (Direct (Render (ahead (p .engine) n) ram rom out)) p)
       → Parts song bank ram rom (Direct (Render (ahead (p .engine) n) ram rom out) ∷ xs) (n ∷ ns) p
-  event : {xs : List Turn} {ns : List ℕ} {p : Player} → isDue p ≡ true → 0 < together ns → Parts song bank ram rom xs ns (nextTurn (Step song bank ram rom) p)
+  stepped : {xs : List Turn} {ns : List ℕ} {p : Player} → isDue p ≡ true → 0 < together ns → Parts song bank ram rom xs ns (nextTurn (Step song bank ram rom) p)
       → Parts song bank ram rom (Step song bank ram rom ∷ xs) ns p
 
 -- every one of them is done
@@ -38,7 +38,7 @@ PartsDone (stands x h k q) = PartsDone q
 PartsDone {song} {bank} {ram} {rom} {p = p} (part n out room q) =
     (answered song bank ram rom (ahead (p .engine) n) (length out) p .number ≡ 0) × PartsDone q
 PartsDone {ram = ram} {rom} {p = p} (alone n most out some near room b f q) = (does (Render (ahead (p .engine) n) ram rom out) (p .engine) .status ≡ 0) × PartsDone q
-PartsDone (event due some q) = PartsDone q
+PartsDone (stepped due some q) = PartsDone q
 
 -- what they are to the whole render: the player after them is its player; their numbers, one behind the other, are its numbers; and
 -- the events applied, and the refused ones among them, add up to its counts
