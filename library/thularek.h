@@ -7,8 +7,8 @@
  *
  * WHAT A CALL ANSWERS. A call that acts returns its number: 0 (THULAREK_DONE), or why it was refused.
  * thularek_message says a number in words. A refusal changes nothing but the four numbers that the
- * questions count, refused and place tell of, and writes no output. No call needs a valid bank, song
- * or argument: each tests all that it is given.
+ * questions count, refused and place tell of, and writes no output (thularek_song_step alone goes on in
+ * its song). No call needs a valid bank, song or argument: each tests all that it is given.
  *
  * WHAT YOU GUARANTEE. The code behind these calls is proved; what it is handed is up to you.
  *  - Pointers: a pointer and the length behind it are memory that stays as it is through the call.
@@ -152,6 +152,14 @@ uint32_t thularek_song_render(thularek *state, const uint8_t *song, size_t song_
                               size_t bank_length, const int16_t *ram, size_t ram_length, const int16_t *rom,
                               size_t rom_length, float *out, size_t out_length, uint32_t to);
 
+/* A song event by event, for a host that wants to know of each event whether it was refused, and why:
+ * thularek_song_gap is how far the next event is, thularek_render makes the frames up to it, and this lets
+ * the event act, now, due or not. Its number is 0, or 1, 2, 3, 4, 8: then the engine is as it was, and the
+ * song goes on behind the event. The count is 1; where no event is left it is 0, and nothing changes. */
+uint32_t thularek_song_step(thularek *state, const uint8_t *song, size_t song_length, const uint8_t *bank,
+                            size_t bank_length, const int16_t *ram, size_t ram_length, const int16_t *rom,
+                            size_t rom_length);
+
 /* ---- Questions. They change nothing, not even the last call's numbers. */
 
 /* The last call's count, the refused events among those it counts, and the place of a song's fault. */
@@ -164,6 +172,19 @@ uint32_t thularek_clock(const thularek *state);
 
 /* 1 where no event of a song is left, or none was started, else 0. */
 uint32_t thularek_song_is_over(const thularek *state);
+
+/* The frames up to the song's next event, at most `most`: 0 where it is due, `most` where none is left. */
+uint32_t thularek_song_gap(const thularek *state, uint32_t most);
+
+/* The next event, which the next step lets act: its three bytes, status + 256 * first + 65,536 * second,
+ * and its frame, counted from the song's start. 0 for both where none is left. */
+uint32_t thularek_song_next(const thularek *state);
+uint32_t thularek_song_frame(const thularek *state);
+
+/* What a note-on of a channel, 0 to 15, looks for in a bank: a program, and the bank number that the last
+ * program change took, or 128 on channel 9. 65,535 for both past channel 15. */
+uint32_t thularek_channel_program(const thularek *state, uint8_t channel);
+uint32_t thularek_channel_bank(const thularek *state, uint8_t channel);
 
 /* 1 where no voice sounds, else 0. */
 uint32_t thularek_is_silent(const thularek *state);

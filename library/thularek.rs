@@ -54,11 +54,27 @@ extern "C" {
         out_length: usize,
         to: u32,
     ) -> u32;
+    fn thularek_song_step(
+        state: *mut Thularek,
+        song: *const u8,
+        song_length: usize,
+        bank: *const u8,
+        bank_length: usize,
+        ram: *const i16,
+        ram_length: usize,
+        rom: *const i16,
+        rom_length: usize,
+    ) -> u32;
     fn thularek_count(state: *const Thularek) -> u32;
     fn thularek_refused(state: *const Thularek) -> u32;
     fn thularek_place(state: *const Thularek) -> u32;
     fn thularek_clock(state: *const Thularek) -> u32;
     fn thularek_song_is_over(state: *const Thularek) -> u32;
+    fn thularek_song_gap(state: *const Thularek, most: u32) -> u32;
+    fn thularek_song_next(state: *const Thularek) -> u32;
+    fn thularek_song_frame(state: *const Thularek) -> u32;
+    fn thularek_channel_program(state: *const Thularek, channel: u8) -> u32;
+    fn thularek_channel_bank(state: *const Thularek, channel: u8) -> u32;
     fn thularek_is_silent(state: *const Thularek) -> u32;
     fn thularek_voice_count(state: *const Thularek) -> u32;
     fn thularek_held_count(state: *const Thularek) -> u32;
@@ -166,6 +182,12 @@ impl Thularek {
         }
     }
 
+    /// The event that comes next acts now: its number.
+    pub fn song_step(&mut self, song: &[u8], bank: &[u8], ram: &[i16], rom: &[i16]) -> u32 {
+        let (s, b, r, o) = (song.as_ptr(), bank.as_ptr(), ram.as_ptr(), rom.as_ptr());
+        unsafe { thularek_song_step(self, s, song.len(), b, bank.len(), r, ram.len(), o, rom.len()) }
+    }
+
     pub fn count(&self) -> u32 {
         unsafe { thularek_count(self) }
     }
@@ -184,6 +206,26 @@ impl Thularek {
 
     pub fn song_is_over(&self) -> bool {
         unsafe { thularek_song_is_over(self) != 0 }
+    }
+
+    pub fn song_gap(&self, most: u32) -> u32 {
+        unsafe { thularek_song_gap(self, most) }
+    }
+
+    pub fn song_next(&self) -> u32 {
+        unsafe { thularek_song_next(self) }
+    }
+
+    pub fn song_frame(&self) -> u32 {
+        unsafe { thularek_song_frame(self) }
+    }
+
+    pub fn channel_program(&self, channel: u8) -> u32 {
+        unsafe { thularek_channel_program(self, channel) }
+    }
+
+    pub fn channel_bank(&self, channel: u8) -> u32 {
+        unsafe { thularek_channel_bank(self, channel) }
     }
 
     pub fn is_silent(&self) -> bool {

@@ -22,7 +22,7 @@ use std::path::PathBuf;
 use std::process::ExitCode;
 use steps::{answer_type, exit_of_a_reader, exit_of_a_writer, walk_of_a_reader, walk_of_a_writer, LAWS};
 
-const MODULES: [&str; 4] = ["messages", "outputs", "pieces", "questions"];
+const MODULES: [&str; 5] = ["messages", "outputs", "pieces", "questions", "steps"];
 
 const HEAD: &str = "use mathlib.Core.Path.{_≡_, refl, ap}
 use Prim.Native.Nat.{ℕ, _<_, _^_}

@@ -90,10 +90,15 @@ static lent from_files(const char *bank_name, const char *song_name) {
 
 /* ---- Every call on one state */
 
+static int is_step(uint32_t which) { return which % 50 && which % 8 == 1; }
+
 static uint32_t act(thularek *s, const lent *l, uint32_t which) {
     uint8_t channel = (uint8_t)chance_below(16), first = (uint8_t)chance_below(128), second = (uint8_t)chance_below(128);
     uint32_t to = thularek_clock(s) + chance_below(600);
     if (which % 50 == 0) return thularek_init(s);
+    if (is_step(which))
+        return thularek_song_step(s, l->song, l->song_length, l->bank, l->bank_length, l->ram, l->ram_length, l->rom,
+                                  l->rom_length);
     switch (which % 9) {
     case 0: return thularek_note_off(s, channel, first);
     case 1: return thularek_control_change(s, channel, first, second);
@@ -111,6 +116,18 @@ static uint32_t act(thularek *s, const lent *l, uint32_t which) {
     }
 }
 
+/* What is asked of a song's next event, and of a channel. */
+static void ask_song(const thularek *s) {
+    uint32_t most = chance(), gap = thularek_song_gap(s, most);
+    uint8_t channel = (uint8_t)chance_below(16);
+    uint32_t program = thularek_channel_program(s, channel), bank = thularek_channel_bank(s, channel);
+    CHECK(gap <= most);
+    CHECK(!thularek_song_is_over(s) || (gap == most && thularek_song_next(s) == 0 && thularek_song_frame(s) == 0));
+    CHECK(thularek_song_next(s) <= 0xffffff);
+    CHECK(channel < THULAREK_CHANNELS ? program <= 255 && bank <= 255 : program == 65535 && bank == 65535);
+    CHECK(channel != 9 || bank == 128);
+}
+
 static void ask(const thularek *s) {
     thularek before = *s;
     uint32_t last[4]; /* number, count, refused and place of the last call */
@@ -123,6 +140,7 @@ static void ask(const thularek *s) {
     CHECK(voices <= THULAREK_VOICES && thularek_held_count(s) <= voices);
     CHECK(thularek_is_silent(s) == (voices == 0));
     CHECK(thularek_song_is_over(s) <= 1);
+    ask_song(s);
     CHECK(thularek_count(s) == last[1] && thularek_refused(s) == last[2] && thularek_place(s) == last[3]);
     CHECK(memcmp(&before, s, sizeof before) == 0);
 }
@@ -132,26 +150,32 @@ static const struct { uint16_t at, size; } numbers[] = {
 #include "layout.inc"
 };
 
-/* Whether all numbers are the same, but for so many at the front, and the room behind them too. */
-static int same(const thularek *one, const thularek *other, size_t but) {
-    size_t count = sizeof numbers / sizeof *numbers, i = but;
+/* A song's numbers: those of its cursor and of its next event, when it began, and whether it has ended. They are the last ones. */
+enum { SONG = 12 };
+
+/* Whether all numbers are the same, but for so many at the front and at the back, and the room behind them too. */
+static int same(const thularek *one, const thularek *other, size_t but, size_t back) {
+    size_t count = sizeof numbers / sizeof *numbers - back, i = but;
     const char *a = (const char *)one, *b = (const char *)other;
     while (i < count && !memcmp(a + numbers[i].at, b + numbers[i].at, numbers[i].size)) i++;
     return i == count && !memcmp(a + THULAREK_STATE_USED, b + THULAREK_STATE_USED, sizeof *one - THULAREK_STATE_USED);
 }
 
 /* One call by chance on a state and on a copy of it: both get the same number, which is the first in the state, and are the same
- * after it. A refusal changes the last call's four numbers alone. */
+ * after it. A refusal changes the last call's four numbers alone; a refused event is behind its song, too. */
 static void act_twice(thularek *s, thularek *copy, const lent *l, int settled) {
     thularek before = *s;
+    uint32_t which = chance(), first;
     uint64_t drawn = chance_at;
-    uint32_t number = act(s, l, chance()), first;
+    uint32_t number = act(s, l, which);
     chance_at = drawn;
-    CHECK(act(copy, l, chance()) == number);
+    CHECK(act(copy, l, which) == number);
     CHECK(number <= THULAREK_SONG_TOO_LATE);
     CHECK(memcpy(&first, s, sizeof first) && first == number);
-    CHECK(same(s, copy, 0));
-    CHECK(number == THULAREK_DONE || !settled || same(s, &before, 4));
+    CHECK(same(s, copy, 0, 0));
+    CHECK(number == THULAREK_DONE || !settled || same(s, &before, 4, is_step(which) ? SONG : 0));
+    CHECK(!is_step(which) || thularek_count(s) == !thularek_song_is_over(&before));
+    CHECK(!is_step(which) || thularek_refused(s) == (number != THULAREK_DONE));
 }
 
 /* Each state goes through calls by chance: any bytes, a fresh one with some bytes changed, or a fresh one. The first call settles
@@ -193,6 +217,8 @@ static void nothing_lent(void) {
     CHECK(thularek_render(&state, NULL, 0, NULL, 0, NULL, 0, 1) == THULAREK_OUTPUT_TOO_SHORT);
     CHECK(thularek_song_start(&state, NULL, 0) == THULAREK_SONG_MALFORMED);
     CHECK(thularek_song_render(&state, NULL, 0, NULL, 0, NULL, 0, NULL, 0, NULL, 0, 0) == THULAREK_DONE);
+    CHECK(thularek_song_step(&state, NULL, 0, NULL, 0, NULL, 0, NULL, 0) == THULAREK_DONE);
+    CHECK(thularek_count(&state) == 0);
 }
 
 static void no_files(void) {
@@ -250,6 +276,35 @@ static void outputs(const lent *l) {
     }
 }
 
+/* ---- A song event by event is the song: the same states, the same output, and as many events */
+
+static void stepped(const lent *l) {
+    thularek whole, parts;
+    float *out = guarded(2 * 1000 * sizeof(float));
+    thularek_init(&whole);
+    CHECK(thularek_song_start(&whole, l->song, l->song_length) == THULAREK_DONE);
+    parts = whole;
+    for (uint32_t to = 1000; to <= 200000; to += 1000) {
+        uint32_t applied = 0, refused = 0, at = 0;
+        CHECK(thularek_song_render(&whole, l->song, l->song_length, l->bank, l->bank_length, l->ram, l->ram_length, l->rom,
+                                   l->rom_length, l->out, l->out_length, to) == THULAREK_DONE);
+        while (at < 1000) {
+            uint32_t gap = thularek_song_gap(&parts, 1000 - at);
+            CHECK(thularek_render(&parts, l->ram, l->ram_length, l->rom, l->rom_length, out + 2 * at, 2 * (1000 - (size_t)at),
+                                  thularek_clock(&parts) + gap) == THULAREK_DONE);
+            at += gap;
+            if (at == 1000) break;
+            CHECK(thularek_song_frame(&parts) <= thularek_clock(&parts));
+            refused += thularek_song_step(&parts, l->song, l->song_length, l->bank, l->bank_length, l->ram, l->ram_length,
+                                          l->rom, l->rom_length) != THULAREK_DONE;
+            applied++;
+        }
+        CHECK(applied == thularek_count(&whole) && refused == thularek_refused(&whole));
+        CHECK(same(&parts, &whole, 4, 0));
+        CHECK(memcmp(out, l->out, 2 * 1000 * sizeof(float)) == 0);
+    }
+}
+
 static void messages(void) {
     static const char *unknown = "no such number";
     for (uint32_t number = 0; number < 300; number++) {
@@ -268,6 +323,7 @@ int main(int count, char **words) {
     nothing_lent();
     no_files();
     outputs(&l);
+    stepped(&l);
     room_is_left(&l);
     any_file(l.bank, l.bank_length < 65536 ? l.bank_length : 65536, states / 2);
     any_file(l.song, l.song_length < 65536 ? l.song_length : 65536, states / 2);

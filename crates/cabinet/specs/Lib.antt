@@ -1,4 +1,5 @@
 pub mod Twins
 pub mod Keeping
+pub mod Steps
 pub mod Questions
 pub mod Files

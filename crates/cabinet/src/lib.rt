@@ -6,6 +6,7 @@ mod messages;
 mod outputs;
 mod pieces;
 mod questions;
+mod steps;
 mod twins;
 
 pub use files::thularek_admit;
@@ -39,6 +40,12 @@ pub use questions::thularek_song_is_over;
 pub use questions::thularek_voice_count;
 use smf::Cursor;
 use smf::Event;
+pub use steps::thularek_channel_bank;
+pub use steps::thularek_channel_program;
+pub use steps::thularek_song_frame;
+pub use steps::thularek_song_gap;
+pub use steps::thularek_song_next;
+pub use steps::thularek_song_step;
 use voice::Channel;
 
 // A stage: 0 delay (t: frames left), 1 attack, 2 hold, 3 decay, 4 sustain, any other release.

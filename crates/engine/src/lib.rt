@@ -1,6 +1,7 @@
 // The engine: the calls that a host makes. The state and the events stand in crates of their own, and are passed on here.
 mod banks;
 mod mixer;
+mod presets;
 // its tests and its frames are the player's too
 pub mod rendering;
 mod sums;
@@ -12,6 +13,8 @@ pub use events::note_off;
 pub use events::note_on;
 pub use events::pitch_bend;
 pub use events::program_change;
+pub use presets::channel_bank;
+pub use presets::channel_program;
 pub use rendering::render;
 pub use state::Answered;
 pub use state::Engine;

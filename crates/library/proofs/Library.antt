@@ -3,20 +3,22 @@ use mathlib.Core.List.{List, [], _∷_}
 use mathlib.Core.Path.{_≡_, refl, ap, sym, subst, _∙_}
 use lib.Ieee.{Float}
 use lib.ListN.{length}
-use Rattle.smf.specs.Songs.{testOf}
+use Rattle.smf.specs.Songs.{testOf, handedOf}
 use Rattle.player.specs.declared.Player.{Player}
 use Rattle.player.specs.Cues.{idle, withEngine}
 use Rattle.player.specs.Pauses.{started, stopped}
 use Rattle.player.specs.Playing.{answered}
+use Rattle.player.specs.Stepping.{stepTaken}
 use Rattle.cabinet.specs.declared.Flat.{Flat}
 use Rattle.cabinet.specs.Keeping.{playerIn, engineIn}
 use Rattle.cabinet.proofs.TwinsLaws.{player-back}
 use Rattle.promises.specs.Calls.{Call, NoteOn, NoteOff, Control, Program, Bend, Render, Ask, does, next}
-use Rattle.recitals.specs.Turns.{Turn, Start, Stop, Play, Direct, nextTurn, writtenIn, runTurns, numbersTurns, framesTurns}
+use Rattle.recitals.specs.Turns.{Turn, Start, Stop, Play, Step, Direct, nextTurn, writtenIn, runTurns, numbersTurns, framesTurns}
+use Rattle.recitals.proofs.Acts.{cued-engine}
 use Rattle.recitals.proofs.Turns.{keeps-promises}
-use Rattle.recitals.proofs.Borders.{start-is-tested, play-is-tested}
+use Rattle.recitals.proofs.Borders.{start-is-tested, play-is-tested, step-is-tested}
 use Rattle.promises.proofs.Demand1.{changes-nothing}
-use Rattle.library.specs.Library.{keptCall, keptTurn, keptRun, keptOutputs, turnOutputs, SameRun, SameRunFresh, SameOutputs, RefusedCallsKeep, LibraryKeepsPromises}
+use Rattle.library.specs.Library.{keptCall, keptTurn, keptRun, keptOutputs, turnOutputs, SameRun, SameRunFresh, SameOutputs, afterRefusal, RefusedCallsKeep, LibraryKeepsPromises}
 
 -- a direct call leaves the player with the engine after it
 call-back : (x : Call) (s : Flat) → playerIn (keptCall x s) ≡ withEngine (playerIn s) (next x (engineIn s))
@@ -33,6 +35,7 @@ turn-back : (x : Turn) (s : Flat) → playerIn (keptTurn x s) ≡ nextTurn x (pl
 turn-back (Start song) s = player-back (started song (playerIn s) .player)
 turn-back Stop s = player-back (stopped (playerIn s))
 turn-back (Play song bank ram rom to out) s = player-back (answered song bank ram rom to (length out) (playerIn s) .player)
+turn-back (Step song bank ram rom) s = player-back (stepTaken song bank ram rom (playerIn s) .player)
 turn-back (Direct x) s = call-back x s
 
 pub same-run : SameRun
@@ -53,20 +56,35 @@ same-outputs (x ∷ xs) s =
 direct-keep : (x : Call) (s : Flat) → (does x (engineIn s) .status ≡ 0 → ⊥) → withEngine (playerIn s) (next x (engineIn s)) ≡ playerIn s
 direct-keep x s h = ap (withEngine (playerIn s)) (changes-nothing x (engineIn s) h .state)
 
-pub refused-calls-keep : RefusedCallsKeep
-refused-calls-keep (Start song) s h =
+-- a refused turn leaves the player as it was, or behind its event
+refused-player : (x : Turn) (s : Flat) → (keptTurn x s .number ≡ 0 → ⊥) → playerIn (keptTurn x s) ≡ afterRefusal x (playerIn s)
+refused-player (Start song) s h =
     let t = start-is-tested song (playerIn s) in
     turn-back (Start song) s ∙ t .refused (λ (e : testOf song .number ≡ 0). h (t .number ∙ e))
-refused-calls-keep Stop s h = absurd (h refl)
-refused-calls-keep (Play song bank ram rom to out) s h =
+refused-player Stop s h = absurd (h refl)
+refused-player (Play song bank ram rom to out) s h =
     turn-back (Play song bank ram rom to out) s ∙ play-is-tested song bank ram rom to out (playerIn s) .refusal h .player
-refused-calls-keep (Direct (NoteOn b ram rom c k v)) s h = call-back (NoteOn b ram rom c k v) s ∙ direct-keep (NoteOn b ram rom c k v) s h
-refused-calls-keep (Direct (NoteOff c k)) s h = call-back (NoteOff c k) s ∙ direct-keep (NoteOff c k) s h
-refused-calls-keep (Direct (Control c n v)) s h = call-back (Control c n v) s ∙ direct-keep (Control c n v) s h
-refused-calls-keep (Direct (Program c p)) s h = call-back (Program c p) s ∙ direct-keep (Program c p) s h
-refused-calls-keep (Direct (Bend c b)) s h = call-back (Bend c b) s ∙ direct-keep (Bend c b) s h
-refused-calls-keep (Direct (Render to ram rom out)) s h = call-back (Render to ram rom out) s ∙ direct-keep (Render to ram rom out) s h
-refused-calls-keep (Direct (Ask i)) s h = refl
+refused-player (Step song bank ram rom) s h = turn-back (Step song bank ram rom) s ∙ step-is-tested song bank ram rom (playerIn s) .refused h
+refused-player (Direct (NoteOn b ram rom c k v)) s h = call-back (NoteOn b ram rom c k v) s ∙ direct-keep (NoteOn b ram rom c k v) s h
+refused-player (Direct (NoteOff c k)) s h = call-back (NoteOff c k) s ∙ direct-keep (NoteOff c k) s h
+refused-player (Direct (Control c n v)) s h = call-back (Control c n v) s ∙ direct-keep (Control c n v) s h
+refused-player (Direct (Program c p)) s h = call-back (Program c p) s ∙ direct-keep (Program c p) s h
+refused-player (Direct (Bend c b)) s h = call-back (Bend c b) s ∙ direct-keep (Bend c b) s h
+refused-player (Direct (Render to ram rom out)) s h = call-back (Render to ram rom out) s ∙ direct-keep (Render to ram rom out) s h
+refused-player (Direct (Ask i)) s h = refl
+
+-- with the engine that it had
+same-engine : (x : Turn) (p : Player) → afterRefusal x p .engine ≡ p .engine
+same-engine (Start song) p = refl
+same-engine Stop p = refl
+same-engine (Play song bank ram rom to out) p = refl
+same-engine (Step song bank ram rom) p = cued-engine p (handedOf song (p .cursor))
+same-engine (Direct x) p = refl
+
+pub refused-calls-keep : RefusedCallsKeep
+refused-calls-keep x s h =
+    let e = refused-player x s h in
+    (e, ap (λ (p : Player). p .engine) e ∙ same-engine x (playerIn s))
 
 pub library-keeps-promises : LibraryKeepsPromises
 library-keeps-promises P h ts k =

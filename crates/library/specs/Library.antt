@@ -4,17 +4,20 @@ use mathlib.Core.List.{List, [], _∷_}
 use mathlib.Core.Path.{_≡_}
 use lib.Ieee.{Float}
 use lib.ListN.{length}
+use Rattle.smf.specs.Songs.{handedOf}
 use Rattle.state.specs.declared.Engine.{Engine}
 use Rattle.state.specs.Quiet.{fresh}
 use Rattle.player.specs.declared.Player.{Player}
-use Rattle.player.specs.Cues.{idle}
+use Rattle.player.specs.Cues.{idle, cued}
 use Rattle.player.specs.Pauses.{started, stopped}
 use Rattle.player.specs.Playing.{answered}
+use Rattle.player.specs.Stepping.{stepTaken}
 use Rattle.cabinet.specs.declared.Flat.{Flat}
 use Rattle.cabinet.specs.Keeping.{playerIn, engineIn, kept, keptAnswer, keptStart, keptPlay}
+use Rattle.cabinet.specs.Steps.{keptStep}
 use Rattle.promises.specs.Calls.{Call, NoteOn, NoteOff, Control, Program, Bend, Render, Ask, does, run, framesRun}
 use Rattle.promises.specs.Cuts.{numbersOf}
-use Rattle.recitals.specs.Turns.{Turn, Start, Stop, Play, Direct, nextTurn, writtenIn, runTurns, numbersTurns, framesTurns, InClocks}
+use Rattle.recitals.specs.Turns.{Turn, Start, Stop, Play, Step, Direct, nextTurn, writtenIn, runTurns, numbersTurns, framesTurns, InClocks}
 
 -- C's memory after init
 abbrev pub keptFresh : Flat
@@ -30,11 +33,12 @@ keptCall (Bend c b) s = keptAnswer (does (Bend c b) (engineIn s)) s
 keptCall (Render to ram rom out) s = keptAnswer (does (Render to ram rom out) (engineIn s)) s
 keptCall (Ask i) s = s
 
--- C's memory after a turn, as the contracts of song_start, song_stop and song_render say
+-- C's memory after a turn, as the contracts of song_start, song_stop, song_render and song_step say
 abbrev pub keptTurn : Turn → Flat → Flat
 keptTurn (Start song) s = keptStart (started song (playerIn s))
 keptTurn Stop s = kept 0 0 0 0 (stopped (playerIn s))
 keptTurn (Play song bank ram rom to out) s = keptPlay (answered song bank ram rom to (length out) (playerIn s))
+keptTurn (Step song bank ram rom) s = keptStep (stepTaken song bank ram rom (playerIn s))
 keptTurn (Direct x) s = keptCall x s
 
 -- C's memory after a run
@@ -64,9 +68,19 @@ SameRunFresh = (xs : List Turn) → playerIn (keptRun xs keptFresh) ≡ runTurns
 abbrev pub SameOutputs : Type 0
 SameOutputs = (xs : List Turn) (s : Flat) → keptOutputs xs s ≡ turnOutputs xs (playerIn s)
 
--- a refused call leaves the player in C's memory as it was
+-- the player behind a refused turn: as it was; but a song goes on behind an event that was refused to a step
+abbrev pub afterRefusal : Turn → Player → Player
+afterRefusal (Start song) p = p
+afterRefusal Stop p = p
+afterRefusal (Play song bank ram rom to out) p = p
+afterRefusal (Step song bank ram rom) p = cued p (handedOf song (p .cursor))
+afterRefusal (Direct x) p = p
+
+-- a refused call leaves that player in C's memory, and the engine as it was
 abbrev pub RefusedCallsKeep : Type 0
-RefusedCallsKeep = (x : Turn) (s : Flat) → (keptTurn x s .number ≡ 0 → ⊥) → playerIn (keptTurn x s) ≡ playerIn s
+RefusedCallsKeep =
+    (x : Turn) (s : Flat) → (keptTurn x s .number ≡ 0 → ⊥)
+    → (playerIn (keptTurn x s) ≡ afterRefusal x (playerIn s)) × (engineIn (keptTurn x s) ≡ engineIn s)
 
 -- so whatever holds of state, numbers and frames after every run of the engine's calls holds after every run of C's calls from init on
 abbrev pub LibraryKeepsPromises : Type 1

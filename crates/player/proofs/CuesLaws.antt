@@ -15,8 +15,7 @@ use Rattle.smf.specs.declared.Offer.the-variants.{End, Given}
 use Rattle.smf.specs.Track.{edgeOf}
 use Rattle.smf.proofs.TrackLaws.{LedTo, edge-in, further-edge}
 use Rattle.player.specs.declared.Player.{Player}
-use Rattle.player.specs.Cues.{coming, since, isDue}
-use Rattle.player.specs.Internal.Cues.{waitOf, gapOf}
+use Rattle.player.specs.Cues.{coming, since, isDue, waitOf, gapOf}
 
 -- ---- how many are left
 

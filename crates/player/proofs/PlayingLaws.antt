@@ -23,8 +23,7 @@ use Rattle.engine.proofs.CutLaws.{played-cut, output-cut, played-clock, output-
 use Rattle.player.specs.declared.Player.{Player}
 use Rattle.player.specs.declared.Tally.{Tally}
 use Rattle.player.specs.Acting.{heeded}
-use Rattle.player.specs.Cues.{withEngine, since, isDue}
-use Rattle.player.specs.Internal.Cues.{gapOf}
+use Rattle.player.specs.Cues.{withEngine, since, isDue, gapOf}
 use Rattle.player.specs.Playing.{ticked, forward, applying, caughtUp, prepared, performed, numbers}
 use Rattle.player.proofs.CuesLaws.{left, left-most, Fewer, fewer, due-open, reached-due, Quiet, quiet-still, gap-most, gap-quiet, gap-less}
 

@@ -1,7 +1,7 @@
 -- The player: its state, the event that comes next, and when that is due.
-use mathlib.Core.Bool.{Bool, true, false, not, _&&_}
+use mathlib.Core.Bool.{Bool, true, false, cond, not, _&&_}
 use Prim.Native.Nat.{ℕ, _+_, _-_, _%_}
-use lib.Dec.{leb}
+use lib.Dec.{leb, ltb}
 use Rattle.smf.specs.declared.Event.{Event}
 use Rattle.smf.specs.declared.Handed.{Handed}
 use Rattle.smf.specs.declared.Cursor.{Cursor}
@@ -40,3 +40,11 @@ since p = (p .engine .clock + 4294967296 - p .began) % 4294967296
 -- an event comes, and its frame is reached, or was missed
 abbrev pub isDue : Player → Bool
 isDue p = not (p .ended) && leb (p .event .frame) (since p)
+
+-- the frames up to the next event, 0 where it is due
+abbrev pub waitOf : Player → ℕ
+waitOf p = p .event .frame - since p
+
+-- the same, at most so many; all of them where none comes
+unfoldable pub gapOf : Player → ℕ → ℕ
+gapOf p most = cond (p .ended) most (cond (ltb (waitOf p) most) (waitOf p) most)

@@ -2,5 +2,5 @@ pub mod Acting
 pub mod Cues
 pub mod Pauses
 pub mod Playing
+pub mod Stepping
 pub mod Asking
-pub mod Internal

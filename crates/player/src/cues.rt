@@ -1,7 +1,6 @@
 // The event that comes next: when it is due, and how the one behind it is read.
 ghost use mathlib.Core.Path.{_≡_};
-ghost use Rattle.player.specs.Cues.{noEvent, idle, withEngine, cued, since};
-ghost use Rattle.player.specs.Internal.Cues.{gapOf};
+ghost use Rattle.player.specs.Cues.{noEvent, idle, withEngine, cued, since, gapOf};
 use crate::Player;
 use engine::Engine;
 use smf::Cursor;

@@ -4,11 +4,13 @@ mod asking;
 mod cues;
 mod pauses;
 mod playing;
+mod stepping;
 
 pub use asking::held_count;
 pub use asking::is_over;
 pub use asking::is_silent;
 pub use cues::fresh;
+pub use cues::gap;
 pub use cues::with_engine;
 use engine::Engine;
 pub use pauses::start;
@@ -16,6 +18,9 @@ pub use pauses::stop;
 pub use playing::render;
 use smf::Cursor;
 use smf::Event;
+pub use stepping::next_event;
+pub use stepping::next_frame;
+pub use stepping::step;
 
 // Each value of this type is a legal state. A host's direct calls are the engine's, on `engine`.
 pub struct Player {
@@ -49,5 +54,12 @@ pub struct Answer {
     pub number: u8,
     pub applied: u32,
     pub refused: u32,
+    pub player: Player,
+}
+
+// What a step answers: the engine's number for the event (0: done), how many were applied (0 where none was left), and the player after.
+pub struct Stepped {
+    pub number: u8,
+    pub applied: u32,
     pub player: Player,
 }

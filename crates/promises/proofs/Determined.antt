@@ -21,9 +21,12 @@ use Rattle.riff.specs.declared.Found.{Found}
 use Rattle.riff.specs.Form.{findOf}
 use Rattle.player.specs.declared.Begun.{Begun}
 use Rattle.player.specs.declared.Player.{Player}
+use Rattle.player.specs.declared.Stepped.{Stepped}
 use Rattle.player.specs.Asking.{isSilent, heldCount}
-use Rattle.player.specs.Cues.{idle, withEngine}
+use Rattle.player.specs.Cues.{idle, withEngine, gapOf}
 use Rattle.player.specs.Pauses.{started, stopped}
+use Rattle.player.specs.Stepping.{stepTaken, nextEvent, nextFrame}
+use Rattle.engine.specs.Presets.{soughtProgram, soughtBank}
 use Rattle.smf.specs.declared.Handed.{Handed}
 use Rattle.smf.specs.declared.Opening.{Opening}
 use Rattle.smf.specs.declared.Tested.{Tested}
@@ -48,6 +51,12 @@ panel-determined slot e = equation Shown (StateBoard.ask slot e)
 
 pub voice-count-determined : D.VoiceCountDetermined
 voice-count-determined e = equation ℕ (StateBoard.voiceCount e)
+
+pub program-determined : D.ProgramDetermined
+program-determined channel e = equation ℕ (soughtProgram channel e)
+
+pub bank-determined : D.BankDetermined
+bank-determined channel e = equation ℕ (soughtBank channel e)
 
 pub fresh-determined : D.FreshDetermined
 fresh-determined = equation Engine StateQuiet.fresh
@@ -136,6 +145,18 @@ stop-determined p = equation Player (stopped p)
 
 pub play-determined : D.PlayDetermined
 play-determined p file bank ram rom out to x y h k = ends x y (h .0 ∙ sym (k .0)) (h .1 ∙ sym (k .1))
+
+pub step-determined : D.StepDetermined
+step-determined p file bank ram rom = equation Stepped (stepTaken file bank ram rom p)
+
+pub gap-determined : D.GapDetermined
+gap-determined p most = equation ℕ (gapOf p most)
+
+pub next-event-determined : D.NextEventDetermined
+next-event-determined p = equation ℕ (nextEvent p)
+
+pub next-frame-determined : D.NextFrameDetermined
+next-frame-determined p = equation ℕ (nextFrame p)
 
 pub over-determined : D.OverDetermined
 over-determined p = equation Bool (p .ended)

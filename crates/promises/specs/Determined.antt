@@ -34,10 +34,13 @@ use Rattle.riff.specs.Form.{findOf}
 use Rattle.player.specs.declared.Answer.{Answer}
 use Rattle.player.specs.declared.Begun.{Begun}
 use Rattle.player.specs.declared.Player.{Player}
+use Rattle.player.specs.declared.Stepped.{Stepped}
 use Rattle.player.specs.Asking.{isSilent, heldCount}
-use Rattle.player.specs.Cues.{idle, withEngine}
+use Rattle.player.specs.Cues.{idle, withEngine, gapOf}
 use Rattle.player.specs.Pauses.{started, stopped}
 use Rattle.player.specs.Playing.{answered, soundedInto}
+use Rattle.player.specs.Stepping.{stepTaken, nextEvent, nextFrame}
+use Rattle.engine.specs.Presets.{soughtProgram, soughtBank}
 use Rattle.wave.specs.declared.Heard.{Heard}
 use Rattle.wave.specs.Headings.{headingNumber, headed}
 use Rattle.wave.specs.Pours.{pourNumber, pouredInto}
@@ -83,6 +86,16 @@ PanelDetermined = (slot : ℕ) (e : Engine) → Settles Shown (λ r. r ≡ State
 -- contract of state::voice_count(e)
 abbrev pub VoiceCountDetermined : Type 0
 VoiceCountDetermined = (e : Engine) → Settles ℕ (λ r. r ≡ StateBoard.voiceCount e)
+
+-- the program that a note-on of a channel looks for
+-- contract of engine::channel_program(e, channel)
+abbrev pub ProgramDetermined : Type 0
+ProgramDetermined = (channel : ℕ) (e : Engine) → Settles ℕ (λ r. r ≡ soughtProgram channel e)
+
+-- and the bank number
+-- contract of engine::channel_bank(e, channel)
+abbrev pub BankDetermined : Type 0
+BankDetermined = (channel : ℕ) (e : Engine) → Settles ℕ (λ r. r ≡ soughtBank channel e)
 
 -- the state at the beginning
 -- contract of state::fresh()
@@ -243,6 +256,26 @@ abbrev pub PlayDetermined : Type 0
 PlayDetermined =
     (p : Player) (file bank : List ℕ) (ram rom : List ℤ) (out : List Float) (to : ℕ) → Settles (Ends Answer (List Float))
     (λ o. (o .answer ≡ answered file bank ram rom to (length out) p) × (o .output ≡ soundedInto file bank ram rom to out p))
+
+-- the number of the event that was stepped over, how many were applied, and the player behind it
+-- contract of player::step(p, file, bank, ram, rom)
+abbrev pub StepDetermined : Type 0
+StepDetermined = (p : Player) (file bank : List ℕ) (ram rom : List ℤ) → Settles Stepped (λ r. r ≡ stepTaken file bank ram rom p)
+
+-- how far the next event is
+-- contract of player::gap(p, most)
+abbrev pub GapDetermined : Type 0
+GapDetermined = (p : Player) (most : ℕ) → Settles ℕ (λ r. r ≡ gapOf p most)
+
+-- its bytes
+-- contract of player::next_event(p)
+abbrev pub NextEventDetermined : Type 0
+NextEventDetermined = (p : Player) → Settles ℕ (λ r. r ≡ nextEvent p)
+
+-- and its frame
+-- contract of player::next_frame(p)
+abbrev pub NextFrameDetermined : Type 0
+NextFrameDetermined = (p : Player) → Settles ℕ (λ r. r ≡ nextFrame p)
 
 -- whether no event is left
 -- contract of player::is_over(p)

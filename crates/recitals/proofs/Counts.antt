@@ -14,6 +14,7 @@ use Rattle.state.specs.declared.Answered.{Answered}
 use Rattle.state.specs.declared.Engine.{Engine}
 use Rattle.engine.specs.Rendering.{distance, renderNumber}
 use Rattle.player.specs.declared.Answer.{Answer}
+use Rattle.player.specs.declared.Stepped.{Stepped}
 use Rattle.player.specs.declared.Tally.{Tally}
 use Rattle.state.specs.Answers.{done}
 use Rattle.events.specs.Keys.{noteOff}
@@ -26,10 +27,10 @@ use Rattle.player.specs.Cues.{isDue}
 use Rattle.player.specs.Playing.{opened, answered, refusal, forward, applying, caughtUp, prepared, performed}
 use Rattle.promises.specs.Calls.{Call, NoteOn, NoteOff, Control, Program, Bend, does, next, run}
 use Rattle.promises.specs.Cuts.{ahead}
-use Rattle.recitals.specs.Turns.{Play, callOf, oneFrame, dueCalls, frameCalls, callsOf, refusedIn}
-use Rattle.recitals.specs.Counts.{refusedCalls, RefusedAreCounted}
+use Rattle.recitals.specs.Turns.{Play, Step, callOf, oneFrame, dueCalls, frameCalls, callsOf, refusedIn}
+use Rattle.recitals.specs.Counts.{refusedCalls, RefusedAreCounted, RefusedStepIsCounted}
 use Rattle.recitals.proofs.Clocks.{Clear}
-use Rattle.recitals.proofs.Turns.{done-clear, play-number, play-done, play-refused}
+use Rattle.recitals.proofs.Turns.{done-clear, play-number, play-done, play-refused, step-none, step-one}
 use Rattle.recitals.proofs.Acts.{applying-acts, caught-acts, frame-leads, frame-clear, frame-clock}
 
 -- calls one behind the other
@@ -134,3 +135,18 @@ refused-counted song bank ram rom to out p h = by (eqb (renderNumber to ram rom 
         let d = ap (λ (a : Answer). a .refused) (play-refused song bank ram rom to (length out) p z) in
         let c = ap (λ (m : ℕ). refusedCalls (calls m) (p .engine)) number ∙ ap (λ (b : Bool). refusedCalls (cond b (frameCalls song bank ram rom n (opened p)) []) (p .engine)) q in
         omega (arith, c, d)
+
+-- a step
+pub refused-step-counted : RefusedStepIsCounted
+unfolding refusedCalls
+refused-step-counted song bank ram rom p = by (p .ended) refl
+  where
+    calls : Bool → List Call
+    calls b = cond b [] (callOf bank ram rom (p .event))
+
+    by : (b : Bool) → p .ended ≡ b → refusedIn (Step song bank ram rom) p ≡ refusedCalls (callsOf (Step song bank ram rom) p) (p .engine)
+    by true e =
+        ap (λ (x : Stepped). refusal (x .number)) (step-none song bank ram rom p e) ∙ sym (ap (λ (b : Bool). refusedCalls (calls b) (p .engine)) e)
+    by false e =
+        ap (λ (x : Stepped). refusal (x .number)) (step-one song bank ram rom p e)
+        ∙ sym (event-refused ram rom bank (p .event) (p .engine)) ∙ sym (ap (λ (b : Bool). refusedCalls (calls b) (p .engine)) e)

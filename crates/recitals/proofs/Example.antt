@@ -7,29 +7,33 @@ use native.Mathlib.Omega.{arith}
 use lib.Dec.{eqb, lit<, lit≤}
 use lib.Ieee.{nan}
 use lib.ListN.{replicate}
+use Rattle.smf.specs.declared.Cursor.{Cursor}
 use Rattle.smf.specs.declared.Event.{Event}
+use Rattle.smf.specs.declared.Handed.{Handed}
+use Rattle.smf.specs.declared.Offer.the-variants.{Given}
 use Rattle.smf.specs.Track.{Events}
-use Rattle.smf.specs.Songs.{eventsOf}
+use Rattle.smf.specs.Songs.{eventsOf, openingOf, handedOf}
 use Rattle.state.specs.declared.Engine.{Engine}
 use Rattle.state.specs.Quiet.{fresh}
 use Rattle.player.specs.declared.Player.{Player}
-use Rattle.player.specs.Cues.{idle}
+use Rattle.player.specs.Cues.{idle, withEngine, coming, cued, since, isDue, gapOf}
 use Rattle.player.specs.Playing.{answered}
-use Rattle.player.specs.Pauses.{hushedTo, freshenedTo}
+use Rattle.player.specs.Pauses.{hushedTo, freshenedTo, readied}
+use Rattle.player.proofs.CuesLaws.{reached-due, gap-near}
 use Rattle.engine.specs.Rendering.{distance, renderNumber}
 use Rattle.recitals.proofs.Acts.{joined, hushes, freshens, run-append}
-use Rattle.recitals.proofs.Turns.{play-number}
-use Rattle.recitals.proofs.Borders.{start-is-tested}
+use Rattle.recitals.proofs.Turns.{play-number, step-clock}
+use Rattle.recitals.proofs.Borders.{start-is-tested, step-is-tested}
 use Rattle.recitals.proofs.Parts.{any-cut-of-play}
-use Rattle.recitals.proofs.Recital.{start-calls, song-is-played}
+use Rattle.recitals.proofs.Recital.{start-is, start-calls, song-is-played}
 use Rattle.recitals.proofs.Endings.{song-ends-in-silence}
-use Rattle.promises.specs.Calls.{Call, NoteOff, run}
+use Rattle.promises.specs.Calls.{Call, NoteOff, Render, run}
 use Rattle.promises.specs.Night.{longest, longestRelease, struckAfter}
 use Rattle.promises.proofs.Demand3Example.{bell, ram, struckBell, before, computed}
-use Rattle.recitals.specs.Turns.{Turn, Start, Play, nextTurn, hushCalls, freshCalls, callOf, oneFrame, runTurns}
+use Rattle.recitals.specs.Turns.{Turn, Start, Play, Step, Direct, nextTurn, hushCalls, freshCalls, callOf, oneFrame, runTurns}
 use Rattle.recitals.specs.Recital.{eventsAt, eventsBefore, callsFor, recital, Plays, rests, plays, Recited}
 use Rattle.promises.specs.Cuts.{ahead, together}
-use Rattle.recitals.specs.Parts.{no-part, part, SameAsOne}
+use Rattle.recitals.specs.Parts.{no-part, part, alone, stepped, SameAsOne}
 use Rattle.recitals.specs.Endings.{pedalAfter, Closed, PlayedOut}
 use Rattle.smf.specs.Head as SmfHead
 use Rattle.smf.specs.Items as SmfItems
@@ -196,6 +200,82 @@ unfolding together StateQuiet.fresh
 song-cut =
     any-cut-of-play song bell ram [] 4 (replicate 8 nan) begun (1 ∷ 3 ∷ []) (one ∷ three ∷ []) (subst (λ (e : Engine). e .clock < 4294967296) (sym begun-engine) (lit< tt))
     first-done (sym four) (part 1 (replicate 2 nan) (lit≤ tt) (part 3 (replicate 6 nan) (lit≤ tt) no-part)) .1
+
+-- ---- event by event
+
+-- what the file offers first, and behind that
+abbrev lent : Handed
+lent = handedOf song (openingOf song .cursor)
+
+abbrev strike : Event
+strike = record { frame = 0; status = 144; first = 60; second = 100 }
+
+abbrev leave : Event
+leave = record { frame = 3; status = 128; first = 60; second = 64 }
+
+strike-offered : lent .offer ≡ Given strike
+unfolding ArithBytes.u8At ArithHolds.between SmfHead.chunkEnd SmfHead.trackFrom SmfHead.headOf SmfItems.shortAt SmfItems.longAt SmfItems.spokenAt SmfItems.exclusiveAt SmfItems.metaOf SmfItems.metaAt SmfItems.itemAt SmfQuantities.twoAt SmfQuantities.threeAt SmfQuantities.fourAt SmfQuantities.quantityFrom SmfQuantities.quantityAt SmfSongs.eventsOf SmfSongs.openingOf SmfSongs.handedOf SmfTicks.frameOf SmfTrack.acted SmfTrack.obeyed SmfTrack.meetAt SmfTrack.songFrom SmfTrack.nextFrom
+strike-offered = refl
+
+leave-offered : handedOf song (lent .cursor) .offer ≡ Given leave
+unfolding ArithBytes.u8At ArithHolds.between SmfHead.chunkEnd SmfHead.trackFrom SmfHead.headOf SmfItems.shortAt SmfItems.longAt SmfItems.spokenAt SmfItems.exclusiveAt SmfItems.metaOf SmfItems.metaAt SmfItems.itemAt SmfQuantities.twoAt SmfQuantities.threeAt SmfQuantities.fourAt SmfQuantities.quantityFrom SmfQuantities.quantityAt SmfSongs.eventsOf SmfSongs.openingOf SmfSongs.handedOf SmfTicks.frameOf SmfTrack.acted SmfTrack.obeyed SmfTrack.meetAt SmfTrack.songFrom SmfTrack.nextFrom
+leave-offered = refl
+
+-- so the strike is due at the start
+begun-is : begun ≡ coming (readied idle) (lent .cursor) (Given strike)
+begun-is = start-is song events song-events idle ∙ ap (coming (readied idle) (lent .cursor)) strike-offered
+
+begun-open : begun .ended ≡ false
+begun-open = ap (λ (p : Player). p .ended) begun-is
+
+begun-due : isDue begun ≡ true
+begun-due = reached-due begun begun-open (omega (arith, ap (λ (p : Player). p .event .frame) begun-is))
+
+-- and behind it the way is three frames
+abbrev over-strike : Turn
+over-strike = Step song bell ram []
+
+abbrev struck : Player
+struck = nextTurn over-strike begun
+
+struck-is : struck ≡ coming (withEngine begun (struck .engine)) (handedOf song (lent .cursor) .cursor) (Given leave)
+struck-is =
+    step-is-tested song bell ram [] begun .behind begun-open
+    ∙ ap (λ (c : Cursor). cued (withEngine begun (struck .engine)) (handedOf song c)) (ap (λ (p : Player). p .cursor) begun-is)
+    ∙ ap (coming (withEngine begun (struck .engine)) (handedOf song (lent .cursor) .cursor)) leave-offered
+
+struck-began : struck .began ≡ 0
+unfolding StateQuiet.fresh
+struck-began = ap (λ (p : Player). p .began) struck-is ∙ ap (λ (p : Player). p .began) begun-is
+
+struck-frame : struck .event .frame ≡ 3
+struck-frame = ap (λ (p : Player). p .event .frame) struck-is
+
+struck-clock : struck .engine .clock ≡ 0
+unfolding StateQuiet.fresh
+struck-clock = step-clock song bell ram [] begun ∙ ap (λ (e : Engine). e .clock) begun-engine
+
+struck-gap : 3 ≤ gapOf struck 4
+unfolding since
+struck-gap =
+    let n : since struck ≡ 0 = omega (arith, struck-clock, struck-began) in
+    omega (arith, struck-frame, n, gap-near struck 4 (ap (λ (p : Player). p .ended) struck-is) (omega (arith, struck-frame, n)))
+
+-- a step, the engine's own three frames, and one more of the song
+abbrev own : Turn
+own = Direct (Render (ahead (struck .engine) 3) ram [] (replicate 6 nan))
+
+abbrev last : Turn
+last = Play song bell ram [] (ahead (nextTurn own struck .engine) 1) (replicate 2 nan)
+
+-- are the four frames
+pub song-stepped : SameAsOne first (over-strike ∷ own ∷ last ∷ []) begun
+unfolding together StateQuiet.fresh
+song-stepped =
+    any-cut-of-play song bell ram [] 4 (replicate 8 nan) begun (3 ∷ 1 ∷ []) (over-strike ∷ own ∷ last ∷ [])
+    (subst (λ (e : Engine). e .clock < 4294967296) (sym begun-engine) (lit< tt)) first-done (sym four)
+    (stepped begun-due (lit< tt)
+    (alone 3 4 (replicate 6 nan) (lit< tt) struck-gap (lit≤ tt) (omega (arith, struck-began)) (omega (arith, struck-frame)) (part 1 (replicate 2 nan) (lit≤ tt) no-part))) .1
 
 -- an empty file is refused, and changes nothing
 pub empty-changes-nothing : nextTurn (Start []) ended ≡ ended

@@ -19,19 +19,22 @@ use Rattle.engine.specs.Rendering.{distance, renderNumber, render, played}
 use Rattle.player.specs.declared.Answer.{Answer}
 use Rattle.player.specs.declared.Begun.{Begun}
 use Rattle.player.specs.declared.Player.{Player}
+use Rattle.player.specs.declared.Stepped.{Stepped}
 use Rattle.player.specs.declared.Tally.{Tally}
 use Rattle.player.specs.Cues.{idle, cued}
 use Rattle.player.specs.Pauses.{hushedTo, readied, started, stopped}
-use Rattle.player.specs.Playing.{opened, forward, prepared, performed, numbers, reported, answered, soundedInto}
+use Rattle.player.specs.Acting.{heeded}
+use Rattle.player.specs.Playing.{opened, forward, applying, prepared, performed, numbers, reported, answered, soundedInto}
+use Rattle.player.specs.Stepping.{stepTaken}
 use Rattle.promises.specs.Calls.{Call, does, next, run, framesRun}
 use Rattle.promises.specs.Cuts.{numbersOf}
 use Rattle.promises.proofs.EachSlot.{either}
 use Rattle.promises.proofs.Demand1.{render-numbers}
 use Rattle.promises.proofs.Demand3.{between-always}
 use Rattle.promises.proofs.Output.{out-length}
-use Rattle.recitals.specs.Turns.{Turn, Start, Stop, Play, Direct, nextTurn, framesOfTurn, numbersOfTurn, hushCalls, freshCalls, frameCalls, callsOf, OwnDone, IsCalls, PlayerIsEngine, runTurns, numbersTurns, framesTurns, callsTurns, InClock, InClocks, IsRun, RunIsRun, PlayerKeepsPromises, PlaceInPlayer}
+use Rattle.recitals.specs.Turns.{Turn, Start, Stop, Play, Step, Direct, nextTurn, framesOfTurn, numbersOfTurn, hushCalls, freshCalls, callOf, frameCalls, callsOf, OwnDone, IsCalls, PlayerIsEngine, runTurns, numbersTurns, framesTurns, callsTurns, InClock, InClocks, IsRun, RunIsRun, PlayerKeepsPromises, PlaceInPlayer}
 use Rattle.recitals.proofs.Clocks.{on-clock, off-clock, control-clock, program-clock, bend-clock, Clear, clear-of}
-use Rattle.recitals.proofs.Acts.{Leads, no-calls, joined, relead, run-append, numbers-append, frames-append, hushes, freshens, hush-clock, freshen-clock, cued-engine, frames-go}
+use Rattle.recitals.proofs.Acts.{Leads, no-calls, joined, relead, run-append, numbers-append, frames-append, hushes, freshens, hush-clock, freshen-clock, cued-engine, applying-acts, frames-go}
 use Rattle.promises.specs.Calls as Calls
 
 -- ---- start
@@ -151,6 +154,44 @@ module _ (song bank : List ℕ) (ram rom : List ℤ) where
           (ap (λ (m : ℕ). cond (eqb m 0) (frameCalls song bank ram rom n (opened p)) []) number ∙ ap (λ (b : Bool). cond b (frameCalls song bank ram rom n (opened p)) []) q)
           (ap (λ (a : Answer). a .player .engine) (play-refused to (length out) p z)) (ap (λ (m : ℕ). take (2 * m) (soundedInto song bank ram rom to out p)) f) f
 
+  -- ---- step
+
+  -- where no event is left
+  pub step-none : (p : Player) → p .ended ≡ true → stepTaken song bank ram rom p ≡ record { number = 0; applied = 0; player = p }
+  unfolding stepTaken
+  step-none p e = rw e refl
+
+  -- and where one is
+  pub step-one : (p : Player) → p .ended ≡ false
+      → stepTaken song bank ram rom p
+      ≡ record { number = heeded bank ram rom (p .event) (p .engine) .status; applied = 1; player = applying song bank ram rom (opened p) .player }
+  unfolding stepTaken
+  step-one p e = rw e refl
+
+  -- its call, and the engine behind it
+  pub step-leads : (p : Player)
+      → Leads (p .engine) (callsOf (Step song bank ram rom) p) (nextTurn (Step song bank ram rom) p .engine) (numbersOfTurn (Step song bank ram rom) p) (framesOfTurn (Step song bank ram rom) p)
+  step-leads p = by (p .ended) refl
+    where
+      x : Turn
+      x = Step song bank ram rom
+
+      by : (b : Bool) → p .ended ≡ b → Leads (p .engine) (callsOf x p) (nextTurn x p .engine) (numbersOfTurn x p) (framesOfTurn x p)
+      by true e =
+          relead (no-calls (p .engine)) (ap (λ (b : Bool). cond b [] (callOf bank ram rom (p .event))) e)
+          (ap (λ (s : Stepped). s .player .engine) (step-none p e)) refl refl
+      by false e =
+          relead (applying-acts ram rom song bank (opened p) .leads) (ap (λ (b : Bool). cond b [] (callOf bank ram rom (p .event))) e)
+          (ap (λ (s : Stepped). s .player .engine) (step-one p e)) refl refl
+
+  -- the clock stands
+  pub step-clock : (p : Player) → nextTurn (Step song bank ram rom) p .engine .clock ≡ p .engine .clock
+  step-clock p = by (p .ended) refl
+    where
+      by : (b : Bool) → p .ended ≡ b → stepTaken song bank ram rom p .player .engine .clock ≡ p .engine .clock
+      by true e = ap (λ (s : Stepped). s .player .engine .clock) (step-none p e)
+      by false e = ap (λ (s : Stepped). s .player .engine .clock) (step-one p e) ∙ applying-acts ram rom song bank (opened p) .clock
+
 -- ---- every turn
 
 is-calls : (x : Turn) (p : Player) → Leads (p .engine) (callsOf x p) (nextTurn x p .engine) (numbersOfTurn x p) (framesOfTurn x p) → OwnDone x p → IsCalls x p
@@ -162,6 +203,8 @@ turn-is-calls (Start song) p h = is-calls (Start song) p (start-leads song p) (s
 turn-is-calls Stop p h = is-calls Stop p (hushes 16 (p .engine)) (hushes 16 (p .engine) .renders)
 turn-is-calls (Play song bank ram rom to out) p h =
     is-calls (Play song bank ram rom to out) p (play-leads song bank ram rom to out p h) (play-leads song bank ram rom to out p h .renders)
+turn-is-calls (Step song bank ram rom) p h =
+    is-calls (Step song bank ram rom) p (step-leads song bank ram rom p) (step-leads song bank ram rom p .renders)
 turn-is-calls (Direct x) p h = record { engine = refl; numbers = sym (append-nil _); frames = sym (add-zero _); renders = tt }
 
 -- ---- runs
@@ -199,6 +242,7 @@ turn-clock (Play song bank ram rom to out) xs p h k = (by (eqb number 0) refl, k
         let g = frames-go ram rom song bank (distance (p .engine) to) (opened p) h (done-clear song bank ram rom to out (p .engine) z) .clock in
         rw (play-done song bank ram rom to (length out) p z) (omega (arith, g))
     by false q = rw (play-refused song bank ram rom to (length out) p (eqb-false number 0 q)) h
+turn-clock (Step song bank ram rom) xs p h k = (rw (step-clock song bank ram rom p) h, k)
 turn-clock (Direct x) xs p h k = (call-clock x (p .engine) h (k .0), k .1)
 
 pub turns-clock : (xs : List Turn) (p : Player) → p .engine .clock < 4294967296 → InClocks xs → runTurns xs p .engine .clock < 4294967296

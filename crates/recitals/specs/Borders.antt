@@ -1,24 +1,26 @@
 -- What the player answers, that what it refuses changes nothing, and what start and stop do to voices, channels and clock.
 use Prim.Native.Nat.{ℕ, _<_, _*_}
-use mathlib.Core.Bool.{true}
-use mathlib.Core.List.{List}
+use mathlib.Core.Bool.{true, false}
+use mathlib.Core.List.{List, [], _∷_}
 use mathlib.Core.Path.{_≡_}
 use lib.IntN.{ℤ}
 use lib.Ieee.{Float}
 use lib.ListN.{length, drop}
-use Rattle.smf.specs.Songs.{testOf}
+use Rattle.smf.specs.Songs.{testOf, handedOf}
 use Rattle.voice.specs.declared.Slot.{Slot}
+use Rattle.state.specs.declared.Engine.{Engine}
 use Rattle.state.specs.Channels.{channelAt}
 use Rattle.state.specs.Quiet.{freshChannel}
 use Rattle.state.specs.Slots.{slotAt}
 use Rattle.engine.specs.Rendering.{distance}
 use Rattle.player.specs.declared.Player.{Player}
-use Rattle.player.specs.Cues.{idle}
+use Rattle.player.specs.Cues.{idle, withEngine, cued}
 use Rattle.player.specs.Pauses.{started}
 use Rattle.player.specs.Playing.{answered}
-use Rattle.promises.specs.Calls.{Render, does}
+use Rattle.player.specs.Stepping.{stepTaken}
+use Rattle.promises.specs.Calls.{Call, Render, does}
 use Rattle.promises.specs.Night.{AllReleased}
-use Rattle.recitals.specs.Turns.{Turn, Start, Stop, Play, nextTurn, writtenIn, runTurns, InClocks}
+use Rattle.recitals.specs.Turns.{Turn, Start, Stop, Play, Step, nextTurn, writtenIn, appliedIn, callsOf, runTurns, InClocks}
 
 -- ---- answers
 
@@ -49,6 +51,24 @@ pub record PlayAnswers (song bank : List ℕ) (ram rom : List ℤ) (to : ℕ) (o
 -- that is so of every render
 abbrev pub PlayIsTested : Type 0
 PlayIsTested = (song bank : List ℕ) (ram rom : List ℤ) (to : ℕ) (out : List Float) (p : Player) → PlayAnswers song bank ram rom to out p
+
+-- the engine's number for the first of some calls, 0 where there is none
+abbrev pub firstNumber : List Call → Engine → ℕ
+firstNumber [] e = 0
+firstNumber (x ∷ xs) e = does x e .status
+
+-- a step answers with the engine's number for the call of its event; the event behind it, in the song that is lent, comes next, also where it was refused, and then
+-- nothing else changes; where no event is left nothing changes at all
+pub record StepAnswers (song bank : List ℕ) (ram rom : List ℤ) (p : Player) : Type 0 where
+  pub number : stepTaken song bank ram rom p .number ≡ firstNumber (callsOf (Step song bank ram rom) p) (p .engine)
+  pub none : p .ended ≡ true → (nextTurn (Step song bank ram rom) p ≡ p) × (appliedIn (Step song bank ram rom) p ≡ 0)
+  pub one : p .ended ≡ false → appliedIn (Step song bank ram rom) p ≡ 1
+  pub behind : p .ended ≡ false → nextTurn (Step song bank ram rom) p ≡ cued (withEngine p (nextTurn (Step song bank ram rom) p .engine)) (handedOf song (p .cursor))
+  pub refused : (stepTaken song bank ram rom p .number ≡ 0 → ⊥) → nextTurn (Step song bank ram rom) p ≡ cued p (handedOf song (p .cursor))
+
+-- that is so of every step
+abbrev pub StepIsTested : Type 0
+StepIsTested = (song bank : List ℕ) (ram rom : List ℤ) (p : Player) → StepAnswers song bank ram rom p
 
 -- ---- start and stop
 

@@ -19,7 +19,8 @@ use Rattle.player.specs.declared.Tally.{Tally}
 use Rattle.player.specs.Acting.{kindOf, channelIn, bendIn}
 use Rattle.player.specs.Cues.{idle, withEngine, isDue}
 use Rattle.player.specs.Pauses.{started, stopped}
-use Rattle.player.specs.Playing.{opened, forward, applying, prepared, answered, soundedInto}
+use Rattle.player.specs.Playing.{opened, refusal, forward, applying, prepared, answered, soundedInto}
+use Rattle.player.specs.Stepping.{stepTaken}
 use Rattle.promises.specs.Calls.{Call, NoteOn, NoteOff, Control, Program, Bend, Render, Ask, does, next, run, written, voiceIn, framesOf, framesRun}
 use Rattle.promises.specs.Cuts.{ahead, numbersOf}
 use Rattle.promises.specs.Moments.{inFront}
@@ -32,6 +33,7 @@ pub data Turn : Type 0 where
   Start : (song : List ℕ) → Turn
   Stop : Turn
   Play : (song bank : List ℕ) (ram rom : List ℤ) (to : ℕ) (out : List Float) → Turn
+  Step : (song bank : List ℕ) (ram rom : List ℤ) → Turn
   Direct : (call : Call) → Turn
 
 -- the player after a turn
@@ -39,6 +41,7 @@ abbrev pub nextTurn : Turn → Player → Player
 nextTurn (Start song) p = started song p .player
 nextTurn Stop p = stopped p
 nextTurn (Play song bank ram rom to out) p = answered song bank ram rom to (length out) p .player
+nextTurn (Step song bank ram rom) p = stepTaken song bank ram rom p .player
 nextTurn (Direct x) p = withEngine p (next x (p .engine))
 
 -- what its lent output holds after it
@@ -46,6 +49,7 @@ abbrev pub writtenIn : Turn → Player → List Float
 writtenIn (Start song) p = []
 writtenIn Stop p = []
 writtenIn (Play song bank ram rom to out) p = soundedInto song bank ram rom to out p
+writtenIn (Step song bank ram rom) p = []
 writtenIn (Direct x) p = written x (p .engine)
 
 -- the frames that it renders: its distance, where it is done
@@ -53,6 +57,7 @@ abbrev pub framesOfTurn : Turn → Player → ℕ
 framesOfTurn (Start song) p = 0
 framesOfTurn Stop p = 0
 framesOfTurn (Play song bank ram rom to out) p = cond (eqb (answered song bank ram rom to (length out) p .number) 0) (distance (p .engine) to) 0
+framesOfTurn (Step song bank ram rom) p = 0
 framesOfTurn (Direct x) p = framesOf x (p .engine)
 
 -- the numbers that it renders: the first two for each of its frames
@@ -64,6 +69,7 @@ abbrev pub appliedIn : Turn → Player → ℕ
 appliedIn (Start song) p = 0
 appliedIn Stop p = 0
 appliedIn (Play song bank ram rom to out) p = answered song bank ram rom to (length out) p .applied
+appliedIn (Step song bank ram rom) p = stepTaken song bank ram rom p .applied
 appliedIn (Direct x) p = 0
 
 -- and how many of these are refused
@@ -71,6 +77,7 @@ abbrev pub refusedIn : Turn → Player → ℕ
 refusedIn (Start song) p = 0
 refusedIn Stop p = 0
 refusedIn (Play song bank ram rom to out) p = answered song bank ram rom to (length out) p .refused
+refusedIn (Step song bank ram rom) p = refusal (stepTaken song bank ram rom p .number)
 refusedIn (Direct x) p = 0
 
 -- ---- the engine's calls that a turn is
@@ -113,12 +120,13 @@ module _ (song bank : List ℕ) (ram rom : List ℤ) where
       ++ (oneFrame ram rom (ahead (prepared song bank ram rom x .player .engine) 1)
       ∷ frameCalls n (forward ram rom 1 (prepared song bank ram rom x)))
 
--- the calls of a turn, in order; a refused start or render has none
+-- the calls of a turn, in order; a refused start or render has none, nor has a step where no event is left
 abbrev pub callsOf : Turn → Player → List Call
 callsOf (Start song) p = cond (eqb (started song p .number) 0) (hushCalls 16 ++ freshCalls 16) []
 callsOf Stop p = hushCalls 16
 callsOf (Play song bank ram rom to out) p =
     cond (eqb (answered song bank ram rom to (length out) p .number) 0) (frameCalls song bank ram rom (distance (p .engine) to) (opened p)) []
+callsOf (Step song bank ram rom) p = cond (p .ended) [] (callOf bank ram rom (p .event))
 callsOf (Direct x) p = x ∷ []
 
 -- every render among some calls is done
@@ -138,6 +146,7 @@ abbrev pub OwnDone : Turn → Player → Type 0
 OwnDone (Start song) p = RendersDone (callsOf (Start song) p) (p .engine)
 OwnDone Stop p = RendersDone (callsOf Stop p) (p .engine)
 OwnDone (Play song bank ram rom to out) p = RendersDone (callsOf (Play song bank ram rom to out) p) (p .engine)
+OwnDone (Step song bank ram rom) p = RendersDone (callsOf (Step song bank ram rom) p) (p .engine)
 OwnDone (Direct x) p = Unit {0}
 
 -- a turn is its calls: the engine after it, the numbers and frames that it renders; and none of its renders is refused
@@ -199,6 +208,7 @@ InClocks [] = Unit {0}
 InClocks (Start song ∷ xs) = InClocks xs
 InClocks (Stop ∷ xs) = InClocks xs
 InClocks (Play song bank ram rom to out ∷ xs) = InClocks xs
+InClocks (Step song bank ram rom ∷ xs) = InClocks xs
 InClocks (Direct x ∷ xs) = InClock x × InClocks xs
 
 -- a run of turns is the run of all its calls

@@ -2,7 +2,7 @@
 use native.Mathlib.Omega.{arith}
 use mathlib.Core.Path.{_≡_, sym, ap, _∙_}
 use Prim.Native.Nat.{ℕ, _-_}
-use Rattle.player.specs.Internal.Cues.{waitOf}
+use Rattle.player.specs.Cues.{waitOf}
 use Rattle.player.proofs.CuesLaws.{gap-ended, gap-near, gap-far}
 use borrow.Author.Needs.{needs}
 use Rattle.player.proofs.cues.gap.Statement.{statement}

@@ -9,7 +9,7 @@ use lib.Ieee.{Float}
 use lib.ListN.{length, take, drop}
 use Rattle.engine.specs.Rendering.{output}
 use Rattle.player.specs.declared.Tally.{Tally}
-use Rattle.player.specs.Internal.Cues.{gapOf}
+use Rattle.player.specs.Cues.{gapOf}
 use Rattle.player.specs.Playing.{opened, forward, applying, performed, numbers}
 use Rattle.player.proofs.CuesLaws.{left, gap-most, left-low}
 use Rattle.player.proofs.PlayingLaws.{left-behind, output-length, written-on, forward-counts, Bounded, turned, turn-after, turn-numbers, turn-less, turn-counts}

@@ -1,2 +1,0 @@
--- Definitions that serve contracts inside the crates alone. What a host's contract rests on stands beside this folder.
-pub mod Cues
