@@ -5,6 +5,7 @@ mod keeping;
 mod messages;
 mod outputs;
 mod pieces;
+mod presets;
 mod questions;
 mod twins;
 
@@ -27,6 +28,8 @@ pub use outputs::thularek_song_render;
 pub use pieces::thularek_init;
 pub use pieces::thularek_song_start;
 pub use pieces::thularek_song_stop;
+pub use presets::thularek_past_memory;
+pub use presets::thularek_preset;
 pub use questions::thularek_clock;
 pub use questions::thularek_count;
 pub use questions::thularek_held_count;
