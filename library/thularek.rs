@@ -99,6 +99,22 @@ extern "C" {
         bank: *mut u16,
         next: *mut usize,
     ) -> u32;
+    fn thularek_preset(
+        bytes: *const u8,
+        bytes_length: usize,
+        place: u32,
+        name: *mut usize,
+        zones: *mut u32,
+        low: *mut u8,
+        high: *mut u8,
+    ) -> u32;
+    fn thularek_past_memory(
+        bank: *const u8,
+        bank_length: usize,
+        ram_count: usize,
+        rom_count: usize,
+        place: *mut usize,
+    ) -> u32;
     fn thularek_song_test(song: *const u8, song_length: usize, place: *mut u32) -> u32;
     fn thularek_merge(
         file: *const u8,
@@ -287,6 +303,22 @@ pub fn list(bytes: &[u8], place: u32) -> (u32, u16, u16, usize) {
     let (mut program, mut bank, mut next) = (0, 0, 0);
     let kind = unsafe { thularek_list(bytes.as_ptr(), bytes.len(), place, &mut program, &mut bank, &mut next) };
     (kind, program, bank, next)
+}
+
+/// 0 and where a preset's name begins, its zones, its lowest and its highest key; 1 where the bank is not admitted, 2
+/// at the end.
+pub fn preset(bytes: &[u8], place: u32) -> (u32, usize, u32, u8, u8) {
+    let (mut name, mut zones, mut low, mut high) = (0, 0, 0, 0);
+    let kind =
+        unsafe { thularek_preset(bytes.as_ptr(), bytes.len(), place, &mut name, &mut zones, &mut low, &mut high) };
+    (kind, name, zones, low, high)
+}
+
+/// 8 and the place of the first window that ends past a memory of so many samples, or 0.
+pub fn past_memory(bank: &[u8], ram: usize, rom: usize) -> (u32, usize) {
+    let mut place = 0;
+    let number = unsafe { thularek_past_memory(bank.as_ptr(), bank.len(), ram, rom, &mut place) };
+    (number, place)
 }
 
 /// A song's number, and the place of its first fault.

@@ -229,6 +229,10 @@ static void no_files(void) {
     CHECK(thularek_admit(NULL, 0) == THULAREK_BANK_NOT_ADMITTED);
     CHECK(thularek_bank_fault(NULL, 0, &place) == THULAREK_BANK_CHUNK - 20 && place == 0);
     CHECK(thularek_list(NULL, 0, 0, &program, &bank, &a) == 1 && !program && !bank && !a);
+    uint32_t zones = 1;
+    uint8_t low = 1, high = 1;
+    CHECK(thularek_preset(NULL, 0, 0, &a, &zones, &low, &high) == 1 && !a && !zones && !low && !high);
+    CHECK(thularek_past_memory(NULL, 0, 0, 0, &place) == THULAREK_DONE && place == 0);
     CHECK(thularek_song_test(NULL, 0, &at) == THULAREK_SONG_MALFORMED && at == 0);
     CHECK(thularek_merge(NULL, 0, NULL, 0, &a, &at) == THULAREK_SONG_MALFORMED && !a && at == 0);
     CHECK(thularek_wave_heading(1, NULL, 0) == THULAREK_WAVE_NO_ROOM);
@@ -237,6 +241,23 @@ static void no_files(void) {
 }
 
 /* ---- Files of random bytes, and good ones with some bytes changed or cut off */
+
+/* A preset is told of where the listing has one: its name lies in the file, and a key that it sounds is one. With
+ * samples without end no window ends past them; with none, every window that is in use does. */
+static void presets_of(const uint8_t *file, size_t length) {
+    for (uint32_t at = 0; at < 4; at++) {
+        size_t name, next, place;
+        uint16_t program, bank;
+        uint32_t zones, kind = thularek_list(file, length, at, &program, &bank, &next);
+        uint8_t low, high;
+        CHECK(thularek_preset(file, length, at, &name, &zones, &low, &high) == kind);
+        CHECK(kind ? !name && !zones && !low && !high : name + 38 <= length && low <= 127 && high <= 127);
+        CHECK(thularek_past_memory(file, length, SIZE_MAX, SIZE_MAX, &place) == THULAREK_DONE && place == 0);
+        uint32_t number = thularek_past_memory(file, length, 0, 0, &place);
+        CHECK(number == THULAREK_DONE ? place == 0 : number == THULAREK_WINDOW_PAST_MEMORY && place + 4 <= length);
+        CHECK(kind || low > high || number != THULAREK_DONE);
+    }
+}
 
 static void any_file(const uint8_t *good, size_t most, uint32_t files) {
     for (uint32_t i = 0; i < files; i++) {
@@ -249,6 +270,7 @@ static void any_file(const uint8_t *good, size_t most, uint32_t files) {
         CHECK(thularek_font(file, length, &a, &b, &c, &d, &place) || (a + b <= length && c + d <= length));
         CHECK(thularek_admit(file, length) == (thularek_bank_fault(file, length, &place) != 0));
         CHECK(thularek_list(file, length, chance() % 4, &program, &bank, &a) <= 2);
+        presets_of(file, length);
         CHECK(thularek_song_test(file, length, &at) <= THULAREK_SONG_TOO_LATE && at <= 65536);
         uint8_t merged[64] = {0};
         CHECK(thularek_merge(file, length, merged, 64, &a, &at) == THULAREK_DONE ? a <= 64 : a == 0 && merged[0] == 0);

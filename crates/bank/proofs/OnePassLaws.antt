@@ -1,4 +1,4 @@
--- One pass over the zones finds what the tests 6 and 7 of Admission look for.
+-- One pass over the zones finds what the tests 6 and 7 of Admission look for, and the first window past its memory.
 use Prim.Native.Nat.{ℕ, zero, suc, _<_, _+_, _-_}
 use mathlib.Core.List.{List}
 use mathlib.Core.Bool.{Bool, true, false, cond, _||_, not, _&&_, and-false, or-false, or-true}
@@ -28,6 +28,8 @@ use Rattle.records.proofs.AmountsLaws.{poured-value}
 use Rattle.records.specs.Windows.{placeMoved, startOf, endOf, loopStartOf, loopEndOf, modeOf, goodWindow, movers}
 use Rattle.bank.specs.Internal.Bounds.{badOver}
 use Rattle.bank.specs.Bounds.{badWindow}
+use Rattle.bank.specs.Past.{windowPast, zonePast}
+use Rattle.bank.specs.Internal.Past.{pastOver}
 
 -- the lowest sample at fault that an instrument below n names
 unfoldable pub lowestBelow : List ℕ → Parts → ℕ → Found
@@ -195,6 +197,16 @@ module _ (b : List ℕ) (m : Parts) (local global : Zone) where
   good-poured =
       rw (by 20 0 4 (lit< tt) (lit< tt), by 24 1 12 (lit< tt) (lit< tt), by 28 2 45 (lit< tt) (lit< tt), by 32 3 50 (lit< tt) (lit< tt), poured-is 54 (lit< tt)) refl
 
+  -- and so is its end
+  end-poured : endOf b m (local .link) (at (poured b (m .instruments) local (poured b (m .instruments) global blank))) ≡ endOf b m (local .link) (movers b m local global)
+  unfolding endOf amounts
+  end-poured = by 24 1 12 (lit< tt) (lit< tt)
+
 pub bad-over : (b : List ℕ) (m : Parts) (h z : ℕ) → badOver b m (poured b (m .instruments) (globalOf b (m .instruments) h) blank) z ≡ badWindow b m h z
 unfolding badOver badWindow
 bad-over b m h z = rw (good-poured b m (zoneAt b (m .instruments) z) (globalOf b (m .instruments) h)) refl
+
+-- the first window past its memory
+pub past-over : (b : List ℕ) (m : Parts) (ram rom h z : ℕ) → pastOver b m ram rom (poured b (m .instruments) (globalOf b (m .instruments) h) blank) z ≡ zonePast b m ram rom h z
+unfolding pastOver zonePast windowPast
+past-over b m ram rom h z = rw (end-poured b m (zoneAt b (m .instruments) z) (globalOf b (m .instruments) h)) refl

@@ -6,4 +6,5 @@ pub mod Rates
 pub mod Bounds
 pub mod Admission
 pub mod Listing
+pub mod Past
 pub mod Internal

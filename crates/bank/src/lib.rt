@@ -8,9 +8,11 @@ mod framing;
 mod indexes;
 mod links;
 mod listing;
+mod past;
 mod rates;
 
 pub use listing::listed_at;
+pub use past::past_memory;
 use records::Found;
 
 // What is wrong with a bank, with the byte place, in the order in which it is tested.

@@ -3,3 +3,4 @@ pub mod Keeping
 pub mod Steps
 pub mod Questions
 pub mod Files
+pub mod Presets

@@ -2,5 +2,6 @@ pub mod AdmittedVoices
 pub mod BarrenLaws
 pub mod ExtentLaws
 pub mod LayerSearchLaws
+pub mod SpansLaws
 pub mod StruckLaws
 pub mod VoicingLaws

@@ -4,10 +4,12 @@ mod envelope;
 mod extent;
 mod layer_search;
 mod ranges;
+mod spans;
 mod tuning;
 mod voicing;
 
 pub use layer_search::preset_for;
+pub use spans::preset_sheet;
 use voice::Voice;
 pub use voicing::voices_for;
 
@@ -19,6 +21,21 @@ pub struct Pair {
 
 // A range of keys or velocities.
 pub struct Range {
+    pub low: u8,
+    pub high: u8,
+}
+
+// The keys and the velocities that match a zone.
+pub struct Area {
+    pub keys: Range,
+    pub velocities: Range,
+}
+
+// What is told of a preset: its kind, the byte where its record begins, its zones, and the lowest and highest key of its layers.
+pub struct Sheet {
+    pub kind: u8,
+    pub name: u32,
+    pub zones: u32,
     pub low: u8,
     pub high: u8,
 }

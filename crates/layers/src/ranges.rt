@@ -39,7 +39,7 @@ fn inside(r: Range, x: u8) -> bool
 }
 
 // A key range counts only as first generator.
-fn key_range(b: &[u8], s: Side, z: Zone, d: Range) -> Range
+pub fn key_range(b: &[u8], s: Side, z: Zone, d: Range) -> Range
     ensures { λ r. ⌜ r ≡ keyRange (now (b .entry)) s z d ⌝ }
 {
     if has_as(b, s, z, 0, 43) {
@@ -49,7 +49,7 @@ fn key_range(b: &[u8], s: Side, z: Zone, d: Range) -> Range
 }
 
 // A velocity range counts as first, or as second behind a key range.
-fn velocity_range(b: &[u8], s: Side, z: Zone, d: Range) -> Range
+pub fn velocity_range(b: &[u8], s: Side, z: Zone, d: Range) -> Range
     ensures { λ r. ⌜ r ≡ velocityRange (now (b .entry)) s z d ⌝ }
 {
     if has_as(b, s, z, 0, 44) {
