@@ -1,9 +1,10 @@
 // The engine: the calls that a host makes. The state and the events stand in crates of their own, and are passed on here.
+mod adding;
 mod banks;
 mod mixer;
 // its tests and its frames are the player's too
 pub mod rendering;
-mod sums;
+mod summing;
 
 pub use banks::admit;
 pub use banks::list;
@@ -18,6 +19,7 @@ pub use state::Engine;
 pub use state::fresh;
 pub use state::panel;
 pub use state::voice_count;
+pub use summing::sums;
 
 // A stereo frame.
 pub struct Frame {
