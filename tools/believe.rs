@@ -21,7 +21,7 @@ use std::process::ExitCode;
 use tree::{Reached, Specs, Tree};
 
 /// Files of definitions whose words no source file of their name computes. A crate's name stands for all of its files.
-const NO_CODE: [(&str, &str); 27] = [
+const NO_CODE: [(&str, &str); 28] = [
     ("arith/Floats", "what it is that a float is a fraction exactly; the code that makes such floats is voice's and engine's"),
     ("arith/Floors", "quotients rounded down: each formula that has one computes it in its own place"),
     ("arith/Lists", "counts and sums over lists: loops in several crates compute them, each its own"),
@@ -44,6 +44,7 @@ const NO_CODE: [(&str, &str); 27] = [
     ("smf/Spelling", "files as they are written, for statements of theorems; nothing writes them"),
     ("voice/Points", "statements of theorems on the four points of a reading; the code is that of Reading"),
     ("wave/Fractions", "what an output number is and what its 16-bit number is, as fractions; the code of Pcm goes by bits"),
+    ("wave/Headroom", "statements of theorems on sums that are poured at a lower level; the code is that of Lowering"),
     ("wave/Refusals", "each number in its case; the code does the tests of Headings, Pours, Recording and Playback in their order"),
     ("wave/Returned", "statements of theorems on reading what was written, and writing what was read"),
     ("wave/Sizes", "statements of theorems on what a heading says"),

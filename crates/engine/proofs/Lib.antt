@@ -1,3 +1,4 @@
 pub mod CutLaws
 pub mod MixerLaws
 pub mod RenderingLaws
+pub mod SummingLaws

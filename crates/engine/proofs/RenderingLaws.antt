@@ -183,25 +183,35 @@ unfolding mixedTo
 mixed-length zero xs = refl
 mixed-length (suc n) xs = simp length-append (omega (arith, mixed-length n xs))
 
--- the sums of all slots give the output
-pub output-mixed : (ram rom : List ℤ) (e : Engine) (m : ℕ) (ys : List ℤ) → 2 * m ≤ length ys → ((j : ℕ) → getD ys j (pos 0) ≡ pos 0)
-    → (n : ℕ) → n ≤ m → mixedTo n (addAll (slotHeard ram rom e m) (slotsOf e) ys) ≡ output ram rom e n
-unfolding mixedTo output
-output-mixed ram rom e m ys g z zero h = refl
-output-mixed ram rom e m ys g z (suc n) h =
-    let f = slotHeard ram rom e m in
-    let left : getD (addAll f (slotsOf e) ys) (2 * n) (pos 0) ≡ leftSum ram rom e n =
-    add-at f (slotLeft ram rom e n) (2 * n)
-    (λ s. omega (arith, long-heard (channelAt e (s .voice .channel)) (window ram rom (s .voice)) s m))
-    (λ s. heard-left (channelAt e (s .voice .channel)) (window ram rom (s .voice)) s m n (omega arith)) (slotsOf e) ys (omega arith)
-    ∙ ap (λ (q : ℤ). q +ℤ leftSum ram rom e n) (z (2 * n)) ∙ +ℤ-idl (leftSum ram rom e n) in
-    let right : getD (addAll f (slotsOf e) ys) (2 * n + 1) (pos 0) ≡ rightSum ram rom e n =
-    add-at f (slotRight ram rom e n) (2 * n + 1)
-    (λ s. omega (arith, long-heard (channelAt e (s .voice .channel)) (window ram rom (s .voice)) s m))
-    (λ s. heard-right (channelAt e (s .voice .channel)) (window ram rom (s .voice)) s m n (omega arith)) (slotsOf e) ys (omega arith)
-    ∙ ap (λ (q : ℤ). q +ℤ rightSum ram rom e n) (z (2 * n + 1)) ∙ +ℤ-idl (rightSum ram rom e n) in
-    ap₂ (λ (p q : List Float). p ++ q) (output-mixed ram rom e m ys g z n (omega arith))
-    (ap₂ (λ (a b : ℤ). mixed a ∷ mixed b ∷ []) left right)
+-- what all slots add up to in frame k, from zeros
+module _ (ram rom : List ℤ) (e : Engine) (m : ℕ) (ys : List ℤ) (g : 2 * m ≤ length ys) (z : (j : ℕ) → getD ys j (pos 0) ≡ pos 0) where
+  -- the sums when all slots are added
+  abbrev pub allAdded : List ℤ
+  allAdded = addAll (slotHeard ram rom e m) (slotsOf e) ys
+
+  -- number 2k is the sum left
+  pub left-added : (k : ℕ) → k < m → getD allAdded (2 * k) (pos 0) ≡ leftSum ram rom e k
+  left-added k h =
+      add-at (slotHeard ram rom e m) (slotLeft ram rom e k) (2 * k)
+      (λ s. omega (arith, long-heard (channelAt e (s .voice .channel)) (window ram rom (s .voice)) s m))
+      (λ s. heard-left (channelAt e (s .voice .channel)) (window ram rom (s .voice)) s m k h) (slotsOf e) ys (omega arith)
+      ∙ ap (λ (q : ℤ). q +ℤ leftSum ram rom e k) (z (2 * k)) ∙ +ℤ-idl (leftSum ram rom e k)
+
+  -- number 2k + 1 is the sum right
+  pub right-added : (k : ℕ) → k < m → getD allAdded (2 * k + 1) (pos 0) ≡ rightSum ram rom e k
+  right-added k h =
+      add-at (slotHeard ram rom e m) (slotRight ram rom e k) (2 * k + 1)
+      (λ s. omega (arith, long-heard (channelAt e (s .voice .channel)) (window ram rom (s .voice)) s m))
+      (λ s. heard-right (channelAt e (s .voice .channel)) (window ram rom (s .voice)) s m k h) (slotsOf e) ys (omega arith)
+      ∙ ap (λ (q : ℤ). q +ℤ rightSum ram rom e k) (z (2 * k + 1)) ∙ +ℤ-idl (rightSum ram rom e k)
+
+  -- the sums of all slots give the output
+  pub output-mixed : (n : ℕ) → n ≤ m → mixedTo n allAdded ≡ output ram rom e n
+  unfolding mixedTo output
+  output-mixed zero h = refl
+  output-mixed (suc n) h =
+      ap₂ (λ (p q : List Float). p ++ q) (output-mixed n (omega arith))
+      (ap₂ (λ (a b : ℤ). mixed a ∷ mixed b ∷ []) (left-added n (omega arith)) (right-added n (omega arith)))
 
 -- the sums that a render begins with
 pub zeros-at : (n k : ℕ) → getD (replicate n (pos 0)) k (pos 0) ≡ pos 0

@@ -1,10 +1,11 @@
 // The engine: the calls that a host makes. The state and the events stand in crates of their own, and are passed on here.
+mod adding;
 mod banks;
 mod mixer;
 mod presets;
 // its tests and its frames are the player's too
 pub mod rendering;
-mod sums;
+mod summing;
 
 pub use banks::admit;
 pub use banks::list;
@@ -21,6 +22,7 @@ pub use state::Engine;
 pub use state::fresh;
 pub use state::panel;
 pub use state::voice_count;
+pub use summing::sums;
 
 // A stereo frame.
 pub struct Frame {

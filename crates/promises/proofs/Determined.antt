@@ -31,6 +31,7 @@ use Rattle.smf.specs.declared.Handed.{Handed}
 use Rattle.smf.specs.declared.Opening.{Opening}
 use Rattle.smf.specs.declared.Tested.{Tested}
 use Rattle.smf.specs.Songs.{testOf, openingOf, handedOf, bytesOf}
+use Rattle.wave.specs.Lowering.{attenuationFor}
 use Rattle.promises.specs.Determined as D
 use Rattle.state.specs.Board as StateBoard
 use Rattle.state.specs.Quiet as StateQuiet
@@ -121,6 +122,16 @@ write-determined numbers out o p h k = ends o p (h .0 ∙ sym (k .0)) (h .1 ∙ 
 
 pub read-determined : D.ReadDetermined
 read-determined file out o p h k = ends o p (h .0 ∙ sym (k .0)) (h .1 ∙ sym (k .1))
+
+pub pour-sums-determined : D.PourSumsDetermined
+pour-sums-determined sums attenuation out o p h k = ends o p (h .0 ∙ sym (k .0)) (h .1 ∙ sym (k .1))
+
+pub attenuation-for-determined : D.AttenuationForDetermined
+attenuation-for-determined loudest = equation ℕ (attenuationFor loudest)
+
+-- ---- engine: the sums
+pub sums-determined : D.SumsDetermined
+sums-determined e ram rom out to o p h k = ends o p (h .0 ∙ sym (k .0)) (h .1 ∙ sym (k .1))
 
 -- ---- riff
 pub find-determined : D.FindDetermined

@@ -10,6 +10,7 @@ pub mod Determined
 pub mod EachSlot
 pub mod Frames
 pub mod Kept
+pub mod Measured
 pub mod Moments
 pub mod Night
 pub mod NightExample

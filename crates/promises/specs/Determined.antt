@@ -41,11 +41,15 @@ use Rattle.player.specs.Pauses.{started, stopped}
 use Rattle.player.specs.Playing.{answered, soundedInto}
 use Rattle.player.specs.Stepping.{stepTaken, nextEvent, nextFrame}
 use Rattle.engine.specs.Presets.{soughtProgram, soughtBank}
+use Rattle.engine.specs.Rendering.{render}
+use Rattle.engine.specs.Summing.{summed}
 use Rattle.wave.specs.declared.Heard.{Heard}
+use Rattle.wave.specs.declared.Poured.{Poured}
 use Rattle.wave.specs.Headings.{headingNumber, headed}
 use Rattle.wave.specs.Pours.{pourNumber, pouredInto}
 use Rattle.wave.specs.Recording.{writeNumber, recorded}
 use Rattle.wave.specs.Playback.{heardOf, replayed}
+use Rattle.wave.specs.Lowering.{attenuationFor, sumsInto, sumsPoured}
 use Rattle.records.specs.Memory.{partOf}
 use Rattle.state.specs.Board as StateBoard
 use Rattle.state.specs.Quiet as StateQuiet
@@ -211,6 +215,27 @@ abbrev pub ReadDetermined : Type 0
 ReadDetermined =
     (file : List ℕ) (out : List ℤ) → Settles (Ends Heard (List ℤ))
     (λ o. (o .answer ≡ heardOf file (length out)) × (o .output ≡ replayed file out))
+
+-- 02's number, the frames that are held and the loudest sum, and the bytes of the sums in the output
+-- contract of wave::pour_sums(sums, attenuation, out)
+abbrev pub PourSumsDetermined : Type 0
+PourSumsDetermined =
+    (sums : List ℤ) (attenuation : ℕ) (out : List ℕ) → Settles (Ends Poured (List ℕ))
+    (λ o. (o .answer ≡ sumsPoured attenuation sums (length out)) × (o .output ≡ sumsInto attenuation sums out))
+
+-- the least attenuation for a size
+-- contract of wave::attenuation_for(loudest)
+abbrev pub AttenuationForDetermined : Type 0
+AttenuationForDetermined = (loudest : ℕ) → Settles ℕ (λ r. r ≡ attenuationFor loudest)
+
+-- ---- engine: the sums, which a recorder lowers before they are held
+
+-- number and state as those of a render, and the sums in the output
+-- contract of engine::sums(e, ram, rom, out, to)
+abbrev pub SumsDetermined : Type 0
+SumsDetermined =
+    (e : Engine) (ram rom out : List ℤ) (to : ℕ) → Settles (Ends Answered (List ℤ))
+    (λ o. (o .answer ≡ render to ram rom (length out) e) × (o .output ≡ summed to ram rom out e))
 
 -- ---- riff
 

@@ -8,4 +8,6 @@ pub mod RefusalsLaws
 pub mod StreamsLaws
 pub mod ReturnedLaws
 pub mod SizesLaws
+pub mod LoweringLaws
+pub mod HeadroomLaws
 pub mod Examples

@@ -353,7 +353,7 @@ held-word k h = go (ltb 32767 (k / 256)) (ltb 8388352 k) (ltb→lt 32767 (k / 25
     go false false p q r s = omega (arith, q tt)
 
 -- the 16-bit number of a k with its sign
-word-is : (s : Bool) (k : ℕ) → k ≤ 8388608 → modZ (pcmOfK (signedOf s k)) 65536 ≡ wordOf s k
+pub word-is : (s : Bool) (k : ℕ) → k ≤ 8388608 → modZ (pcmOfK (signedOf s k)) 65536 ≡ wordOf s k
 unfolding pcmOfK wordOf modZ
 word-is true zero h = refl
 word-is true (suc j) h = omega (arith, h)

@@ -48,7 +48,7 @@ poured-more xs i h =
     ∙ ap (λ (l : List ℕ). pouredOf (take i xs) ++ l) (append-nil (pcmBytes (getD xs i nan)))
 
 -- the high byte of a number of 16 bits needs no remainder
-high-byte : (w : ℕ) → w < 65536 → w / 256 % 256 ≡ w / 256
+pub high-byte : (w : ℕ) → w < 65536 → w / 256 % 256 ≡ w / 256
 high-byte w h = mod-eq-of-lt (omega (arith, h))
 
 -- a number modulo 2^16 is one of 16 bits

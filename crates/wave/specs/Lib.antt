@@ -8,4 +8,6 @@ pub mod Refusals
 pub mod Returned
 pub mod Streams
 pub mod Sizes
+pub mod Lowering
+pub mod Headroom
 pub mod Internal

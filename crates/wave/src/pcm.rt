@@ -1,9 +1,11 @@
 // An output number k/2^23 to its 16-bit number, by the bits of its binary32.
 ghost use mathlib.Core.Path.{_≡_};
 ghost use lib.Dec.{T};
+ghost use lib.IntN.{natAbs};
 ghost use Prim.Native.Nat.{_≤_};
 ghost use Rattle.arith.specs.Floors.{modZ};
-ghost use Rattle.wave.specs.Pcm.{isOutput, pcmOf};
+ghost use Rattle.arith.specs.Within.{Within};
+ghost use Rattle.wave.specs.Pcm.{isOutput, pcmOf, pcmOfK};
 ghost use Rattle.wave.specs.Internal.Pcm.{isOutputBits, kBits, wordOf};
 
 // Whether bits without a sign are those of a whole k/2^23, at most 1.
@@ -51,6 +53,25 @@ fn word_of(negative: bool, k: u32) -> u16
         return 32767;
     }
     (k / 256) as u16
+}
+
+// How far a number is from 0.
+pub fn size(z: i32) -> u32
+    ensures { λ r. ⌜ r ≡ natAbs z ⌝ }
+{
+    if z < 0 {
+        ((-1 - z) as u32) + 1
+    } else {
+        z as u32
+    }
+}
+
+// The 16-bit number of a k, in two's complement.
+pub fn word(k: i32) -> u16
+    requires { ⌜ Within k 8388608 ⌝ }
+    ensures { λ r. ⌜ r ≡ modZ (pcmOfK k) 65536 ⌝ }
+{
+    word_of(k < 0, size(k))
 }
 
 // Whether a number is a whole k/2^23 in -1..1.

@@ -11,8 +11,8 @@ use Rattle.voice.specs.Internal.Sums.{addTo, Small}
 use Rattle.state.specs.Channels.{channelAt}
 use Rattle.engine.specs.Rendering.{window}
 use Rattle.engine.proofs.RenderingLaws.{window-part, free-after, free-adds, free-small}
-use Rattle.engine.proofs.sums.run_slot.Statement.{statement}
-use Rattle.engine.proofs.sums.run_slot.Tie as tie
+use Rattle.engine.proofs.adding.run_slot.Statement.{statement}
+use Rattle.engine.proofs.adding.run_slot.Tie as tie
 
 returns : tie.Need-returns
 returns c =

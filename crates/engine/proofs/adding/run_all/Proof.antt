@@ -17,8 +17,8 @@ use Rattle.engine.specs.Rendering.{slotAfter, played}
 use Rattle.state.proofs.SlotLoopLaws.{paired-length, wordTo, word-none, flag-turn, word-fits, withVoices, store-none, store-turn, store-all}
 use Rattle.engine.specs.Internal.Sums.{slotHeard, addAll}
 use Rattle.engine.proofs.RenderingLaws.{slot-stays, add-none, add-turn}
-use Rattle.engine.proofs.sums.run_all.Statement.{statement}
-use Rattle.engine.proofs.sums.run_all.Tie as tie
+use Rattle.engine.proofs.adding.run_all.Statement.{statement}
+use Rattle.engine.proofs.adding.run_all.Tie as tie
 
 abbrev Inv-loop : tie.InvT-loop
 Inv-loop e g o ram rom acc₀ n x₀ word₀ i₀ acc x word i =

@@ -14,8 +14,8 @@ use Rattle.arith.proofs.Put.{put2}
 use Rattle.engine.specs.Mixer.{mixed}
 use Rattle.engine.specs.Internal.Sums.{mixedTo}
 use Rattle.engine.proofs.RenderingLaws.{mixed-none, mixed-turn, mixed-length}
-use Rattle.engine.proofs.sums.mix_all.Statement.{statement}
-use Rattle.engine.proofs.sums.mix_all.Tie as tie
+use Rattle.engine.proofs.adding.mix_all.Statement.{statement}
+use Rattle.engine.proofs.adding.mix_all.Tie as tie
 
 abbrev Inv-loop : tie.InvT-loop
 Inv-loop acc out₀ n k₀ out k =
