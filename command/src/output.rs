@@ -45,7 +45,7 @@ fn heed_interruptions() {
 pub fn go_on() -> Result<(), Stop> {
     match INTERRUPTED.load(Ordering::Relaxed) {
         false => Ok(()),
-        true => Err(Stop::Refused("interrupted: nothing was written".to_string())),
+        true => Err(Stop::Refused("interrupted".to_string())),
     }
 }
 
