@@ -22,7 +22,7 @@ struct Row {
 }
 
 // A number of a document, widened.
-fn number(n: u8) -> u32
+pub fn number(n: u8) -> u32
     ensures { λ r. ⌜ r ≡ n ⌝ }
 {
     n as u32
