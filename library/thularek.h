@@ -136,6 +136,11 @@ uint32_t thularek_pitch_bend(thularek *state, uint8_t channel, uint16_t bend);
 uint32_t thularek_render(thularek *state, const int16_t *ram, size_t ram_length, const int16_t *rom,
                          size_t rom_length, float *out, size_t out_length, uint32_t to);
 
+/* As thularek_render, but each number is the sum of voices itself, which a render holds to -2^23..2^23
+ * and multiplies by 2^-23: for a recorder that lowers what would be held. The same numbers and state. */
+uint32_t thularek_sums(thularek *state, const int16_t *ram, size_t ram_length, const int16_t *rom,
+                       size_t rom_length, int32_t *out, size_t out_length, uint32_t to);
+
 /* ---- Songs: Standard MIDI Files of format 0, at most 65,536 bytes. thularek_merge makes such files of
  * those of format 1, which most are. */
 
@@ -255,7 +260,17 @@ uint32_t thularek_wave_heading(uint64_t frames, uint8_t *out, size_t out_length)
 /* Output numbers as bytes of a WAVE file, two for each, to the front of `out`. 0, or 13, 15. */
 uint32_t thularek_wave_pour(const float *numbers, size_t numbers_length, uint8_t *out, size_t out_length);
 
-/* The frames of a file that these two made: its 16-bit numbers go to the front of `out`, and their
+/* Sums of thularek_sums as bytes of a WAVE file, two for each, to the front of `out`: each is lowered by
+ * the attenuation in cB (0: not at all; above 1,440: to 0), and then held to -2^23..2^23. `held` is how
+ * many frames had a sum that was held, `loudest` the largest size of a sum before it was lowered.
+ * 0, or 13, 15; a refusal writes nothing to `out`, and both numbers are 0. */
+uint32_t thularek_wave_sums(const int32_t *sums, size_t sums_length, uint16_t attenuation, uint8_t *out,
+                            size_t out_length, uint32_t *held, uint32_t *loudest);
+
+/* The least attenuation in cB with which no sum of at most this size is held. */
+uint32_t thularek_attenuation_for(uint32_t loudest);
+
+/* The frames of a file that the first two made: its 16-bit numbers go to the front of `out`, and their
  * frames to `frames`. 0, or 28, 15. */
 uint32_t thularek_wave_read(const uint8_t *file, size_t file_length, int16_t *out, size_t out_length,
                             uint32_t *frames);

@@ -38,6 +38,16 @@ extern "C" {
         out_length: usize,
         to: u32,
     ) -> u32;
+    fn thularek_sums(
+        state: *mut Thularek,
+        ram: *const i16,
+        ram_length: usize,
+        rom: *const i16,
+        rom_length: usize,
+        out: *mut i32,
+        out_length: usize,
+        to: u32,
+    ) -> u32;
     fn thularek_song_start(state: *mut Thularek, song: *const u8, song_length: usize) -> u32;
     fn thularek_song_stop(state: *mut Thularek) -> u32;
     fn thularek_song_render(
@@ -126,6 +136,16 @@ extern "C" {
     ) -> u32;
     fn thularek_wave_heading(frames: u64, out: *mut u8, out_length: usize) -> u32;
     fn thularek_wave_pour(numbers: *const f32, numbers_length: usize, out: *mut u8, out_length: usize) -> u32;
+    fn thularek_wave_sums(
+        sums: *const i32,
+        sums_length: usize,
+        attenuation: u16,
+        out: *mut u8,
+        out_length: usize,
+        held: *mut u32,
+        loudest: *mut u32,
+    ) -> u32;
+    fn thularek_attenuation_for(loudest: u32) -> u32;
     fn thularek_wave_read(
         file: *const u8,
         file_length: usize,
@@ -167,6 +187,11 @@ impl Thularek {
     pub fn render(&mut self, ram: &[i16], rom: &[i16], out: &mut [f32], to: u32) -> u32 {
         let (r, o) = (ram.as_ptr(), rom.as_ptr());
         unsafe { thularek_render(self, r, ram.len(), o, rom.len(), out.as_mut_ptr(), out.len(), to) }
+    }
+
+    pub fn sums(&mut self, ram: &[i16], rom: &[i16], out: &mut [i32], to: u32) -> u32 {
+        let (r, o) = (ram.as_ptr(), rom.as_ptr());
+        unsafe { thularek_sums(self, r, ram.len(), o, rom.len(), out.as_mut_ptr(), out.len(), to) }
     }
 
     pub fn song_start(&mut self, song: &[u8]) -> u32 {
@@ -342,6 +367,19 @@ pub fn wave_heading(frames: u64, out: &mut [u8]) -> u32 {
 
 pub fn wave_pour(numbers: &[f32], out: &mut [u8]) -> u32 {
     unsafe { thularek_wave_pour(numbers.as_ptr(), numbers.len(), out.as_mut_ptr(), out.len()) }
+}
+
+/// The number, how many frames were held, and the largest size of a sum before it was lowered.
+pub fn wave_sums(sums: &[i32], attenuation: u16, out: &mut [u8]) -> (u32, u32, u32) {
+    let (mut held, mut loudest) = (0, 0);
+    let (s, o, room) = (sums.as_ptr(), out.as_mut_ptr(), out.len());
+    let number = unsafe { thularek_wave_sums(s, sums.len(), attenuation, o, room, &mut held, &mut loudest) };
+    (number, held, loudest)
+}
+
+/// The least attenuation in cB with which no sum of at most this size is held.
+pub fn attenuation_for(loudest: u32) -> u32 {
+    unsafe { thularek_attenuation_for(loudest) }
 }
 
 /// A file's number and frames.

@@ -104,6 +104,7 @@ pub fn parameters(head: &str) -> (Vec<Parameter>, usize) {
             "&[u8]" => Kind::Shared { element: "u8", lifetime: lifetime(None) },
             "&'a [i16]" => Kind::Shared { element: "i16", lifetime: lifetime(Some("a")) },
             "&mut [f32]" => Kind::Written { element: "f32", lifetime: lifetime(None) },
+            "&mut [i32]" => Kind::Written { element: "i32", lifetime: lifetime(None) },
             _ => fail(&format!("no walk for a parameter {parameter}")),
         };
         found.push(Parameter { name: name.to_string(), kind });
@@ -148,6 +149,10 @@ pub fn exports(root: &Path, module: &str) -> Vec<Export> {
         let name = &rest[..rest.find(['(', '<']).unwrap_or(0)];
         let text = function(&source, name);
         let head = between(text, "(", ")").unwrap_or_else(|| fail(name));
+        // one over bytes or numbers alone needs no walk
+        if !head.contains("state: &") {
+            continue;
+        }
         let (parameters, lifetimes) = parameters(head);
         let body = text.rsplit("\n{\n").next().unwrap_or_else(|| fail(name)).trim();
         let writes = head.contains("state: &mut Flat");
@@ -206,15 +211,20 @@ impl Parameter {
 
     /// What it stands for.
     pub fn denoted(&self) -> String {
-        let list = |element| match element {
-            "u8" => "RefT (List ℕ)",
-            "i16" => "RefT (List ℤ)",
-            _ => "RefT (List Float)",
-        };
         match self.kind {
             Kind::Number { .. } => "ℕ".to_string(),
-            Kind::Shared { element, .. } | Kind::Written { element, .. } => list(element).to_string(),
+            _ => format!("RefT ({})", self.list()),
         }
+    }
+
+    /// What a memory holds.
+    pub fn list(&self) -> String {
+        let element = match self.row().as_str() {
+            "u8" => "ℕ",
+            "i16" | "i32" => "ℤ",
+            _ => "Float",
+        };
+        format!("List {element}")
     }
 
     /// Its machine value.

@@ -53,6 +53,7 @@ fn number_in_c(rattle: &str) -> &'static str {
         "u32" => "uint32_t",
         "u64" => "uint64_t",
         "i16" => "int16_t",
+        "i32" => "int32_t",
         "f32" => "float",
         "usize" => "size_t",
         "Flat" => "thularek",

@@ -262,14 +262,10 @@ pub fn handing_back(export: &Export, names: &[String], reference: [&str; 3]) -> 
 pub fn exit_of_a_writer(export: &Export) -> String {
     let borrow = ["fobs γ (T.the-row .coded .code r)", "fbor κ (Body (mem T.the-row) b o γ)", "flft κ q"];
     let (names, items) = exit_items(export, &borrow);
+    let list = export.written().map(Parameter::list).unwrap_or_default();
+    let left = format!("(zs : {list}) → (r ≡ r′) × (zs ≡ ys′) → length zs ≡ length ys");
     let (more, bound, says, last, length) = match &export.output {
-        Some(_) => (
-            "(zs : List Float) → (r ≡ r′) × (zs ≡ ys′) → length zs ≡ length ys",
-            "zs e l",
-            "(e .0, ap (λ (z : S). z .number) (e .0), e .1)",
-            "zs",
-            "l",
-        ),
+        Some(_) => (left.as_str(), "zs e l", "(e .0, ap (λ (z : S). z .number) (e .0), e .1)", "zs", "l"),
         None => ("r ≡ r′", "e", "(e, ap (λ (z : S). z .number) e)", "tt", "tt"),
     };
     let lasts =

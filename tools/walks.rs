@@ -22,7 +22,7 @@ use std::path::PathBuf;
 use std::process::ExitCode;
 use steps::{answer_type, exit_of_a_reader, exit_of_a_writer, walk_of_a_reader, walk_of_a_writer, LAWS};
 
-const MODULES: [&str; 5] = ["messages", "outputs", "pieces", "questions", "steps"];
+const MODULES: [&str; 6] = ["loudness", "messages", "outputs", "pieces", "questions", "steps"];
 
 const HEAD: &str = "use mathlib.Core.Path.{_≡_, refl, ap}
 use Prim.Native.Nat.{ℕ, _<_, _^_}
@@ -52,7 +52,7 @@ use denote.Laws.{Is, shows}
 use denote.Memory.{mem, partAt}
 use denote.Plain.{uint-vals, uint-tells, uint-makes, uint-lawful}
 use denote.Floats.{float-lawful}
-use denote.Builtin.{u8, u16, u32, i16, f32}
+use denote.Builtin.{u8, u16, u32, i16, i32, f32}
 use denote.Ref.{RefT, MutRef, ShrRef, ptr-vals, mut-tells, shr-tells}
 use denote.Slice.{sliceVal, ShrSlice, MutSlice, Room, finally, slice-vals, shr-slice-tells, shr-slice-lawful, shr-slice-copy, mut-slice-tells}
 use denote.Signature.{plain}
@@ -139,7 +139,7 @@ fn declared(export: &Export) -> String {
         product(&export.handed("List Val", |_| "List Val".to_string()))
     );
     if export.output.is_some() {
-        let last = |it: &Parameter| if it.is_written() { "List Float".to_string() } else { "Unit {0}".to_string() };
+        let last = |it: &Parameter| if it.is_written() { it.list() } else { "Unit {0}".to_string() };
         text += &format!("abbrev Lasts : Type 0\nLasts = {}\n\n", product(&export.handed("Unit {0}", last)));
     }
     text + &format!(
@@ -156,8 +156,8 @@ fn given(export: &Export) -> String {
     for it in export.shared() {
         text += &format!(" ({} : {})", it.name, it.denoted());
     }
-    if export.written().is_some() {
-        text += " (b₁ o₁ : ℕ) (γ₁ : GName) (ys : List Float)";
+    if let Some(it) = export.written() {
+        text += &format!(" (b₁ o₁ : ℕ) (γ₁ : GName) (ys : {})", it.list());
     }
     for it in export.numbers() {
         text += &format!(" ({} : ℕ)", it.name);
@@ -176,14 +176,14 @@ fn named(export: &Export) -> String {
     let mut abbrev =
         |name: &str, kind: &str, term: &str| text += &format!("  abbrev {name} : {kind}\n  {name} = {term}\n\n");
     if let Some(it) = export.written() {
-        abbrev(&it.name, "RefT (List Float)", "record { ptr = (b₁, o₁); name = γ₁; now = ys }");
+        abbrev(&it.name, &it.denoted(), "record { ptr = (b₁, o₁); name = γ₁; now = ys }");
     }
     let name = |it: &Parameter| it.name.clone();
     abbrev("x", "Arg", &nested(&export.each(Some("record { ptr = (b, o); name = γ; now = h }"), name), "tt"));
     abbrev("y", "Given-to", &nested(&export.handed("h", name), "tt"));
     abbrev("r′", if export.writes { "S" } else { answer_type(export) }, &export.result);
-    if let Some(output) = &export.output {
-        abbrev("ys′", "List Float", output);
+    if let (Some(output), Some(it)) = (&export.output, export.written()) {
+        abbrev("ys′", &it.list(), output);
     }
     for it in export.parameters.iter().filter(|it| !it.is_number()) {
         let of = if it.is_shared() {

@@ -68,6 +68,7 @@ typedef struct lent {
     uint8_t *bank, *song;
     int16_t *ram, *rom;
     float *out;
+    int32_t *sums; /* as long as `out` */
     size_t bank_length, song_length, ram_length, rom_length, out_length;
 } lent;
 
@@ -84,6 +85,7 @@ static lent from_files(const char *bank_name, const char *song_name) {
     it.song = file_of(song_name, &it.song_length);
     it.out_length = 8192;
     it.out = guarded(it.out_length * sizeof(float));
+    it.sums = guarded(it.out_length * sizeof(int32_t));
     CHECK(thularek_admit(it.bank, it.bank_length) == THULAREK_DONE);
     return it;
 }
@@ -99,7 +101,7 @@ static uint32_t act(thularek *s, const lent *l, uint32_t which) {
     if (is_step(which))
         return thularek_song_step(s, l->song, l->song_length, l->bank, l->bank_length, l->ram, l->ram_length, l->rom,
                                   l->rom_length);
-    switch (which % 9) {
+    switch (which % 10) {
     case 0: return thularek_note_off(s, channel, first);
     case 1: return thularek_control_change(s, channel, first, second);
     case 2: return thularek_program_change(s, channel, first);
@@ -110,6 +112,7 @@ static uint32_t act(thularek *s, const lent *l, uint32_t which) {
     case 7:
         return thularek_song_render(s, l->song, l->song_length, l->bank, l->bank_length, l->ram, l->ram_length, l->rom,
                                     l->rom_length, l->out, l->out_length, to);
+    case 8: return thularek_sums(s, l->ram, l->ram_length, l->rom, l->rom_length, l->sums, l->out_length, to);
     default:
         return thularek_note_on(s, l->bank, l->bank_length, l->ram, l->ram_length, l->rom, l->rom_length, channel, first,
                                 second);
@@ -215,6 +218,8 @@ static void nothing_lent(void) {
     CHECK(thularek_note_on(&state, NULL, 0, NULL, 0, NULL, 0, 0, 60, 0) == THULAREK_DONE);
     CHECK(thularek_render(&state, NULL, 0, NULL, 0, NULL, 0, 0) == THULAREK_DONE);
     CHECK(thularek_render(&state, NULL, 0, NULL, 0, NULL, 0, 1) == THULAREK_OUTPUT_TOO_SHORT);
+    CHECK(thularek_sums(&state, NULL, 0, NULL, 0, NULL, 0, 0) == THULAREK_DONE);
+    CHECK(thularek_sums(&state, NULL, 0, NULL, 0, NULL, 0, 1) == THULAREK_OUTPUT_TOO_SHORT);
     CHECK(thularek_song_start(&state, NULL, 0) == THULAREK_SONG_MALFORMED);
     CHECK(thularek_song_render(&state, NULL, 0, NULL, 0, NULL, 0, NULL, 0, NULL, 0, 0) == THULAREK_DONE);
     CHECK(thularek_song_step(&state, NULL, 0, NULL, 0, NULL, 0, NULL, 0) == THULAREK_DONE);
@@ -223,7 +228,7 @@ static void nothing_lent(void) {
 
 static void no_files(void) {
     size_t a = 1, b = 1, c = 1, d = 1, place = 1;
-    uint32_t at = 1, frames = 1;
+    uint32_t at = 1, frames = 1, held = 1, loudest = 1;
     uint16_t program = 1, bank = 1;
     CHECK(thularek_font(NULL, 0, &a, &b, &c, &d, &place) == THULAREK_FONT_NO_FORM && !a && !b && !c && !d && !place);
     CHECK(thularek_admit(NULL, 0) == THULAREK_BANK_NOT_ADMITTED);
@@ -237,6 +242,7 @@ static void no_files(void) {
     CHECK(thularek_merge(NULL, 0, NULL, 0, &a, &at) == THULAREK_SONG_MALFORMED && !a && at == 0);
     CHECK(thularek_wave_heading(1, NULL, 0) == THULAREK_WAVE_NO_ROOM);
     CHECK(thularek_wave_pour(NULL, 0, NULL, 0) == THULAREK_DONE);
+    CHECK(thularek_wave_sums(NULL, 0, 0, NULL, 0, &held, &loudest) == THULAREK_DONE && !held && !loudest);
     CHECK(thularek_wave_read(NULL, 0, NULL, 0, &frames) == THULAREK_WAVE_OTHER_FILE && frames == 0);
 }
 
@@ -327,6 +333,44 @@ static void stepped(const lent *l) {
     }
 }
 
+/* Sums are what a render holds, and poured at attenuation 0 they give its bytes. With the attenuation for the loudest of them,
+ * or with more, none is held; a refusal writes nothing. */
+static void sums(const lent *l) {
+    thularek state, copy;
+    uint8_t *room = guarded(65536), *another = guarded(65536);
+    thularek_init(&state);
+    for (uint8_t key = 0; key < 128; key += 4)
+        thularek_note_on(&state, l->bank, l->bank_length, l->ram, l->ram_length, NULL, 0, 0, key, 127);
+    for (uint32_t n = 0; n < 40; n++) {
+        uint32_t frames = n < 20 ? n : chance() % 4097, to = thularek_clock(&state) + frames, held, loudest, most = 0;
+        size_t count = 2 * (size_t)frames, short_by = count ? 1 + chance() % count : 0;
+        uint8_t *bytes = room + 65536 - 2 * count, *others = another + 65536 - 2 * count;
+        copy = state;
+        memset(l->sums, 0x5a, l->out_length * sizeof(int32_t));
+        CHECK(thularek_render(&state, l->ram, l->ram_length, NULL, 0, l->out, l->out_length, to) == THULAREK_DONE);
+        CHECK(thularek_sums(&copy, l->ram, l->ram_length, NULL, 0, l->sums, l->out_length, to) == THULAREK_DONE);
+        CHECK(same(&state, &copy, 0, 0));
+        for (size_t i = 0; i < l->out_length; i++) {
+            int32_t z = l->sums[i], k = z < -8388608 ? -8388608 : z > 8388608 ? 8388608 : z;
+            CHECK(i < count ? l->out[i] == (float)k / 8388608 : z == 0x5a5a5a5a);
+            uint32_t size = z < 0 ? 0 - (uint32_t)z : (uint32_t)z;
+            if (i < count && most < size) most = size;
+        }
+        CHECK(thularek_wave_pour(l->out, count, others, 2 * count) == THULAREK_DONE);
+        CHECK(thularek_wave_sums(l->sums, count, 0, bytes, 2 * count, &held, &loudest) == THULAREK_DONE);
+        CHECK(memcmp(bytes, others, 2 * count) == 0 && loudest == most && (held == 0) == (most <= 8388608));
+        uint32_t least = thularek_attenuation_for(most);
+        CHECK(thularek_wave_sums(l->sums, count, (uint16_t)least, bytes, 2 * count, &held, &loudest) == THULAREK_DONE && !held);
+        int32_t deep[2] = {(int32_t)(0 - most), 0};
+        CHECK(least == 0 || (thularek_wave_sums(deep, 2, (uint16_t)(least - 1), bytes, 4, &held, &loudest) == 0 && held == 1));
+        memset(bytes, 0x5a, 2 * count);
+        CHECK(!count || thularek_wave_sums(l->sums, count, 0, bytes, 2 * count - short_by, &held, &loudest) == THULAREK_WAVE_NO_ROOM);
+        CHECK(!count || thularek_wave_sums(l->sums, count - 1, 0, bytes, 2 * count, &held, &loudest) == THULAREK_WAVE_NUMBERS);
+        for (size_t i = 0; count && i < 2 * count; i++) CHECK(bytes[i] == 0x5a && !held && !loudest);
+    }
+    for (uint32_t i = 0; i < 1000; i++) CHECK(thularek_attenuation_for(chance()) <= 1000);
+}
+
 static void messages(void) {
     static const char *unknown = "no such number";
     for (uint32_t number = 0; number < 300; number++) {
@@ -346,6 +390,7 @@ int main(int count, char **words) {
     no_files();
     outputs(&l);
     stepped(&l);
+    sums(&l);
     room_is_left(&l);
     any_file(l.bank, l.bank_length < 65536 ? l.bank_length : 65536, states / 2);
     any_file(l.song, l.song_length < 65536 ? l.song_length : 65536, states / 2);

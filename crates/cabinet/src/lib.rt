@@ -2,6 +2,7 @@
 // What C keeps is a flat twin of the player's state, with no enum and no bool in it: any bytes there are a legal state.
 mod files;
 mod keeping;
+mod loudness;
 mod messages;
 mod outputs;
 mod pieces;
@@ -19,6 +20,9 @@ pub use files::thularek_song_test;
 pub use files::thularek_wave_heading;
 pub use files::thularek_wave_pour;
 pub use files::thularek_wave_read;
+pub use loudness::thularek_attenuation_for;
+pub use loudness::thularek_sums;
+pub use loudness::thularek_wave_sums;
 pub use messages::thularek_control_change;
 pub use messages::thularek_note_off;
 pub use messages::thularek_note_on;
