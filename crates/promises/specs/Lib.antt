@@ -11,4 +11,5 @@ pub mod Controls
 pub mod Demand3
 pub mod States
 pub mod OneFile
+pub mod Sheets
 pub mod Determined
