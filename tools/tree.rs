@@ -313,15 +313,17 @@ impl Tree {
         self.follow(krate, &passed?.1)
     }
 
-    /// All functions that a host may call: what the roots of engine, wave, riff, player and cabinet pass on, bank's admission,
-    /// reader's public ones, and those of the roots of smf and merge.
+    /// All functions that a host may call: what the roots of engine, wave, riff, player and cabinet pass on, what is asked of a
+    /// bank's bytes alone, reader's public ones, and those of the roots of smf and merge.
     pub fn host_functions(&self, lost: &mut Vec<String>) -> Vec<(&Source, &Function)> {
         let mut found = Vec::new();
-        let admission = (true, vec!["bank".to_string(), "admission".to_string()]);
+        let of_bytes = [("bank", "admission"), ("bank", "past_memory"), ("layers", "preset_sheet")];
+        let beside = of_bytes.map(|(krate, name)| (true, vec![krate.to_string(), name.to_string()]));
         for krate in ["engine", "wave", "riff", "player", "cabinet"] {
             let root = self.sources.iter().find(|source| source.krate == krate && source.module == "lib");
             let passed = root.iter().flat_map(|root| &root.paths).filter(|(public, _)| *public);
-            for (_, path) in passed.chain((krate == "engine").then_some(&admission)) {
+            let others = beside.iter().filter(|_| krate == "engine");
+            for (_, path) in passed.chain(others) {
                 match self.follow(krate, path) {
                     Some(functions) => found.extend(functions),
                     None => lost.push(format!("crates/{krate}/src/lib.rt: {} leads nowhere", path.join("::"))),

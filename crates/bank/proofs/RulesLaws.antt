@@ -92,7 +92,7 @@ below-nothing b s p (suc n) e h k l m =
     here i f = first-nothing (p h) (bagOf b s h) (zoneCount b s h) (rw i f) k m
 
 -- what holds of no zone does not hold of a sounding one
-no-zone : (b : List ℕ) (s : Side) (p : ℕ → ℕ → Bool) → firstZone b s p ≡ Nothing → (h z : ℕ) → Sounding b s h z → p h z ≡ false
+pub no-zone : (b : List ℕ) (s : Side) (p : ℕ → ℕ → Bool) → firstZone b s p ≡ Nothing → (h z : ℕ) → Sounding b s h z → p h z ≡ false
 unfolding firstZone zoneCount
 no-zone b s p e h z w =
     let at : bagOf b s h + (z - bagOf b s h) ≡ z = omega (arith, w .low) in

@@ -23,6 +23,8 @@ use Rattle.layers.specs.declared.Pair.{Pair}
 use Rattle.records.proofs.LookingLaws.{first-is}
 use Rattle.records.specs.declared.Found.the-variants.{At, Nothing}
 use Rattle.bank.specs.Admission.{admitted}
+use Rattle.bank.specs.Past.{pastMemory}
+use Rattle.bank.proofs.PastLaws.{none-past}
 use Rattle.records.specs.declared.Found.{Found}
 use Rattle.layers.proofs.StruckLaws.{struck-none, struck-some}
 
@@ -41,6 +43,10 @@ pub record GoodVoice (channel key velocity : ℕ) (v : Voice) : Type 0 where
   pub high : v .end < 4294967296
   pub loop-some : loops (v .mode) ≡ true → v .loopfrom < v .loopto
   pub loop-high : loops (v .mode) ≡ true → v .loopto ≤ v .end - v .start
+
+-- its window ends within a memory of so many samples
+abbrev pub Inside : ℕ → ℕ → Voice → Type 0
+Inside ram rom v = v .end ≤ cond (v .rom) rom ram
 
 -- P of each of a list
 module _ {A : Type 0} (P : A → Type 0) where
@@ -166,23 +172,40 @@ module _ (b : List ℕ) (a : Admitted b) where
         loop-high = λ e. omega (arith, w .loop-low (play-loops _ e), w .loop-some (play-loops _ e), w .loop-high (play-loops _ e));
       }
 
-  -- the voices of a preset
-  pub voices-good : (h channel key velocity : ℕ) → h + 1 < p .nheads → All (GoodVoice channel key velocity) (voicesOf b (partsOf b) h channel key velocity)
+  -- what is true of the voice of each layer is true of the voices of a preset
+  voices-each : (Q : Voice → Type 0) (h channel key velocity : ℕ) → ((l : Pair) → Layered l → Q (voiceOf b (partsOf b) h channel key velocity l)) → h + 1 < p .nheads → All Q (voicesOf b (partsOf b) h channel key velocity)
   unfolding voicesOf layersOf
-  voices-good h channel key velocity head =
+  voices-each Q h channel key velocity each head =
       let ls = layersBelow b p i key velocity h (zoneCount b p h) in
       let all = below-sounds key velocity h (zoneCount b p h) head (le-refl (zoneCount b p h)) in
-      all-map Layered (GoodVoice channel key velocity) (voiceOf b (partsOf b) h channel key velocity) (good-voice h channel key velocity) (take 33 ls) (all-take Layered 33 ls all)
+      all-map Layered Q (voiceOf b (partsOf b) h channel key velocity) each (take 33 ls) (all-take Layered 33 ls all)
+
+  -- a layer's voice ends within its memory
+  inside-voice : (ram rom : ℕ) → admitted b ≡ true → pastMemory b ram rom ≡ Nothing → (h channel key velocity : ℕ) (l : Pair) → Layered l → Inside ram rom (voiceOf b (partsOf b) h channel key velocity l)
+  unfolding voiceOf voiceBy layerOf
+  inside-voice ram rom ok none h channel key velocity l s = none-past b ram rom ok none (zoneAt b p (l .outer) .link) (l .inner) s
 
 -- a preset that is found is not the terminal record
 pub preset-in : (b : List ℕ) (bank program h : ℕ) → presetFor b (partsOf b) bank program ≡ At h → h + 1 < partsOf b .presets .nheads
 unfolding presetFor
 preset-in b bank program h e = let t = first-is (isPreset b (partsOf b) bank program) 0 (partsOf b .presets .nheads - 1) h e in omega (arith, t .high)
 
--- every voice that an admitted bank starts
-pub struck-good : (b : List ℕ) → admitted b ≡ true → (bank program channel key velocity : ℕ) → All (GoodVoice channel key velocity) (struckVoices b bank program channel key velocity)
-struck-good b ok bank program channel key velocity = by (presetFor b (partsOf b) bank program) refl
+-- what is true of the voice of each layer is true of every voice that an admitted bank starts
+struck-each : (b : List ℕ) → admitted b ≡ true → (Q : Voice → Type 0) (bank program channel key velocity : ℕ)
+    → ((h : ℕ) (l : Pair) → Sounding b (partsOf b .instruments) (zoneAt b (partsOf b .presets) (l .outer) .link) (l .inner) → Q (voiceOf b (partsOf b) h channel key velocity l))
+    → All Q (struckVoices b bank program channel key velocity)
+struck-each b ok Q bank program channel key velocity each = by (presetFor b (partsOf b) bank program) refl
   where
-    by : (f : Found) → presetFor b (partsOf b) bank program ≡ f → All (GoodVoice channel key velocity) (struckVoices b bank program channel key velocity)
+    by : (f : Found) → presetFor b (partsOf b) bank program ≡ f → All Q (struckVoices b bank program channel key velocity)
     by Nothing e = rw (struck-none b bank program e channel key velocity) tt
-    by (At h) e = rw (struck-some b bank program h e channel key velocity) (voices-good b (admitted-rules b ok) h channel key velocity (preset-in b bank program h e))
+    by (At h) e = rw (struck-some b bank program h e channel key velocity) (voices-each b (admitted-rules b ok) Q h channel key velocity (each h) (preset-in b bank program h e))
+
+-- every voice that an admitted bank starts is good
+pub struck-good : (b : List ℕ) → admitted b ≡ true → (bank program channel key velocity : ℕ) → All (GoodVoice channel key velocity) (struckVoices b bank program channel key velocity)
+struck-good b ok bank program channel key velocity =
+    struck-each b ok (GoodVoice channel key velocity) bank program channel key velocity (λ h l s. good-voice b (admitted-rules b ok) h channel key velocity l s)
+
+-- and ends within its memory, where no window past its memory is found
+pub struck-inside : (b : List ℕ) (ram rom : ℕ) → admitted b ≡ true → pastMemory b ram rom ≡ Nothing → (bank program channel key velocity : ℕ) → All (Inside ram rom) (struckVoices b bank program channel key velocity)
+struck-inside b ram rom ok none bank program channel key velocity =
+    struck-each b ok (Inside ram rom) bank program channel key velocity (λ h l s. inside-voice b (admitted-rules b ok) ram rom ok none h channel key velocity l s)

@@ -12,6 +12,10 @@ use Rattle.bank.specs.Admission.{faultOf, faultNumber, admitted}
 use Rattle.bank.specs.declared.Listed.{Listed}
 use Rattle.bank.specs.Listing.{listed}
 use Rattle.bank.specs.declared.Fault.{Fault}
+use Rattle.bank.specs.Past.{pastMemory}
+use Rattle.layers.specs.declared.Sheet.{Sheet}
+use Rattle.layers.specs.Spans.{sheetOf}
+use Rattle.records.specs.declared.Found as RecordsFound
 use Rattle.reader.specs.declared.Opened.{Opened}
 use Rattle.reader.specs.Reader.{openedOf, nextOf, nthListed}
 use Rattle.reader.specs.declared.Taken.{Taken}
@@ -77,6 +81,13 @@ number-of-determined f = equation ℕ (faultNumber f)
 
 pub admitted-determined : D.AdmittedDetermined
 admitted-determined bank = equation Bool (admitted bank)
+
+pub past-memory-determined : D.PastMemoryDetermined
+past-memory-determined bank ram rom = equation RecordsFound.Found (pastMemory bank ram rom)
+
+-- ---- layers
+pub preset-sheet-determined : D.PresetSheetDetermined
+preset-sheet-determined bank place = equation Sheet (sheetOf bank place)
 
 -- ---- reader
 pub open-determined : D.OpenDetermined

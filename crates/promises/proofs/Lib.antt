@@ -21,6 +21,7 @@ pub mod Panel
 pub mod Pedal
 pub mod Runs
 pub mod Seats
+pub mod Sheets
 pub mod States
 pub mod StatesExample
 pub mod Voices

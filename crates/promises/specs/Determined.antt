@@ -16,6 +16,9 @@ use Rattle.bank.specs.Admission.{faultOf, faultNumber, admitted}
 use Rattle.bank.specs.declared.Listed.{Listed}
 use Rattle.bank.specs.Listing.{listed}
 use Rattle.bank.specs.declared.Fault.{Fault}
+use Rattle.bank.specs.Past.{pastMemory}
+use Rattle.layers.specs.declared.Sheet.{Sheet}
+use Rattle.layers.specs.Spans.{sheetOf}
 use Rattle.reader.specs.declared.Opened.{Opened}
 use Rattle.reader.specs.Reader.{openedOf, nextOf, nthListed, further}
 use Rattle.reader.specs.declared.Reader.{Reader}
@@ -51,6 +54,7 @@ use Rattle.wave.specs.Recording.{writeNumber, recorded}
 use Rattle.wave.specs.Playback.{heardOf, replayed}
 use Rattle.wave.specs.Lowering.{attenuationFor, sumsInto, sumsPoured}
 use Rattle.records.specs.Memory.{partOf}
+use Rattle.records.specs.declared.Found as RecordsFound
 use Rattle.state.specs.Board as StateBoard
 use Rattle.state.specs.Quiet as StateQuiet
 
@@ -135,6 +139,18 @@ NumberOfDetermined = (f : Fault) → Settles ℕ (λ r. r ≡ faultNumber f)
 -- contract of bank::admitted(bank)
 abbrev pub AdmittedDetermined : Type 0
 AdmittedDetermined = (bank : List ℕ) → Settles Bool (λ r. r ≡ admitted bank)
+
+-- the 53 of the first zone whose window ends past a memory of so many samples, or nothing
+-- contract of bank::past_memory(bank, ram, rom)
+abbrev pub PastMemoryDetermined : Type 0
+PastMemoryDetermined = (bank : List ℕ) (ram rom : ℕ) → Settles RecordsFound.Found (λ r. r ≡ pastMemory bank ram rom)
+
+-- ---- layers
+
+-- what is told of the preset at a place
+-- contract of layers::preset_sheet(bank, place)
+abbrev pub PresetSheetDetermined : Type 0
+PresetSheetDetermined = (bank : List ℕ) (place : ℕ) → Settles Sheet (λ r. r ≡ sheetOf bank place)
 
 -- ---- reader
 

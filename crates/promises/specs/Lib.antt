@@ -12,4 +12,5 @@ pub mod Demand3
 pub mod States
 pub mod OneFile
 pub mod Measured
+pub mod Sheets
 pub mod Determined
