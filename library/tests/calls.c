@@ -165,7 +165,7 @@ static int same(const thularek *one, const thularek *other, size_t but, size_t b
 }
 
 /* One call by chance on a state and on a copy of it: both get the same number, which is the first in the state, and are the same
- * after it. A refusal changes the last call's four numbers alone; a refused event is behind its song, too. */
+ * after it. A refusal changes the last call's four numbers alone; after a refused step the song is behind its event, too. */
 static void act_twice(thularek *s, thularek *copy, const lent *l, int settled) {
     thularek before = *s;
     uint32_t which = chance(), first;

@@ -17,7 +17,7 @@ fn count_in(s: Flat) -> u32
     s.count
 }
 
-// The last call's count: the voices that a message started, let off or changed, or the events that a song's render applied.
+// The last call's count: the voices that a message started, let off or changed, or the events that a song's render or step applied.
 #[no_mangle]
 pub extern "C" fn thularek_count(state: &Flat) -> u32
     ensures { λ r. ⌜ r ≡ now (state .entry) .count ⌝ }
@@ -32,7 +32,7 @@ fn refused_in(s: Flat) -> u32
     s.refused
 }
 
-// The refused events among those that the last render of a song applied.
+// The refused events among those that the last render of a song, or a step, applied.
 #[no_mangle]
 pub extern "C" fn thularek_refused(state: &Flat) -> u32
     ensures { λ r. ⌜ r ≡ now (state .entry) .refused ⌝ }

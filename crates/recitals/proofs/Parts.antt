@@ -243,6 +243,24 @@ module _ (song bank : List ℕ) (ram rom : List ℤ) where
   unfolding forward
   forward-player n p = refl
 
+  -- the player behind them
+  alone-player : (n most : ℕ) (out : List Float) (p : Player) → Bounded p → 0 < n → n ≤ gapOf p most → distance (p .engine) (ahead (p .engine) n) ≡ n
+      → does (Render (ahead (p .engine) n) ram rom out) (p .engine) .status ≡ 0
+      → nextTurn (Direct (Render (ahead (p .engine) n) ram rom out)) p ≡ performed song bank ram rom n (opened p) .player
+  alone-player n most out p b some near d ok =
+      ap (withEngine p) (own-state n out (p .engine) some d ok) ∙ sym (forward-player n p)
+      ∙ sym (ap (λ (u : Tally). u .player) (quiet-frames n p b (within-gap n most p some near)))
+
+  -- frames of the engine's own within the gap, in front of t more
+  pub alone-gives : (n t most : ℕ) (out : List Float) (xs : List Turn) (p : Player) → Bounded p → 0 < n → n ≤ gapOf p most → distance (p .engine) (ahead (p .engine) n) ≡ n
+      → does (Render (ahead (p .engine) n) ram rom out) (p .engine) .status ≡ 0 → Gives xs (nextTurn (Direct (Render (ahead (p .engine) n) ram rom out)) p) t
+      → Gives (Direct (Render (ahead (p .engine) n) ram rom out) ∷ xs) p (n + t)
+  alone-gives n t most out xs p b some near d ok g =
+      let quiet = within-gap n most p some near in
+      let frames = quiet-frames n p b quiet in
+      behind n t (Direct (Render (ahead (p .engine) n) ram rom out)) xs p (alone-player n most out p b some near d ok) (own-numbers n out (p .engine) d ok ∙ sym (quiet-numbers n p b quiet))
+      (sym (ap (λ (u : Tally). u .applied) frames ∙ forward-none-counted n p .0)) (sym (ap (λ (u : Tally). u .refused) frames ∙ forward-none-counted n p .1)) g
+
   -- ---- an event that is due
 
   -- n frames behind it are those in front of it
@@ -263,7 +281,7 @@ module _ (song bank : List ℕ) (ram rom : List ℤ) where
       (ap (λ (x : Stepped). x .applied) s, ap (λ (x : Stepped). refusal (x .number)) s ∙ sym (zero-add _))
 
   -- a step over an event that is due, in front of n frames
-  step-gives : (n : ℕ) (xs : List Turn) (p : Player) → 0 < n → isDue p ≡ true → Gives xs (nextTurn (Step song bank ram rom) p) n → Gives (Step song bank ram rom ∷ xs) p n
+  pub step-gives : (n : ℕ) (xs : List Turn) (p : Player) → 0 < n → isDue p ≡ true → Gives xs (nextTurn (Step song bank ram rom) p) n → Gives (Step song bank ram rom ∷ xs) p n
   unfolding runTurns numbersTurns appliedTurns refusedTurns
   step-gives n xs p some due g =
       let y = applying song bank ram rom (opened p) in
@@ -315,16 +333,12 @@ module _ (song bank : List ℕ) (ram rom : List ℤ) where
       let r = part-done n out p h c (omega arith) room in
       let ok : does (Render (ahead e n) ram rom out) e .status ≡ 0 = render-number song bank ram rom (ahead e n) out e ∙ r .0 in
       let bounded : Bounded p = record { clock = h; began = b; frame = f } in
-      let quiet = within-gap n most p some near in
-      let frames = quiet-frames n p bounded quiet in
-      let same : nextTurn (Direct (Render (ahead e n) ram rom out)) p ≡ performed song bank ram rom n (opened p) .player =
-      ap (withEngine p) (own-state n out e some (r .1) ok) ∙ sym (forward-player n p) ∙ sym (ap (λ (u : Tally). u .player) frames) in
+      let same = alone-player n most out p bounded some near (r .1) ok in
       let w = frames-go ram rom song bank n (opened p) h c in
       let t : nextTurn (Direct (Render (ahead e n) ram rom out)) p .engine .clock < 4294967296 = rw (ap (λ (u : Player). u .engine .clock) same) (omega (arith, w .clock)) in
       let g = any-parts xs ns (nextTurn (Direct (Render (ahead e n) ram rom out)) p) q t (subst (λ (u : Player). Clear ram rom (u .engine)) (sym same) (w .clear)) (omega arith) in (
         (ok, g .0),
-        behind n (together ns) (Direct (Render (ahead e n) ram rom out)) xs p same (own-numbers n out e (r .1) ok ∙ sym (quiet-numbers n p bounded quiet))
-            (sym (ap (λ (u : Tally). u .applied) frames ∙ forward-none-counted n p .0)) (sym (ap (λ (u : Tally). u .refused) frames ∙ forward-none-counted n p .1)) (g .1),
+        alone-gives n (together ns) most out xs p bounded some near (r .1) ok (g .1),
       )
   any-parts (x ∷ xs) ns p (stepped due some q) h c k =
       let a = applying-acts ram rom song bank (opened p) in

@@ -10,7 +10,7 @@ use native.Mathlib.Omega.{arith}
 use borrow.Author.Tests.{eqb-true, eqb-false, ltb-true, ltb-false, lt-ltb, le-ltb, le-leb, lt-leb, eq-eqb, ne-eqb}
 use lib.Dec.{eqb, ltb}
 use lib.IntN.{ℤ}
-use lib.Ieee.{Float}
+use lib.Ieee.{Float, nan}
 use lib.ListN.{length, length-append}
 use Rattle.smf.specs.declared.Cursor.{Cursor}
 use Rattle.smf.specs.declared.Event.{Event}
@@ -32,15 +32,15 @@ use Rattle.player.specs.declared.Tally.{Tally}
 use Rattle.player.specs.Acting.{heeded}
 use Rattle.player.specs.Cues.{withEngine, coming, cued, since, isDue}
 use Rattle.player.specs.Playing.{opened, forward, applying, caughtUp, prepared, performed, numbers, ticked}
-use Rattle.promises.specs.Calls.{Call, run}
+use Rattle.promises.specs.Calls.{Call, Render, run}
 use Rattle.promises.specs.Cuts.{numbersOf, ahead}
-use Rattle.recitals.specs.Turns.{Turn, Start, Play, nextTurn, hushCalls, freshCalls, oneFrame, dueCalls, runTurns, numbersTurns, appliedTurns, refusedTurns}
-use Rattle.recitals.specs.Recital.{eventsAt, eventsBefore, frameByFrame, callsFor, recital, startedCalls, Plays, rests, waits, plays, SongIsPlayed, EachOnce, AllInAnHour}
+use Rattle.recitals.specs.Turns.{Turn, Start, Play, Step, Direct, nextTurn, hushCalls, freshCalls, oneFrame, dueCalls, runTurns, numbersTurns, appliedTurns, refusedTurns}
+use Rattle.recitals.specs.Recital.{eventsAt, eventsBefore, frameByFrame, callsFor, recital, startedCalls, Plays, rests, waits, plays, goes-alone, steps-over, SongIsPlayed, EachOnce, AllInAnHour}
 use Rattle.promises.proofs.EachSlot.{never}
 use Rattle.recitals.proofs.Clocks.{Clear}
 use Rattle.recitals.proofs.Acts.{Leads, no-calls, joined, relead, hushes, freshens, hush-clock, freshen-clock, applying-acts, caught-acts, cued-engine, frame-leads, frame-clock, frames-go}
-use Rattle.recitals.proofs.Parts.{after-cut, numbers-cut, Gives, behind, idle-gives}
-use Rattle.recitals.proofs.Turns.{start-done, play-done, play-number, play-numbers, done-clear}
+use Rattle.recitals.proofs.Parts.{after-cut, numbers-cut, Gives, behind, idle-gives, alone-gives, step-gives}
+use Rattle.recitals.proofs.Turns.{start-done, play-done, play-number, play-numbers, render-number, done-clear}
 use Rattle.player.specs.Pauses.{readied, hushedTo}
 use Rattle.promises.proofs.Moments.{no-frame}
 
@@ -434,6 +434,11 @@ module _ (song bank : List ℕ) (ram rom : List ℤ) (vs : List Event) (is : eve
 
 -- ---- the turns that play it
 
+-- the way to a clock value that is m frames ahead
+ahead-far : (e : Engine) (m : ℕ) → e .clock < 4294967296 → m ≤ 4096 → distance e (ahead e m) ≡ m
+unfolding distance
+ahead-far e m h k = omega arith
+
 module _ (song bank : List ℕ) (ram rom : List ℤ) where
   -- they are frames one behind the other
   pub plays-give : (ts : List Turn) (n : ℕ) (p : Player) → Plays song bank ram rom ts n p → Gives song bank ram rom ts p n
@@ -446,12 +451,21 @@ module _ (song bank : List ℕ) (ram rom : List ℤ) where
       behind song bank ram rom (distance (p .engine) to) n (Play song bank ram rom to out) ts p (ap (λ (a : Answer). a .player) d)
       (play-numbers song bank ram rom to out p z) (ap (λ (a : Answer). a .applied) d) (ap (λ (a : Answer). a .refused) d)
       (plays-give ts n (nextTurn (Play song bank ram rom to out) p) q)
+  plays-give (x ∷ ts) _ p (goes-alone {n = n} m most out some near few c b f ok q) =
+      alone-gives song bank ram rom m n most out ts p (record { clock = c; began = b; frame = f }) some near (ahead-far (p .engine) m c few) ok
+      (plays-give ts n (nextTurn (Direct (Render (ahead (p .engine) m) ram rom out)) p) q)
+  plays-give (x ∷ ts) n p (steps-over due some ok q) =
+      step-gives song bank ram rom n ts p some due (plays-give ts n (nextTurn (Step song bank ram rom) p) q)
 
   -- and where there is a frame, no window ends past its memory before them
   pub plays-clear : (ts : List Turn) (n : ℕ) (p : Player) → Plays song bank ram rom ts n p → 0 < n → Clear ram rom (p .engine)
   plays-clear [] _ p rests h = absurd (no-frame h)
   plays-clear (x ∷ ts) n p (waits y s f q) h = plays-clear ts n p q h
   plays-clear (x ∷ ts) _ p (plays to out ok q) h = done-clear song bank ram rom to out (p .engine) (sym (play-number song bank ram rom to (length out) p) ∙ ok)
+  plays-clear (x ∷ ts) _ p (goes-alone m most out some near few c b f ok q) h =
+      done-clear song bank ram rom (ahead (p .engine) m) out (p .engine) (sym (render-number song bank ram rom (ahead (p .engine) m) out (p .engine)) ∙ ok)
+  plays-clear (x ∷ ts) _ p (steps-over due some ok q) h =
+      done-clear song bank ram rom (ahead (p .engine) 1) (nan ∷ nan ∷ []) (p .engine) (sym (play-number song bank ram rom (ahead (p .engine) 1) 2 p) ∙ ok)
 
 -- ---- a song that is started
 

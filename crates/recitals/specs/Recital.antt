@@ -1,5 +1,5 @@
 -- A song that is started and played, however its renders are cut: each of the file's events once, in order, at its frame.
-use Prim.Native.Nat.{ℕ, zero, suc, _+_, _%_, _<_}
+use Prim.Native.Nat.{ℕ, zero, suc, _+_, _%_, _<_, _≤_}
 use mathlib.Core.Bool.{cond, true}
 use mathlib.Core.List.{List, [], _∷_, _++_}
 use mathlib.Core.Path.{_≡_}
@@ -12,10 +12,11 @@ use Rattle.smf.specs.Track.{Events}
 use Rattle.smf.specs.Songs.{eventsOf}
 use Rattle.engine.specs.Rendering.{distance}
 use Rattle.player.specs.declared.Player.{Player}
+use Rattle.player.specs.Cues.{isDue, gapOf}
 use Rattle.player.specs.Playing.{answered}
-use Rattle.promises.specs.Calls.{Call, run}
+use Rattle.promises.specs.Calls.{Call, Render, does, run}
 use Rattle.promises.specs.Cuts.{ahead, numbersOf}
-use Rattle.recitals.specs.Turns.{Turn, Start, Play, nextTurn, framesOfTurn, hushCalls, freshCalls, callOf, oneFrame, runTurns, numbersTurns, appliedTurns}
+use Rattle.recitals.specs.Turns.{Turn, Start, Play, Step, Direct, nextTurn, framesOfTurn, hushCalls, freshCalls, callOf, oneFrame, runTurns, numbersTurns, appliedTurns}
 
 -- ---- the run of calls that a song names
 
@@ -52,7 +53,9 @@ startedCalls bank ram rom vs began n = (hushCalls 16 ++ freshCalls 16) ++ recita
 
 -- ---- the turns that play it
 
--- done renders of one song, with one bank and the same memories, that have n frames together; any turn that changes nothing and renders nothing may come between
+-- done renders of one song, with one bank and the same memories, that have n frames together; any turn that changes nothing and renders nothing may come between.
+-- Frames within the gap up to the next event may be a done render of the engine's own; and an event that is due may be stepped over, where frames are left behind it
+-- and a render of one frame would be done. (The numbers of a song, and a clock, have 32 bits.)
 pub data Plays (song bank : List ℕ) (ram rom : List ℤ) : List Turn → ℕ → Player → Type 0 where
   rests : {p : Player} → Plays song bank ram rom [] 0 p
   waits : {xs : List Turn} {n : ℕ} {p : Player} (x : Turn) → nextTurn x p ≡ p → framesOfTurn x p ≡ 0 → Plays song bank ram rom xs n p
@@ -60,6 +63,13 @@ pub data Plays (song bank : List ℕ) (ram rom : List ℤ) : List Turn → ℕ �
   plays : {xs : List Turn} {n : ℕ} {p : Player} (to : ℕ) (out : List Float) → answered song bank ram rom to (length out) p .number ≡ 0
       → Plays song bank ram rom xs n (nextTurn (Play song bank ram rom to out) p)
       → Plays song bank ram rom (Play song bank ram rom to out ∷ xs) (distance (p .engine) to + n) p
+  goes-alone : {xs : List Turn} {n : ℕ} {p : Player} (m most : ℕ) (out : List Float) → 0 < m → m ≤ gapOf p most → m ≤ 4096
+      → p .engine .clock < 4294967296 → p .began < 4294967296 → p .event .frame < 4294967296
+      → does (Render (ahead (p .engine) m) ram rom out) (p .engine) .status ≡ 0
+      → Plays song bank ram rom xs n (nextTurn (Direct (Render (ahead (p .engine) m) ram rom out)) p)
+      → Plays song bank ram rom (Direct (Render (ahead (p .engine) m) ram rom out) ∷ xs) (m + n) p
+  steps-over : {xs : List Turn} {n : ℕ} {p : Player} → isDue p ≡ true → 0 < n → answered song bank ram rom (ahead (p .engine) 1) 2 p .number ≡ 0
+      → Plays song bank ram rom xs n (nextTurn (Step song bank ram rom) p) → Plays song bank ram rom (Step song bank ram rom ∷ xs) n p
 
 -- n frames of a song with the events vs: state and numbers are those of its run of calls; the clock is n frames on; as many events are applied as have a frame
 -- below n; and the song is over exactly when these are all
