@@ -1,22 +1,24 @@
 -- The promises of the C library: each turn leaves its player in C's memory, by the law there and back.
+use Prim.Native.Nat.{ℕ}
 use mathlib.Core.List.{List, [], _∷_}
 use mathlib.Core.Path.{_≡_, refl, ap, sym, subst, _∙_}
 use lib.Ieee.{Float}
 use lib.ListN.{length}
 use Rattle.smf.specs.Songs.{testOf}
+use Rattle.engine.specs.Rendering.{render}
 use Rattle.player.specs.declared.Player.{Player}
 use Rattle.player.specs.Cues.{idle, withEngine}
 use Rattle.player.specs.Pauses.{started, stopped}
 use Rattle.player.specs.Playing.{answered}
 use Rattle.cabinet.specs.declared.Flat.{Flat}
-use Rattle.cabinet.specs.Keeping.{playerIn, engineIn}
+use Rattle.cabinet.specs.Keeping.{playerIn, engineIn, keptAnswer}
 use Rattle.cabinet.proofs.TwinsLaws.{player-back}
 use Rattle.promises.specs.Calls.{Call, NoteOn, NoteOff, Control, Program, Bend, Render, Ask, does, next}
 use Rattle.recitals.specs.Turns.{Turn, Start, Stop, Play, Direct, nextTurn, writtenIn, runTurns, numbersTurns, framesTurns}
 use Rattle.recitals.proofs.Turns.{keeps-promises}
 use Rattle.recitals.proofs.Borders.{start-is-tested, play-is-tested}
 use Rattle.promises.proofs.Demand1.{changes-nothing}
-use Rattle.library.specs.Library.{keptCall, keptTurn, keptRun, keptOutputs, turnOutputs, SameRun, SameRunFresh, SameOutputs, RefusedCallsKeep, LibraryKeepsPromises}
+use Rattle.library.specs.Library.{keptCall, keptTurn, keptRun, keptOutputs, turnOutputs, SameRun, SameRunFresh, SameOutputs, RefusedCallsKeep, SumsKeepAsRender, LibraryKeepsPromises}
 
 -- a direct call leaves the player with the engine after it
 call-back : (x : Call) (s : Flat) → playerIn (keptCall x s) ≡ withEngine (playerIn s) (next x (engineIn s))
@@ -67,6 +69,9 @@ refused-calls-keep (Direct (Program c p)) s h = call-back (Program c p) s ∙ di
 refused-calls-keep (Direct (Bend c b)) s h = call-back (Bend c b) s ∙ direct-keep (Bend c b) s h
 refused-calls-keep (Direct (Render to ram rom out)) s h = call-back (Render to ram rom out) s ∙ direct-keep (Render to ram rom out) s h
 refused-calls-keep (Direct (Ask i)) s h = refl
+
+pub sums-keep-as-render : SumsKeepAsRender
+sums-keep-as-render to ram rom sums out s same = ap (λ (room : ℕ). keptAnswer (render to ram rom room (engineIn s)) s) same
 
 pub library-keeps-promises : LibraryKeepsPromises
 library-keeps-promises P h ts k =
