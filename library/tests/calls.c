@@ -337,6 +337,7 @@ static void stepped(const lent *l) {
  * or with more, none is held; a refusal writes nothing. */
 static void sums(const lent *l) {
     thularek state, copy;
+    uint32_t past = 0;
     uint8_t *room = guarded(65536), *another = guarded(65536);
     thularek_init(&state);
     for (uint8_t key = 0; key < 128; key += 4)
@@ -359,6 +360,7 @@ static void sums(const lent *l) {
         CHECK(thularek_wave_pour(l->out, count, others, 2 * count) == THULAREK_DONE);
         CHECK(thularek_wave_sums(l->sums, count, 0, bytes, 2 * count, &held, &loudest) == THULAREK_DONE);
         CHECK(memcmp(bytes, others, 2 * count) == 0 && loudest == most && (held == 0) == (most <= 8388608));
+        past += held;
         uint32_t least = thularek_attenuation_for(most);
         CHECK(thularek_wave_sums(l->sums, count, (uint16_t)least, bytes, 2 * count, &held, &loudest) == THULAREK_DONE && !held);
         int32_t deep[2] = {(int32_t)(0 - most), 0};
@@ -368,6 +370,7 @@ static void sums(const lent *l) {
         CHECK(!count || thularek_wave_sums(l->sums, count - 1, 0, bytes, 2 * count, &held, &loudest) == THULAREK_WAVE_NUMBERS);
         for (size_t i = 0; count && i < 2 * count; i++) CHECK(bytes[i] == 0x5a && !held && !loudest);
     }
+    CHECK(past > 0);
     for (uint32_t i = 0; i < 1000; i++) CHECK(thularek_attenuation_for(chance()) <= 1000);
 }
 

@@ -1,16 +1,18 @@
 -- The promises of the C library: each turn leaves its player in C's memory, by the law there and back.
+use Prim.Native.Nat.{ℕ}
 use mathlib.Core.List.{List, [], _∷_}
 use mathlib.Core.Path.{_≡_, refl, ap, sym, subst, _∙_}
 use lib.Ieee.{Float}
 use lib.ListN.{length}
 use Rattle.smf.specs.Songs.{testOf, handedOf}
+use Rattle.engine.specs.Rendering.{render}
 use Rattle.player.specs.declared.Player.{Player}
 use Rattle.player.specs.Cues.{idle, withEngine}
 use Rattle.player.specs.Pauses.{started, stopped}
 use Rattle.player.specs.Playing.{answered}
 use Rattle.player.specs.Stepping.{stepTaken}
 use Rattle.cabinet.specs.declared.Flat.{Flat}
-use Rattle.cabinet.specs.Keeping.{playerIn, engineIn}
+use Rattle.cabinet.specs.Keeping.{playerIn, engineIn, keptAnswer}
 use Rattle.cabinet.proofs.TwinsLaws.{player-back}
 use Rattle.promises.specs.Calls.{Call, NoteOn, NoteOff, Control, Program, Bend, Render, Ask, does, next}
 use Rattle.recitals.specs.Turns.{Turn, Start, Stop, Play, Step, Direct, nextTurn, writtenIn, runTurns, numbersTurns, framesTurns}
@@ -18,7 +20,7 @@ use Rattle.recitals.proofs.Acts.{cued-engine}
 use Rattle.recitals.proofs.Turns.{keeps-promises}
 use Rattle.recitals.proofs.Borders.{start-is-tested, play-is-tested, step-is-tested}
 use Rattle.promises.proofs.Demand1.{changes-nothing}
-use Rattle.library.specs.Library.{keptCall, keptTurn, keptRun, keptOutputs, turnOutputs, SameRun, SameRunFresh, SameOutputs, afterRefusal, RefusedCallsKeep, LibraryKeepsPromises}
+use Rattle.library.specs.Library.{keptCall, keptTurn, keptRun, keptOutputs, turnOutputs, SameRun, SameRunFresh, SameOutputs, afterRefusal, RefusedCallsKeep, SumsKeepAsRender, LibraryKeepsPromises}
 
 -- a direct call leaves the player with the engine after it
 call-back : (x : Call) (s : Flat) → playerIn (keptCall x s) ≡ withEngine (playerIn s) (next x (engineIn s))
@@ -85,6 +87,9 @@ pub refused-calls-keep : RefusedCallsKeep
 refused-calls-keep x s h =
     let e = refused-player x s h in
     (e, ap (λ (p : Player). p .engine) e ∙ same-engine x (playerIn s))
+
+pub sums-keep-as-render : SumsKeepAsRender
+sums-keep-as-render to ram rom sums out s same = ap (λ (room : ℕ). keptAnswer (render to ram rom room (engineIn s)) s) same
 
 pub library-keeps-promises : LibraryKeepsPromises
 library-keeps-promises P h ts k =

@@ -2,11 +2,13 @@
 use Prim.Native.Nat.{ℕ}
 use mathlib.Core.List.{List, [], _∷_}
 use mathlib.Core.Path.{_≡_}
+use lib.IntN.{ℤ}
 use lib.Ieee.{Float}
 use lib.ListN.{length}
 use Rattle.smf.specs.Songs.{handedOf}
 use Rattle.state.specs.declared.Engine.{Engine}
 use Rattle.state.specs.Quiet.{fresh}
+use Rattle.engine.specs.Rendering.{render}
 use Rattle.player.specs.declared.Player.{Player}
 use Rattle.player.specs.Cues.{idle, cued}
 use Rattle.player.specs.Pauses.{started, stopped}
@@ -81,6 +83,16 @@ abbrev pub RefusedCallsKeep : Type 0
 RefusedCallsKeep =
     (x : Turn) (s : Flat) → (keptTurn x s .number ≡ 0 → ⊥)
     → (playerIn (keptTurn x s) ≡ afterRefusal x (playerIn s)) × (engineIn (keptTurn x s) ≡ engineIn s)
+
+-- C's memory after a call of sums, as its contract says
+abbrev pub keptSums : ℕ → List ℤ → List ℤ → List ℤ → Flat → Flat
+keptSums to ram rom out s = keptAnswer (render to ram rom (length out) (engineIn s)) s
+
+-- it is C's memory after a render into an output of the same length: a host may ask for either, call by call
+abbrev pub SumsKeepAsRender : Type 0
+SumsKeepAsRender =
+    (to : ℕ) (ram rom sums : List ℤ) (out : List Float) (s : Flat) → length sums ≡ length out
+    → keptSums to ram rom sums s ≡ keptCall (Render to ram rom out) s
 
 -- so whatever holds of state, numbers and frames after every run of the engine's calls holds after every run of C's calls from init on
 abbrev pub LibraryKeepsPromises : Type 1
