@@ -233,15 +233,15 @@ uint32_t thularek_bank_fault(const uint8_t *bank, size_t bank_length, size_t *pl
 uint32_t thularek_list(const uint8_t *bytes, size_t bytes_length, uint32_t place, uint16_t *program,
                        uint16_t *bank, size_t *next);
 
-/* What is told of the preset at a place of that listing: 0, and `bytes + name` is its name, 20 bytes that
- * end at the first zero; its zones, and the lowest and the highest key that it sounds. Where it sounds none,
- * they are 127 and 0. 1 where the bank is not admitted, 2 at the end. */
+/* What is told of the preset at a place of that listing: 0, and at `bytes + name` is its name, up to the
+ * first zero and at most 20 bytes; its zones, a global one too; and the lowest and the highest key that it
+ * sounds at some velocity, 127 and 0 where it sounds none. 1 where the bank is not admitted, 2 at the end. */
 uint32_t thularek_preset(const uint8_t *bytes, size_t bytes_length, uint32_t place, size_t *name, uint32_t *zones,
                          uint8_t *low, uint8_t *high);
 
-/* Whether an admitted bank's windows lie within memories of so many samples: 0; else 8, and the byte of
- * the first zone's 53 whose window does not goes to `place`. A note-on that needs that zone answers 8 too.
- * Of a bank that is not admitted nothing is told: 0. */
+/* Whether an admitted bank's windows lie within memories of so many samples: 0; else 8, and `place` is the
+ * byte of the 53 of the first zone whose window does not. A note-on that needs that zone answers 8 too. Of a
+ * bank that is not admitted nothing is told: 0. */
 uint32_t thularek_past_memory(const uint8_t *bank, size_t bank_length, size_t ram_count, size_t rom_count,
                               size_t *place);
 
