@@ -13,6 +13,9 @@ const LONGEST: u64 = 4_294_967_303;
 /// A file of which the first bytes are no SoundFont's is not read to its end.
 const NO_FORM: u32 = 40;
 
+/// The kind of a bank that is too long; its place says nothing more.
+const TOO_LONG: u32 = 1;
+
 pub struct Font {
     pub name: String,
     file: Vec<u8>,
@@ -75,13 +78,11 @@ impl Font {
     pub fn admitted(self) -> Result<Font, Stop> {
         match thularek::bank_fault(self.bank()) {
             (0, _) => Ok(self),
-            (kind, place) => {
-                let size = match kind {
-                    1 => format!(" (it has {})", grouped(self.bank().len() as u64)),
-                    _ => String::new(),
-                };
-                Err(self.fault_at(&format!("{}{size}", thularek::message(20 + kind)), place))
+            (TOO_LONG, _) => {
+                let size = grouped(self.bank().len() as u64);
+                Err(Stop::of(&self.name, &format!("{} (it has {size})", thularek::message(20 + TOO_LONG))))
             }
+            (kind, place) => Err(self.fault_at(thularek::message(20 + kind), place)),
         }
     }
 
