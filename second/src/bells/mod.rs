@@ -1,5 +1,6 @@
 //! A carillon of 37 bells and a piece for it, made by whole numbers alone: sines, the castings, the sound of a bell, the
-//! bank, the piece. The bytes are settled by check sums, which tests/bells.rs holds them to.
+//! bank, the piece. The bytes are settled by check sums, which tests/bells.rs holds them to. The demo of the command is
+//! made of the same files, but for this one.
 
 pub mod bank;
 mod castings;
