@@ -57,8 +57,8 @@ pub enum Place {
     Stream,
     /// A device or a named pipe, written as it is.
     Device(PathBuf),
-    /// A file, and whether it may take the place of another.
-    File(PathBuf, bool),
+    /// A file, whether it may take the place of another, and what it was called.
+    File(PathBuf, bool, String),
 }
 
 impl Place {
@@ -74,7 +74,10 @@ impl Place {
             Ok(there) if there.is_dir() => Err(Stop::of(&name, "this is a folder")),
             Ok(there) if !there.is_file() => Ok(Place::Device(path.to_path_buf())),
             Ok(_) if !force => Err(Stop::of(&name, "this file is there already (--force writes it anew)")),
-            Ok(_) => fs::canonicalize(path).map(|path| Place::File(path, true)).map_err(|e| Stop::system(&name, &e)),
+            Ok(_) => match fs::canonicalize(path) {
+                Ok(path) => Ok(Place::File(path, true, name)),
+                Err(error) => Err(Stop::system(&name, &error)),
+            },
         }
     }
 
@@ -83,7 +86,7 @@ impl Place {
             return Err(Stop::of(&name_of(path), "this is no name for a file"));
         }
         match folder_of(path).is_dir() {
-            true => Ok(Place::File(path.to_path_buf(), false)),
+            true => Ok(Place::File(path.to_path_buf(), false, name_of(path))),
             false => Err(Stop::of(&name_of(path), "there is no folder for it")),
         }
     }
@@ -96,7 +99,8 @@ impl Place {
     pub fn name(&self) -> String {
         match self {
             Place::Stream => "standard output".to_string(),
-            Place::Device(path) | Place::File(path, _) => name_of(path),
+            Place::Device(path) => name_of(path),
+            Place::File(_, _, name) => name.clone(),
         }
     }
 
@@ -109,7 +113,7 @@ impl Place {
                 let file = OpenOptions::new().write(true).open(path).map_err(|e| Stop::system(&self.name(), &e))?;
                 fill(&mut Sink { name: self.name(), to: Box::new(NoSeek(file)) })
             }
-            Place::File(path, force) => write_beside(path, *force, fill),
+            Place::File(path, force, name) => write_beside(path, *force, name, fill),
         }
     }
 
@@ -127,16 +131,20 @@ fn folder_of(path: &Path) -> PathBuf {
 }
 
 /// A file is written under another name in the same folder, and gets its own name when it is whole.
-fn write_beside(path: &Path, force: bool, fill: impl FnOnce(&mut Sink) -> Result<(), Stop>) -> Result<(), Stop> {
-    let name = name_of(path);
+fn write_beside(
+    path: &Path,
+    force: bool,
+    name: &str,
+    fill: impl FnOnce(&mut Sink) -> Result<(), Stop>,
+) -> Result<(), Stop> {
     let last = path.file_name().unwrap_or_default().to_string_lossy();
     let part = folder_of(path).join(format!(".{last}.part.{}", std::process::id()));
-    let system = |error: io::Error| Stop::system(&name, &error);
+    let system = |error: io::Error| Stop::system(name, &error);
     let file = OpenOptions::new().write(true).create_new(true).open(&part).map_err(system)?;
     let written = file
         .try_clone()
         .map_err(system)
-        .and_then(|handle| fill(&mut Sink { name: name.clone(), to: Box::new(handle) }))
+        .and_then(|handle| fill(&mut Sink { name: name.to_string(), to: Box::new(handle) }))
         .and_then(|()| file.sync_all().map_err(system))
         .and_then(|()| go_on())
         .and_then(|()| take_place(&part, path, force).map_err(system));
