@@ -43,7 +43,7 @@ impl Song {
         }
     }
 
-    /// Its events, played on a state of their own with no time between them, up to `each` of them.
+    /// Its events, which act on a state of their own, with no time between them.
     pub fn events(&self) -> Events<'_> {
         let mut state = Thularek::new();
         state.song_start(&self.bytes);
