@@ -1,4 +1,7 @@
 // What the crates share: numbers in bytes, a word as a set of slots, numbers held to a range.
+
+#![tactic(auto)]
+
 mod bytes;
 mod holds;
 mod words;

@@ -1,4 +1,7 @@
 // Admission of a bank as seven tests, and its listing (01, "Bank admission").
+
+#![tactic(auto)]
+
 ghost use Rattle.std.specs.Prelude.{◌≡◌};
 ghost use Rattle.records.specs.Looking.{or_else};
 ghost use Rattle.bank.specs.Admission.{fault_of, fault_number, admitted};
@@ -16,7 +19,7 @@ pub use past::past_memory;
 use records::Found;
 
 // What is wrong with a bank, with the byte place, in the order in which it is tested.
-#[derive(Drop)]
+#[derive(Clone, Copy)]
 pub enum Fault {
     Fine,
     Long(usize),
@@ -29,7 +32,7 @@ pub enum Fault {
 }
 
 // What the listing gives at a place.
-#[derive(Drop)]
+#[derive(Clone, Copy)]
 pub enum Listed {
     Refused,
     End,

@@ -13,7 +13,7 @@ ghost use Rattle.cabinet.specs.Files.{fault_kind, fault_place, row_kind, row_pro
 use bank::{Fault, Listed};
 
 // A row of the listing as numbers.
-#[derive(Drop)]
+#[derive(Clone, Copy)]
 struct Row {
     kind: u32,
     program: u16,

@@ -1,5 +1,8 @@
 // The C interface: the calls of the engine and of the player over a state that C keeps, and those over bytes alone.
 // What C keeps is a flat twin of the player's state, with no enum and no bool in it: any bytes there are a legal state.
+
+#![tactic(auto)]
+
 mod files;
 mod keeping;
 mod loudness;
@@ -37,7 +40,7 @@ use voice::Channel;
 
 // A stage: 0 delay (t: frames left), 1 attack, 2 hold, 3 decay, 4 sustain, any other release.
 #[repr(C)]
-#[derive(Drop)]
+#[derive(Clone, Copy)]
 pub struct FlatStage {
     pub kind: u8,
     pub from: u16,
@@ -46,7 +49,7 @@ pub struct FlatStage {
 
 // A voice. A flag is 0, or any other number for yes.
 #[repr(C)]
-#[derive(Drop)]
+#[derive(Clone, Copy)]
 pub struct FlatVoice {
     pub stage: FlatStage,
     pub place: u64,
@@ -74,7 +77,7 @@ pub struct FlatVoice {
 
 // An engine: its voices' twins, and all else as it is.
 #[repr(C)]
-#[derive(Drop)]
+#[derive(Clone, Copy)]
 pub struct FlatEngine {
     pub voices: [FlatVoice; 32],
     pub channels: [Channel; 16],
@@ -85,7 +88,7 @@ pub struct FlatEngine {
 
 // A player: its engine's twin, and whether no event is left as a flag.
 #[repr(C)]
-#[derive(Drop)]
+#[derive(Clone, Copy)]
 pub struct FlatPlayer {
     pub engine: FlatEngine,
     pub cursor: Cursor,
@@ -96,7 +99,7 @@ pub struct FlatPlayer {
 
 // What C keeps: the last call's number (0: done), its count, the refused events among those that it counts, its place; and the player.
 #[repr(C)]
-#[derive(Drop)]
+#[derive(Clone, Copy)]
 pub struct Flat {
     pub number: u32,
     pub count: u32,

@@ -4,7 +4,7 @@ ghost use Rattle.std.specs.Prelude.{◌≤◌};
 use crate::input::{Place, next_byte, next_bytes};
 
 // A command. What its letter does not have is 0, and the bytes of a bank, a song, a memory or a name are still to be read.
-#[derive(Drop)]
+#[derive(Clone, Copy)]
 pub struct Command {
     // 0, which nobody knows, where the command is cut off
     pub letter: u8,
@@ -31,8 +31,8 @@ fn bytes_behind(letter: u8) -> usize
         b's' | b't' => 1,
         b'o' | b'p' => 2,
         b'n' | b'c' | b'b' => 3,
-        b'_b' | b'_l' | b'_m' | b'_o' | b'm' | b'x' | b'_f' | b'l' | b'j' | b'h' => 4,
-        b'r' | b'_v' => 8,
+        b'B' | b'L' | b'M' | b'O' | b'm' | b'x' | b'F' | b'l' | b'j' | b'h' => 4,
+        b'r' | b'V' => 8,
         _ => 0,
     }
 }

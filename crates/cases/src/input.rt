@@ -4,7 +4,7 @@ ghost use Rattle.std.specs.Prelude.{◌≡◌, ◌+◌, ◌*◌, true, false};
 use libc::STDIN_FILENO;
 
 // The part of the room that is still to be read, and whether a read came up short. Once cut, always cut: a program tests it when it has read all that it wants.
-#[derive(Drop)]
+#[derive(Clone, Copy)]
 pub struct Place {
     pub at: usize,
     pub end: usize,
@@ -14,21 +14,21 @@ pub struct Place {
 }
 
 // What was read, 0 where the input is cut off, and where to go on.
-#[derive(Drop)]
+#[derive(Clone, Copy)]
 pub struct Byte {
     pub value: u8,
     pub place: Place,
 }
 
 // A number of two bytes, and the place behind it.
-#[derive(Drop)]
+#[derive(Clone, Copy)]
 pub struct Short {
     pub value: u16,
     pub place: Place,
 }
 
 // A number of four bytes, and the place behind it.
-#[derive(Drop)]
+#[derive(Clone, Copy)]
 pub struct Long {
     pub value: u32,
     pub place: Place,

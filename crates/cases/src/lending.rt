@@ -7,14 +7,14 @@ use crate::input::{Place, next_bytes, next_samples, spoilt};
 use arith::least;
 
 // How many bytes or samples an array holds now, and the place behind them.
-#[derive(Drop)]
+#[derive(Clone, Copy)]
 pub struct Held {
     pub count: usize,
     pub place: Place,
 }
 
 // How many bytes of the bank and of the song are lent and how many samples of each memory; and how many samples each memory holds.
-#[derive(Drop)]
+#[derive(Clone, Copy)]
 pub struct Lent {
     pub bank: usize,
     pub song: usize,
@@ -25,7 +25,7 @@ pub struct Lent {
 }
 
 // What is lent behind a command, and the place behind it.
-#[derive(Drop)]
+#[derive(Clone, Copy)]
 pub struct Loan {
     pub lent: Lent,
     pub place: Place,
@@ -164,10 +164,10 @@ pub fn lend(
 ) -> Loan {
     let letter = c.letter;
     match letter {
-        b'_b' => lend_bank(bank, room, c, lent),
-        b'_l' => lend_song(song, room, c, lent),
-        b'_m' => lend_ram(ram, room, c, lent),
-        b'_o' => lend_rom(rom, room, c, lent),
+        b'B' => lend_bank(bank, room, c, lent),
+        b'L' => lend_song(song, room, c, lent),
+        b'M' => lend_ram(ram, room, c, lent),
+        b'O' => lend_rom(rom, room, c, lent),
         _ => cut(c, lent),
     }
 }

@@ -1,4 +1,7 @@
 // Case files and traces: what the programs that play cases share. They lend a room to read into and one to write from.
+
+#![tactic(auto)]
+
 mod commands;
 mod hash;
 mod input;

@@ -4,7 +4,7 @@ use crate::input::{Place, next_bytes};
 use crate::writing::{decimal, hex, put, word};
 
 // Where a command leaves the case and the text.
-#[derive(Drop)]
+#[derive(Clone, Copy)]
 pub struct Line {
     pub place: Place,
     pub at: usize,

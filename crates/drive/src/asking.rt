@@ -80,7 +80,7 @@ fn shown(text: &mut [u8; 65536], at: usize, s: Shown) -> usize {
 // Whether no event of the song is left, and how many voices sound.
 fn ending(text: &mut [u8; 65536], at: usize, p: Player) -> usize {
     let over = if player::is_over(p) { 1 } else { 0 };
-    let to = cases::counted(text, at, b'_e', 0, over);
+    let to = cases::counted(text, at, b'E', 0, over);
     cases::spaced(text, to, engine::voice_count(p.engine) as u64)
 }
 
@@ -91,7 +91,7 @@ fn asked(bank: &[u8], text: &mut [u8; 65536], at: usize, c: Command, p: Player) 
     match letter {
         b's' => shown(text, at, engine::panel(e, c.one)),
         b'u' => cases::counted(text, at, letter, 0, engine::voice_count(e)),
-        b'_e' => ending(text, at, p),
+        b'E' => ending(text, at, p),
         _ => of_bank(bank, text, at, c),
     }
 }

@@ -27,7 +27,7 @@ pub fn call<'a>(
     tape: Tape,
 ) -> Played {
     let a = ringer::call(bank, song, ram, rom, tape.lent, c, p);
-    if c.letter == b'_f' {
+    if c.letter == b'F' {
         let after = a.player;
         return Played {
             player: after,

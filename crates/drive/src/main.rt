@@ -1,4 +1,7 @@
 // Plays a case file from standard input and writes its trace to standard output.
+
+#![tactic(auto)]
+
 mod asking;
 mod calls;
 mod hammer;
@@ -13,7 +16,7 @@ use ringer::Kind;
 use tapes::Tape;
 
 // The player behind a command, and how much of the trace is to be written yet.
-#[derive(Drop)]
+#[derive(Clone, Copy)]
 pub struct Played {
     pub player: Player,
     pub at: usize,
@@ -32,7 +35,7 @@ fn play<'a>(
 ) -> Played {
     let letter = c.letter;
     match letter {
-        b'r' | b'_v' => output::render(bank, song, ram, rom, text, c, p, tape),
+        b'r' | b'V' => output::render(bank, song, ram, rom, text, c, p, tape),
         _ => calls::call(bank, song, ram, rom, text, c, p, tape),
     }
 }

@@ -1,4 +1,7 @@
 // The engine: the calls that a host makes. The state and the events stand in crates of their own, and are passed on here.
+
+#![tactic(auto)]
+
 mod adding;
 mod banks;
 mod mixer;
@@ -15,7 +18,7 @@ pub use state::{Answered, Engine, fresh, panel, voice_count};
 pub use summing::sums;
 
 // A stereo frame.
-#[derive(Drop)]
+#[derive(Clone, Copy)]
 pub struct Frame {
     pub left: f32,
     pub right: f32,

@@ -1,4 +1,7 @@
 // What a host tells the engine: note-on, note-off, control, program and bend changes.
+
+#![tactic(auto)]
+
 mod bends;
 mod controls;
 mod keys;
@@ -14,7 +17,7 @@ use state::Engine;
 pub use striking::note_on;
 
 // Which of a channel's voices are let off: the held ones of a key, all the held ones, or those that the pedal holds.
-#[derive(Drop)]
+#[derive(Clone, Copy)]
 pub enum Whom {
     Key { key: u8 },
     Every,
@@ -22,7 +25,7 @@ pub enum Whom {
 }
 
 // A state, and the word of the slots that a note-on has started in it.
-#[derive(Drop)]
+#[derive(Clone, Copy)]
 pub struct Begun {
     pub engine: Engine,
     pub mine: u32,

@@ -1,10 +1,13 @@
 // Reads SoundFont files from standard input, each a length and its bytes, and writes to standard output where the parts of each lie.
+
+#![tactic(auto)]
+
 mod lines;
 
 use cases::Place;
 
 // How far the files are read, and how far their lines are written.
-#[derive(Drop)]
+#[derive(Clone, Copy)]
 pub struct Run {
     // what is still to be read; where it is cut, no file follows
     pub place: Place,

@@ -8,7 +8,7 @@ use curves::{OctaveTable, long_frames, short_frames};
 use totals::{keyed_time, sustain_of, time_of};
 
 // The frames of each stage, and the sustain's attenuation in c_b.
-#[derive(Drop)]
+#[derive(Clone, Copy)]
 pub struct Envelope {
     pub delay: u32,
     pub attack: u32,

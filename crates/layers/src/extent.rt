@@ -9,7 +9,7 @@ use arith::{hold, least, less};
 use records::Parts;
 
 // A window of the ROM or of the RAM, its mode as it is played, its loop counted from its start, and the sample's rate.
-#[derive(Drop)]
+#[derive(Clone, Copy)]
 pub struct Extent {
     pub rom: bool,
     pub start: u32,

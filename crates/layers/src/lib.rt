@@ -1,4 +1,7 @@
 // From a key to layers, and the voices that they start (01, "From a key to layers").
+
+#![tactic(auto)]
+
 mod barren;
 mod envelope;
 mod extent;
@@ -14,28 +17,28 @@ use voice::Voice;
 pub use voicing::voices_for;
 
 // A layer: the bag numbers of its preset zone and of its instrument zone.
-#[derive(Drop)]
+#[derive(Clone, Copy)]
 pub struct Pair {
     pub outer: u32,
     pub inner: u32,
 }
 
 // A range of keys or velocities.
-#[derive(Drop)]
+#[derive(Clone, Copy)]
 pub struct Range {
     pub low: u8,
     pub high: u8,
 }
 
 // The keys and the velocities that match a zone.
-#[derive(Drop)]
+#[derive(Clone, Copy)]
 pub struct Area {
     pub keys: Range,
     pub velocities: Range,
 }
 
 // What is told of a preset: its kind, the byte where its record begins, its zones, and the lowest and highest key of its layers.
-#[derive(Drop)]
+#[derive(Clone, Copy)]
 pub struct Sheet {
     pub kind: u8,
     pub name: u32,
@@ -45,14 +48,14 @@ pub struct Sheet {
 }
 
 // The layers that the search found, and how many: it stops at the thirty-third.
-#[derive(Drop)]
+#[derive(Clone, Copy)]
 pub struct Layers {
     pub count: u32,
     pub pairs: [Pair; 33],
 }
 
 // The voices that a key starts, and how many; of 33 or more none is made.
-#[derive(Drop)]
+#[derive(Clone, Copy)]
 pub struct Struck {
     pub count: u32,
     pub voices: [Voice; 32],

@@ -7,7 +7,7 @@ use records::Parts;
 use totals::{attenuation_of, class_of, pan_of, pitch_of};
 
 // The exclusive class, the pitch total without the bend, the pan, and what stays of the attenuation.
-#[derive(Drop)]
+#[derive(Clone, Copy)]
 pub struct Tuning {
     pub class: u16,
     pub pitch: i32,

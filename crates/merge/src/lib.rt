@@ -1,4 +1,7 @@
 // Songs that people have: a file of format 0 or 1 becomes one of format 0, which M-101 reads, in lent memory. Any bytes, any room.
+
+#![tactic(auto)]
+
 ghost use Rattle.std.specs.Prelude.{◌≡◌, ◌≤◌, length};
 ghost use Rattle.merge.specs.Merging.{merged_of, joined_of, answer_of, written_into, room_of};
 
@@ -15,21 +18,21 @@ mod pages;
 mod sizes;
 
 // The head's first fault, or how many tracks there are, the ticks of a quarter note, and where the chunks begin.
-#[derive(Drop)]
+#[derive(Clone, Copy)]
 pub enum Front {
     Refused { number: u8, place: u32 },
     Song { count: u16, division: u16, at: u32 },
 }
 
 // A place in a file, or none.
-#[derive(Drop)]
+#[derive(Clone, Copy)]
 pub enum Spot {
     None,
     At { place: u32 },
 }
 
 // The next event of a track: its tick, its place behind its delta time, where its track ends, and what it is.
-#[derive(Drop)]
+#[derive(Clone, Copy)]
 pub struct Entry {
     pub tick: u64,
     pub place: u32,
@@ -38,7 +41,7 @@ pub struct Entry {
 }
 
 // The next event of each track, of which `count` are there, with their ticks beside them, and the first fault by 9.
-#[derive(Drop)]
+#[derive(Clone, Copy)]
 pub struct Tracks {
     pub ticks: [u64; 256],
     pub entries: [Entry; 256],
@@ -47,14 +50,14 @@ pub struct Tracks {
 }
 
 // The smallest tick among those of some tracks, and the first track that has it.
-#[derive(Drop)]
+#[derive(Clone, Copy)]
 pub struct Best {
     pub tick: u64,
     pub lane: usize,
 }
 
 // The time at an event: its tick, the tempo behind it, and U, held where it is past an hour; and the smallest place of what is past it.
-#[derive(Drop)]
+#[derive(Clone, Copy)]
 pub struct Hour {
     pub tick: u64,
     pub tempo: u32,
@@ -63,7 +66,7 @@ pub struct Hour {
 }
 
 // The line that is written: the tick of its last event, the tempo and the status that run behind it, and the last end of track.
-#[derive(Drop)]
+#[derive(Clone, Copy)]
 pub struct Line {
     pub tick: u64,
     pub tempo: u32,
@@ -72,7 +75,7 @@ pub struct Line {
 }
 
 // What a song needs: its time, its line, and the bytes so far.
-#[derive(Drop)]
+#[derive(Clone, Copy)]
 pub struct Tally {
     pub hour: Hour,
     pub line: Line,
@@ -80,7 +83,7 @@ pub struct Tally {
 }
 
 // The number, 0 where a song is written; the place of a fault; and how many bytes are written.
-#[derive(Drop)]
+#[derive(Clone, Copy)]
 pub struct Merged {
     pub number: u8,
     pub place: u32,

@@ -1,10 +1,13 @@
 // Reads MIDI files from standard input, each a length, the length of an output and its bytes, and writes to standard output what comes of merging its tracks.
+
+#![tactic(auto)]
+
 mod lines;
 
 use cases::Place;
 
 // How far the files are read, and how far their lines are written.
-#[derive(Drop)]
+#[derive(Clone, Copy)]
 pub struct Run {
     // what is still to be read; where it is cut, no file follows
     pub place: Place,

@@ -1,4 +1,7 @@
 // Writes what crate curves gives for fixed lists of arguments, a line each, to be compared with what the second program computes.
+
+#![tactic(auto)]
+
 mod arguments;
 mod columns;
 mod rows;

@@ -1,4 +1,7 @@
 // The player: a song, a bank, an output. It joins the events of a lent Standard MIDI File to the engine, each before the frame that it names.
+
+#![tactic(auto)]
+
 mod acting;
 mod asking;
 mod cues;
@@ -15,7 +18,7 @@ use smf::{Cursor, Event};
 pub use stepping::{next_event, next_frame, step};
 
 // Each value of this type is a legal state. A host's direct calls are the engine's, on `engine`.
-#[derive(Drop)]
+#[derive(Clone, Copy)]
 pub struct Player {
     pub engine: Engine,
     // behind the event that comes next
@@ -29,7 +32,7 @@ pub struct Player {
 }
 
 // A player, how many events a render has applied, and how many of these were refused.
-#[derive(Drop)]
+#[derive(Clone, Copy)]
 pub struct Tally {
     pub player: Player,
     pub applied: u32,
@@ -37,7 +40,7 @@ pub struct Tally {
 }
 
 // What a start answers: 0, or 9, 10 or 11 and where the file's first fault is; and the player after.
-#[derive(Drop)]
+#[derive(Clone, Copy)]
 pub struct Begun {
     pub number: u8,
     pub place: u32,
@@ -45,7 +48,7 @@ pub struct Begun {
 }
 
 // What a render answers: 01's number (0: done), the events applied, the refused ones among them, and the player after.
-#[derive(Drop)]
+#[derive(Clone, Copy)]
 pub struct Answer {
     pub number: u8,
     pub applied: u32,
@@ -54,7 +57,7 @@ pub struct Answer {
 }
 
 // What a step answers: the engine's number for the event (0: done), how many were applied (0 where none was left), and the player after.
-#[derive(Drop)]
+#[derive(Clone, Copy)]
 pub struct Stepped {
     pub number: u8,
     pub applied: u32,

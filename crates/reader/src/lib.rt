@@ -1,5 +1,8 @@
 // The listing reader, which keeps the lent bank and its place (01, "Bank admission"). No function over a struct that holds a
 // reference is covered: each takes it apart, calls a covered one on slice and number, and is proved by a walk of its MIR.
+
+#![tactic(auto)]
+
 ghost use Rattle.std.specs.Prelude.{◌≡◌};
 ghost use Rattle.bank.specs.Admission.{fault_number, fault_of};
 ghost use Rattle.bank.specs.Listing.{listed};
@@ -8,28 +11,28 @@ ghost use Rattle.reader.specs.Reader.{further, nth_listed, next_of, opened_of};
 use bank::Listed;
 
 // The lent bank, and the number of the record that is next.
-#[derive(Drop)]
+#[derive(Clone, Copy)]
 pub struct Reader<'a> {
     pub bank: &'a [u8],
     pub place: u32,
 }
 
 // What opening gives: 01's number, 1 where the bank is not admitted, and the reader at record 0.
-#[derive(Drop)]
+#[derive(Clone, Copy)]
 pub struct Opened<'a> {
     pub number: u8,
     pub reader: Reader<'a>,
 }
 
 // What a next gives: what stands at the place, and the reader one further.
-#[derive(Drop)]
+#[derive(Clone, Copy)]
 pub struct Taken<'a> {
     pub listed: Listed,
     pub reader: Reader<'a>,
 }
 
 // What stands at a place, and the place of the next.
-#[derive(Drop)]
+#[derive(Clone, Copy)]
 pub struct Step {
     pub listed: Listed,
     pub place: u32,

@@ -1,6 +1,9 @@
 // Plays a case file from standard input, and writes what its renders sound like to standard output, as one WAVE file (02, M-107).
 // The heading says how long the file is, and standard input may be a pipe: the case is read whole, and played twice, first to count its frames and to see whether it is bad.
 // A bad case gives no file and a line on standard error. It gives no exit status, since a program has none in Rattle: `main` answers nothing.
+
+#![tactic(auto)]
+
 mod complaints;
 mod renders;
 mod tapes;
@@ -11,7 +14,7 @@ use player::Player;
 use tapes::Tape;
 
 // The player and the tape behind a command.
-#[derive(Drop)]
+#[derive(Clone, Copy)]
 pub struct Played {
     pub player: Player,
     pub tape: Tape,
@@ -29,7 +32,7 @@ fn play<'a>(
 ) -> Played {
     let letter = c.letter;
     match letter {
-        b'r' | b'_v' => renders::render(bank, song, ram, rom, c, p, tape),
+        b'r' | b'V' => renders::render(bank, song, ram, rom, c, p, tape),
         _ => {
             let a = ringer::call(bank, song, ram, rom, tape.lent, c, p);
             let after = a.player;

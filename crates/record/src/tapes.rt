@@ -3,7 +3,7 @@ use cases::{Command, Lent, Place};
 use ringer::Kind;
 
 // What a run has beside its player.
-#[derive(Drop)]
+#[derive(Clone, Copy)]
 pub struct Tape {
     pub lent: Lent,
     // what is still to be read of the case; where it is cut, nothing more is played

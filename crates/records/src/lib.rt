@@ -1,4 +1,7 @@
 // The bank as records: chunks, sides, zones, values and windows (01, "Bank admission").
+
+#![tactic(auto)]
+
 mod amounts;
 mod chunks;
 mod headers;
@@ -16,14 +19,14 @@ pub use windows::{end_of, good_window, loop_end_of, loop_start_of, mode_of, star
 pub use zones::{amount, global_of, has, link_at, zone_at, zone_count};
 
 // A number that was looked for.
-#[derive(Drop)]
+#[derive(Clone, Copy)]
 pub enum Found {
     Nothing,
     At(usize),
 }
 
 // Presets, or instruments: where the lists of one side begin and how many records each has, the terminal one too.
-#[derive(Drop)]
+#[derive(Clone, Copy)]
 pub struct Side {
     pub heads: u32,
     pub width: u8,
@@ -39,7 +42,7 @@ pub struct Side {
 }
 
 // Where all of a bank's lists are; `samples` is where the sample headers begin.
-#[derive(Drop)]
+#[derive(Clone, Copy)]
 pub struct Parts {
     pub presets: Side,
     pub instruments: Side,
@@ -47,7 +50,7 @@ pub struct Parts {
 }
 
 // A zone: its first generator, how many of them count, and the 41 or 53 behind those.
-#[derive(Drop)]
+#[derive(Clone, Copy)]
 pub struct Zone {
     pub from: u32,
     pub count: u32,

@@ -1,6 +1,9 @@
 // For timing (speed/): a bank and its samples, keys struck, then renders; it writes a hash of the last output.
 // Standard input: u32 strikes, u32 renders, u32 frames of a render (at most 4,096), u32 strikes before each render, u32 and so many bytes of a bank, u32 and so many samples.
 // The last 32 strikes sound. Keys are struck again before each render where voices do not last.
+
+#![tactic(auto)]
+
 use engine::Engine;
 
 // The keys 40 to 71 in turn, as often as asked.

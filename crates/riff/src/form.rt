@@ -18,7 +18,7 @@ const SDTA: u32 = 1635017843;
 const SMPL: u32 = 1819307379;
 
 // Chunks from a place up to an end.
-#[derive(Drop)]
+#[derive(Clone, Copy)]
 pub struct Span {
     pub from: usize,
     pub end: usize,

@@ -4,7 +4,7 @@ use engine::{Answered, Engine};
 use player::{Answer, Player};
 
 // What a call that is no render answers: the number of 01's table (0: done), a count or a place, and the player after.
-#[derive(Drop)]
+#[derive(Clone, Copy)]
 pub struct Called {
     pub number: u8,
     pub count: u32,
@@ -100,9 +100,9 @@ pub fn call<'a>(
 ) -> Called {
     let letter = c.letter;
     match letter {
-        b'_f' => made(fresh_at(c.first)),
-        b'_g' => start(song, lent, p),
-        b'_h' => made(player::stop(p)),
+        b'F' => made(fresh_at(c.first)),
+        b'G' => start(song, lent, p),
+        b'H' => made(player::stop(p)),
         _ => {
             let e = p.engine;
             put_back(p, answer(bank, ram, rom, lent, c, e))

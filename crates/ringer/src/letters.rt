@@ -4,7 +4,7 @@ ghost use Rattle.std.specs.Prelude.{◌≤◌};
 use cases::Command;
 
 // What a command is that is not for the player.
-#[derive(Drop)]
+#[derive(Clone, Copy)]
 pub enum Kind {
     // B, L, M, O, m, x: something is lent
     Lends,
@@ -39,8 +39,8 @@ fn playable(key: u8, velocity: u8) -> bool {
 pub fn moves(c: Command) -> bool {
     let letter = c.letter;
     match letter {
-        b'n' | b'o' | b'c' | b'p' | b'b' | b'_f' | b'_g' | b'_h' => true,
-        b'r' | b'_v' => has_room(c.second),
+        b'n' | b'o' | b'c' | b'p' | b'b' | b'F' | b'G' | b'H' => true,
+        b'r' | b'V' => has_room(c.second),
         _ => false,
     }
 }
@@ -58,8 +58,8 @@ fn struck(c: Command) -> Kind {
 pub fn kind_of(c: Command) -> Kind {
     let letter = c.letter;
     match letter {
-        b'_b' | b'_l' | b'_m' | b'_o' | b'm' | b'x' => Kind::Lends,
-        b'a' | b'i' | b'd' | b'j' | b'l' | b's' | b'u' | b'_e' => Kind::Asks,
+        b'B' | b'L' | b'M' | b'O' | b'm' | b'x' => Kind::Lends,
+        b'a' | b'i' | b'd' | b'j' | b'l' | b's' | b'u' | b'E' => Kind::Asks,
         b'h' => struck(c),
         b't' => Kind::Names,
         _ => Kind::Bad,

@@ -1,4 +1,7 @@
 // Plays a case's commands on a player: what the programs that play cases share.
+
+#![tactic(auto)]
+
 mod calls;
 mod letters;
 

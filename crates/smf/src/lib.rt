@@ -1,4 +1,7 @@
 // Standard MIDI Files (02, M-101): the test of a lent file, and a reader that hands out its channel events, each with its frame. Any bytes, any cursor.
+
+#![tactic(auto)]
+
 ghost use Rattle.std.specs.Prelude.{◌≡◌, ◌≤◌, length};
 ghost use Rattle.smf.specs.Head.{head_of};
 ghost use Rattle.smf.specs.Songs.{test_of, opening_of, handed_of, bytes_of, track_cursor};
@@ -10,21 +13,21 @@ mod ticks;
 pub mod track;
 
 // A variable-length quantity and the place behind it.
-#[derive(Drop)]
+#[derive(Clone, Copy)]
 pub enum Quantity {
     Bad,
     Good { value: u32, behind: u32 },
 }
 
 // The head's first fault, or where the track's events begin and end.
-#[derive(Drop)]
+#[derive(Clone, Copy)]
 pub enum Header {
     Refused { number: u8, place: u32 },
     Track { at: u32, end: u32 },
 }
 
 // An event of the track by its bytes, and the place behind it.
-#[derive(Drop)]
+#[derive(Clone, Copy)]
 pub enum Item {
     Bad,
     End,
@@ -44,7 +47,7 @@ pub enum Item {
 }
 
 // A channel message: its status, written out where it ran, and its data; the second is 0 where there is one.
-#[derive(Drop)]
+#[derive(Clone, Copy)]
 pub struct Message {
     pub status: u8,
     pub first: u8,
@@ -53,7 +56,7 @@ pub struct Message {
 
 // A channel event: a message, and its frame from the song's start. C keeps it as it is.
 #[repr(C)]
-#[derive(Drop)]
+#[derive(Clone, Copy)]
 pub struct Event {
     pub frame: u32,
     pub status: u8,
@@ -64,7 +67,7 @@ pub struct Event {
 // A place in a track, with all that the events in front of it say about those behind: running status (0: none), ticks of a quarter note,
 // microseconds of a quarter note, and U, the sum of ticks times tempo. C keeps it as it is.
 #[repr(C)]
-#[derive(Drop)]
+#[derive(Clone, Copy)]
 pub struct Cursor {
     pub at: u32,
     pub end: u32,
@@ -75,7 +78,7 @@ pub struct Cursor {
 }
 
 // What is met at a cursor.
-#[derive(Drop)]
+#[derive(Clone, Copy)]
 pub enum Met {
     Fault { number: u8, place: u32 },
     End,
@@ -84,14 +87,14 @@ pub enum Met {
 }
 
 // 02's number, 0 for a good file, and the place of the fault.
-#[derive(Drop)]
+#[derive(Clone, Copy)]
 pub struct Tested {
     pub number: u8,
     pub place: u32,
 }
 
 // The test's answer, and the cursor in front of the first event; of a refused file one that gives none.
-#[derive(Drop)]
+#[derive(Clone, Copy)]
 pub struct Opening {
     pub number: u8,
     pub place: u32,
@@ -99,14 +102,14 @@ pub struct Opening {
 }
 
 // The next channel event, or none.
-#[derive(Drop)]
+#[derive(Clone, Copy)]
 pub enum Offer {
     End,
     Given { event: Event },
 }
 
 // What is handed out, and the cursor behind it.
-#[derive(Drop)]
+#[derive(Clone, Copy)]
 pub struct Handed {
     pub offer: Offer,
     pub cursor: Cursor,

@@ -1,10 +1,13 @@
 // For timing (speed/): a MIDI file, opened, which tests it, and read to its end, as many rounds as asked.
 // Standard input: u32 rounds, u32 and so many bytes of a file, at most 65,536. It writes the file's number, the count of its events, and the sum
 // (modulo 2^32) of the frames and bytes of all events of all rounds, in decimal.
+
+#![tactic(auto)]
+
 use smf::{Cursor, Event, Offer};
 
 // What the last round gave, and the sum of all of them.
-#[derive(Drop)]
+#[derive(Clone, Copy)]
 pub struct Heard {
     pub number: u8,
     pub count: u64,

@@ -1,4 +1,7 @@
 // The engine's state: slots, seats, channels and answers, the fresh state, and what the panel is told.
+
+#![tactic(auto)]
+
 mod answers;
 mod board;
 mod channels;
@@ -17,7 +20,7 @@ pub use slots::{flag, freed_if, of_channel, slot_of, with_word};
 use voice::{Channel, Voice};
 
 // Each value of this type is a legal state.
-#[derive(Drop)]
+#[derive(Clone, Copy)]
 pub struct Engine {
     pub voices: [Voice; 32],
     pub channels: [Channel; 16],
@@ -29,7 +32,7 @@ pub struct Engine {
 }
 
 // 01's number (0: done), a count, and the state after.
-#[derive(Drop)]
+#[derive(Clone, Copy)]
 pub struct Answered {
     pub status: u8,
     pub count: u32,

@@ -72,7 +72,7 @@ pub fn frame_at(st: u32, l: i64, g: &GainTable, w: &[i16], s: Slot) -> Framed
 }
 
 // The next frames of a slot, and how many they were.
-#[derive(Drop)]
+#[derive(Clone, Copy)]
 pub struct Went {
     pub slot: Slot,
     pub frames: usize,

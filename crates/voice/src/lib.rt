@@ -1,4 +1,7 @@
 // A voice: its record, one frame of it, n frames of it, its release, and what the panel is told of it.
+
+#![tactic(auto)]
+
 mod calm;
 mod changes;
 mod frames;
@@ -22,7 +25,7 @@ pub use release::let_off;
 pub use stages::is_released;
 
 // A stage, with the frames already spent in it (in delay: those left).
-#[derive(Drop)]
+#[derive(Clone, Copy)]
 pub enum Stage {
     Delay { left: u32 },
     Attack { t: u32 },
@@ -33,7 +36,7 @@ pub enum Stage {
 }
 
 // Each value of this type is a legal voice.
-#[derive(Drop)]
+#[derive(Clone, Copy)]
 pub struct Voice {
     pub stage: Stage,
     // what is read, in 2^-24 samples from the window's start
@@ -69,7 +72,7 @@ pub struct Voice {
 
 // A channel, as the messages left it. C keeps it as it is.
 #[repr(C)]
-#[derive(Drop)]
+#[derive(Clone, Copy)]
 pub struct Channel {
     pub program: u8,
     // the bank that control 0 stored, and the one that the last program change took
@@ -83,14 +86,14 @@ pub struct Channel {
 }
 
 // A slot: whether it sounds, and its record.
-#[derive(Drop)]
+#[derive(Clone, Copy)]
 pub struct Slot {
     pub sounding: bool,
     pub voice: Voice,
 }
 
 // What a frame makes of a slot.
-#[derive(Drop)]
+#[derive(Clone, Copy)]
 pub struct Framed {
     pub slot: Slot,
     pub left: i32,
@@ -98,7 +101,7 @@ pub struct Framed {
 }
 
 // What the panel is told: a slot past 31 is refused.
-#[derive(Drop)]
+#[derive(Clone, Copy)]
 pub enum Shown {
     Refused,
     Free,

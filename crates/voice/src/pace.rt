@@ -7,7 +7,7 @@ use crate::{Stage, Voice};
 use arith::{least, less};
 
 // A quotient over the stage's frames, what is left over of it, and what one frame more adds to both.
-#[derive(Drop)]
+#[derive(Clone, Copy)]
 pub struct Pace {
     pub value: u64,
     pub over: u64,

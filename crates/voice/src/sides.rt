@@ -8,7 +8,7 @@ ghost use Rattle.voice.specs.Internal.Sums.{loudest};
 use arith::hold;
 
 // The shares of both sides, in 2^-38.
-#[derive(Drop)]
+#[derive(Clone, Copy)]
 pub struct Sides {
     pub left: u64,
     pub right: u64,

@@ -12,7 +12,7 @@ use crate::{Stage, Voice};
 use arith::{least, less};
 
 // How far a stretch came.
-#[derive(Drop)]
+#[derive(Clone, Copy)]
 pub struct Reached {
     pub frames: usize,
     pub place: u64,

@@ -6,7 +6,7 @@ use crate::motion::{is_folding, span_of};
 use crate::{Stage, Voice};
 
 // Places in 2^-24 samples.
-#[derive(Drop)]
+#[derive(Clone, Copy)]
 pub struct Way {
     // the first place that goes by it, and the one behind its last
     pub from: u64,

@@ -1,4 +1,7 @@
 // For timing (speed/): 32 voices of mixed stages, 4,096 frames a round; as many rounds as there are bytes on standard input. It writes a hash of all sums and places.
+
+#![tactic(auto)]
+
 ghost use Rattle.std.specs.Prelude.{◌≡◌, ◌<◌, ◌≤◌, length};
 ghost use Rattle.curves.specs.Levels.{gains};
 ghost use Rattle.curves.specs.Octave.{octaves};

@@ -2,7 +2,7 @@
 use cases::Place;
 
 // A number, and the place behind it.
-#[derive(Drop)]
+#[derive(Clone, Copy)]
 pub struct Number {
     pub value: f32,
     pub place: Place,

@@ -1,4 +1,7 @@
 // Writes and reads WAVE files as standard input says (02, M-107), and writes to standard output what comes of it.
+
+#![tactic(auto)]
+
 mod input;
 mod reads;
 mod writes;
@@ -6,7 +9,7 @@ mod writes;
 use cases::{Line, Place};
 
 // How far the commands are read, and how far their lines are written.
-#[derive(Drop)]
+#[derive(Clone, Copy)]
 pub struct Run {
     // what is still to be read; where it is cut, no command follows
     pub place: Place,
@@ -36,8 +39,8 @@ fn unknown(from: Place, at: usize) -> Line {
 // A command behind its letter.
 fn play(room: &mut [u8], text: &mut [u8; 65536], letter: u8, from: Place, at: usize) -> Line {
     match letter {
-        b'_w' => writes::write(room, text, from, at),
-        b'_r' => reads::read(room, text, from, at),
+        b'W' => writes::write(room, text, from, at),
+        b'R' => reads::read(room, text, from, at),
         _ => unknown(from, at),
     }
 }

@@ -4,7 +4,7 @@ use cases::{Line, Place};
 // The file is read into the output that is lent, and the line has the hash of all of that.
 fn line(file: &[u8], out: &mut [i16], text: &mut [u8; 65536], at: usize) -> usize {
     let heard = wave::read(file, out);
-    let mut to = cases::called(text, at, b'_r', heard.number);
+    let mut to = cases::called(text, at, b'R', heard.number);
     to = cases::spaced(text, to, heard.frames as u64);
     to = cases::hashed(text, to, cases::fnv_samples(out));
     cases::put(text, to, b'\n')

@@ -1,0 +1,24 @@
+-- The output is cleared, and all slots are added to its zeros.
+use Rattle.std.proofs.Common.{ℕ, length, replicate, pos, sym, ap, ◌∙◌, subst, arith, rules}
+use lib.ListN.{length-replicate}
+use Rattle.state.specs.Slots.{slots_of}
+use Rattle.voice.specs.Internal.Sums.{Small}
+use Rattle.voice.proofs.SumsLaws.{zeros-small}
+use Rattle.engine.specs.Internal.Sums.{add_all, slot_heard}
+use Rattle.engine.proofs.SummingLaws.{all-summed}
+use Rattle.engine.proofs.summing.add_up.Goals as goal
+
+pub run_all-requires : goal.run_all-requires
+run_all-requires c = let zeros = c.clear.ensures in
+    let long = ap length zeros ∙ length-replicate (length c.args.acc.now) (pos 0) in
+    ((search rules, search rules), (omega (arith, long, c.requires), subst (Small 0) (sym zeros) (zeros-small (length c.args.acc.now))))
+
+pub returns : goal.returns
+returns c = let a = c.args in
+    let f = slot_heard a.ram.now a.rom.now a.e a.n in (
+      c.run_all.ensures.0,
+      c.run_all.ensures.1
+          ∙ ap (add_all f (slots_of a.e)) c.clear.ensures
+          ∙ ap (λ (m : ℕ). add_all f (slots_of a.e) (replicate m (pos 0))) (sym c.requires)
+          ∙ all-summed a.ram.now a.rom.now a.e a.n,
+    )

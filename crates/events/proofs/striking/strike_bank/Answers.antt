@@ -1,0 +1,63 @@
+-- Not admitted, no such preset, or its layers.
+use mathlib.Core.Path.{◌≡◌, sym, ap, ◌∙◌}
+use native.Mathlib.Omega.{arith}
+use Prim.Native.Nat.{ℕ, ◌<◌}
+use mathlib.Core.Bool.{true}
+use borrow.Author.Tests.{not-true, not-false}
+use Rattle.bank.specs.Admission.{admitted}
+use Rattle.bank.proofs.AdmittedLaws.{admitted-room}
+use Rattle.layers.specs.LayerSearch.{preset_for}
+use Rattle.layers.specs.Voicing.{voices_of}
+use Rattle.records.specs.Sides.{parts_of}
+use Rattle.records.specs.declared.Parts.{Parts}
+use Rattle.voice.specs.declared.Channel.{Channel}
+use Rattle.state.specs.Channels.{channel_at}
+use Rattle.events.specs.Striking.{channel_bank}
+use Rattle.events.specs.Internal.Striking.{layers_answer}
+use Rattle.events.proofs.StrikingLaws.{answer-bad, answer-none, answer-found, preset-low}
+use Rattle.events.proofs.striking.strike_bank.Goals as goal
+
+abbrev start : tie.After-preset-for → tie.Start
+start p = p.before.before.before.before.before.before.before
+
+pub returns-then-not-admitted : goal.returns-then-not-admitted
+returns-then-not-admitted c = let a = c.args in
+    let h = sym c.admitted.ensures ∙ not-true c.admitted.result c.if-not-admitted.true-raw in
+    c.refuse.ensures ∙ sym (answer-bad a.bank.now a.ram.now a.rom.now a.channel a.key a.velocity a.e h)
+
+pub parts_of-m-requires : goal.parts_of-m-requires
+parts_of-m-requires c = admitted-room c.args.bank.now (sym c.admitted.ensures ∙ not-false c.admitted.result c.if-not-admitted.false-raw)
+
+pub overflow_cast-h : goal.overflow_cast-h
+overflow_cast-h c = let heads : c.parts_of-m.result.presets.nheads < 4294967296 = omega arith in
+    omega (arith, heads, preset-low (start cAfter-preset_for).args.bank.now c.parts_of-m.result c.bank_number-number.result c.channel_of-c.result.program c.h-1.given.0.0 (sym c.preset_for.ensures ∙ c.h-1.given.1))
+
+pub returns-in-Nothing : goal.returns-in-Nothing
+returns-in-Nothing c = let fine : admitted (start cAfter-preset_for).args.bank.now ≡ true = sym c.admitted.ensures ∙ not-false c.admitted.result c.if-not-admitted.false-raw in
+    let found : c.preset_for.result
+    ≡ preset_for (start cAfter-preset_for).args.bank.now (parts_of (start cAfter-preset_for).args.bank.now) (channel_bank (start cAfter-preset_for).args.e (start cAfter-preset_for).args.channel)
+    (channel_at (start cAfter-preset_for).args.e (start cAfter-preset_for).args.channel).program = let b = (start cAfter-preset_for).args.bank.now in
+    let m = c.parts_of-m in
+    c.preset_for.ensures
+    ∙ ap (λ (x : Parts). preset_for b x c.bank_number-number.result c.channel_of-c.result.program) m.ensures
+    ∙ ap (λ (x : ℕ). preset_for b (parts_of b) x c.channel_of-c.result.program) c.bank_number-number.ensures
+    ∙ ap (λ (x : Channel). preset_for b (parts_of b) (channel_bank (start cAfter-preset_for).args.e (start cAfter-preset_for).args.channel) x.program) c.channel_of-c.ensures in
+    let a = (start cAfter-preset_for).args in
+    c.refuse-in-Nothing.ensures
+    ∙ sym (answer-none a.bank.now a.ram.now a.rom.now a.channel a.key a.velocity a.e (fine) (sym (found) ∙ c.enum_told-1.given.1))
+
+pub returns-in-At : goal.returns-in-At
+returns-in-At c = let fine : admitted (start cAfter-preset_for).args.bank.now ≡ true = sym c.admitted.ensures ∙ not-false c.admitted.result c.if-not-admitted.false-raw in
+    let found : c.preset_for.result
+    ≡ preset_for (start cAfter-preset_for).args.bank.now (parts_of (start cAfter-preset_for).args.bank.now) (channel_bank (start cAfter-preset_for).args.e (start cAfter-preset_for).args.channel)
+    (channel_at (start cAfter-preset_for).args.e (start cAfter-preset_for).args.channel).program = let b = (start cAfter-preset_for).args.bank.now in
+    let m = c.parts_of-m in
+    c.preset_for.ensures
+    ∙ ap (λ (x : Parts). preset_for b x c.bank_number-number.result c.channel_of-c.result.program) m.ensures
+    ∙ ap (λ (x : ℕ). preset_for b (parts_of b) x c.channel_of-c.result.program) c.bank_number-number.ensures
+    ∙ ap (λ (x : Channel). preset_for b (parts_of b) (channel_bank (start cAfter-preset_for).args.e (start cAfter-preset_for).args.channel) x.program) c.channel_of-c.ensures in
+    let a = (start cAfter-preset_for).args in
+    let i = c.h-1.given.0.0 in
+    c.strike_layers.ensures
+    ∙ ap (λ (m : Parts). layers_answer a.ram.now a.rom.now a.channel (voices_of a.bank.now m i a.channel a.key a.velocity) a.e) c.parts_of-m.ensures
+    ∙ sym (answer-found a.bank.now a.ram.now a.rom.now a.channel a.key a.velocity a.e i (fine) (sym (found) ∙ c.h-1.given.1))

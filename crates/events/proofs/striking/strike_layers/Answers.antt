@@ -1,0 +1,40 @@
+-- The voices of the layers, in an array: too many, one past its memory, or struck.
+use mathlib.Core.Path.{◌≡◌, sym, ap, ◌∙◌, ap₂}
+use native.Mathlib.Omega.{arith}
+use mathlib.Core.List.{List}
+use borrow.Author.Tests.{lt-ltb, le-ltb}
+use lib.ListN.{length}
+use Rattle.layers.specs.Voicing.{voices_of}
+use Rattle.voice.specs.declared.Voice.{Voice}
+use Rattle.state.specs.Answers.{done}
+use Rattle.events.specs.Starting.{any_past, struck}
+use Rattle.events.specs.Internal.Striking.{layers_answer}
+use Rattle.events.proofs.StrikingLaws.{few-count, few-by}
+use Rattle.events.proofs.striking.strike_layers.Goals as goal
+
+abbrev layers : tie.After-voices-for → List Voice
+layers v =
+    let a = v.before.before.args in
+    voices_of a.bank.now a.m a.h a.channel a.key a.velocity
+
+pub returns-then-n-gt32 : goal.returns-then-n-gt32
+unfolding layers_answer
+returns-then-n-gt32 c = let counted : c.voices_for-s.result.count ≡ length (layers cAfter-voices_for) = few-count c.voices_for-s.result (layers cAfter-voices_for) c.voices_for-s.ensures in
+    c.refuse.ensures ∙ simp (lt-ltb 32 (length (layers cAfter-voices_for)) (omega (arith, counted, c.if-n-gt32.true)))
+
+pub returns-then-any_past : goal.returns-then-any_past
+unfolding layers_answer
+returns-then-any_past c = let counted : c.voices_for-s.result.count ≡ length (layers cAfter-voices_for) = few-count c.voices_for-s.result (layers cAfter-voices_for) c.voices_for-s.ensures in
+    let a = c.args in
+    let few = few-by c.voices_for-s.result (layers cAfter-voices_for) c.voices_for-s.ensures c.if-n-gt32.false in
+    let q = sym (c.any_past.ensures ∙ ap (any_past a.ram.now a.rom.now) few) ∙ c.if-any_past.true in
+    c.refuse-then-any_past.ensures ∙ simp (le-ltb 32 (length (layers cAfter-voices_for)) (omega (arith, counted, c.if-n-gt32.false)), q)
+
+pub returns : goal.returns
+unfolding layers_answer
+returns c = let counted : c.voices_for-s.result.count ≡ length (layers cAfter-voices_for) = few-count c.voices_for-s.result (layers cAfter-voices_for) c.voices_for-s.ensures in
+    let a = c.args in
+    let few = few-by c.voices_for-s.result (layers cAfter-voices_for) c.voices_for-s.ensures c.if-n-gt32.false in
+    let q = sym (c.any_past.ensures ∙ ap (any_past a.ram.now a.rom.now) few) ∙ c.if-any_past.false in
+    ap₂ done (counted) (c.strike.ensures ∙ ap (λ (vs : List Voice). (struck a.channel vs a.e).engine) few)
+    ∙ simp (le-ltb 32 (length (layers cAfter-voices_for)) (omega (arith, counted, c.if-n-gt32.false)), q)

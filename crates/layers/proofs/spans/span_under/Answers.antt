@@ -1,0 +1,21 @@
+-- `span_under` meets its contract.
+use borrow.Author.Rules.{rules}
+use mathlib.Core.Path.{refl, ap, ◌∙◌}
+use native.Mathlib.Omega.{arith}
+use Prim.Native.Nat.{◌-◌}
+use Rattle.layers.specs.Spans.{span_under}
+use Rattle.layers.proofs.SpansLaws.{under-turn}
+use Rattle.layers.proofs.spans.span_under.Goals as goal
+
+pub loop-n-init : goal.loop-n-init
+unfolding span_under
+loop-n-init c = (refl, search rules, search rules, search rules)
+
+pub loop-n-preserved : goal.loop-n-preserved
+loop-n-preserved c = let from = c.bag_of-from in
+    let a = c.args in
+    (under-turn a.b.now a.i a.a a.k c.loop-n.n from.result _ _ _ _ _ from.ensures c.zone_at-zone.ensures c.global_of-beside.ensures c.loop-n.invariant.0 c.keys_under.ensures c.joined-span.ensures, search rules, search rules, search rules)
+
+pub returns : goal.returns
+returns c = let a = c.args in
+    c.loop-n.invariant.0 ∙ ap (span_under a.b.now a.i a.a a.k) (omega (arith, c.loop-n-test.false, c.loop-n.invariant.1, c.zone_count-count.ensures))

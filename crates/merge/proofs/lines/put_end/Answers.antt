@@ -1,0 +1,24 @@
+-- `put_end` meets its contract.
+use mathlib.Core.List.{[], ◌∷◌}
+use Prim.Native.Nat.{◌-◌}
+use native.Mathlib.Omega.{arith}
+use Rattle.merge.specs.Internal.Lines.{gap_bytes, closing_bytes}
+use Rattle.merge.proofs.LinesLaws.{closing-length}
+use Rattle.merge.proofs.PagesLaws.{room-then, laid_then}
+use Rattle.merge.proofs.lines.put_end.Goals as goal
+
+pub put_gap-p-requires : goal.put_gap-p-requires
+put_gap-p-requires c = rw c.gap.ensures (omega (arith, c.requires, closing-length c.args.l))
+
+pub put-requires : goal.put-requires
+unfolding closing_bytes
+put-requires c = let a = c.args in
+    let w = rw c.gap.ensures at c.put_gap-p.ensures in
+    room-then a.out.now a.at (gap_bytes a.l.tempo (a.l.end - a.l.tick)) (255 ∷ 47 ∷ 0 ∷ []) c.requires _ _ w.0 w.1
+
+pub returns : goal.returns
+unfolding closing_bytes
+returns c = let a = c.args in
+    let w = rw c.gap.ensures at c.put_gap-p.ensures in
+    let d = c.put.ensures in
+    laid_then a.out.now a.at (gap_bytes a.l.tempo (a.l.end - a.l.tick)) (255 ∷ 47 ∷ 0 ∷ []) c.requires _ _ w.0 w.1 _ _ d.0 d.1

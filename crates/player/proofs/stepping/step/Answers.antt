@@ -1,0 +1,12 @@
+-- Nothing where the song has ended, else the call and the event behind it.
+use Rattle.player.specs.Playing.{applying}
+use Rattle.player.specs.Stepping.{step_taken}
+use Rattle.player.proofs.stepping.step.Goals as goal
+
+pub returns-then-p : goal.returns-then-p
+unfolding step_taken
+returns-then-p c = simp c.if-p.true
+
+pub returns : goal.returns
+unfolding step_taken applying
+returns c = simp (c.if-p.false, c.cue.ensures, c.next.ensures, c.with_engine.ensures, c.heed-a.ensures)

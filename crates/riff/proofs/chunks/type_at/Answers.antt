@@ -1,0 +1,13 @@
+-- `type_at` meets its contract.
+use mathlib.Core.Path.{refl, sym, ◌∙◌}
+use borrow.Author.Tests.{eq-eqb, ne_eqb}
+use Rattle.riff.specs.Chunks.{type_at}
+use Rattle.riff.proofs.chunks.type_at.Goals as goal
+
+pub returns-then-u32_at-eq-LIST : goal.returns-then-u32_at-eq-LIST
+unfolding type_at
+returns-then-u32_at-eq-LIST c = let e = sym c.u32_at.ensures ∙ c.if-u32_at-eq-LIST.true in rw (eq-eqb _ _ e) c.u32_at-then-u32_at-eq-LIST.ensures
+
+pub returns : goal.returns
+unfolding type_at
+returns c = let k = c.u32_at.ensures in rw (ne_eqb _ _ (λ n. c.if-u32_at-eq-LIST.false (k ∙ n))) refl

@@ -1,0 +1,136 @@
+-- Rounds where no stretch may begin, and a stretch else.
+use mathlib.Core.Path.{◌≡◌, sym, ap, ap₂, ◌∙◌, subst}
+use Prim.Native.Nat.{ℕ, zero, suc, ◌+◌, ◌*◌, ◌<◌}
+use mathlib.Core.Bool.{false}
+use mathlib.Core.List.{List}
+use native.Mathlib.Nat.{not-suc-le-zero}
+use native.Mathlib.Omega.{arith}
+use borrow.Author.Rules.{sfits_of}
+use lib.Dec.{lit<}
+use lib.IntN.{ℤ}
+use mir.Facts.{to_z-of_z}
+use mir.Syntax.{w16, w64}
+use mir.Val.{to_z, of_z}
+use Rattle.arith.proofs.WithinLaws.{w-back}
+use Rattle.curves.specs.Levels.{gain_of}
+use Rattle.voice.specs.declared.Stage.{Stage}
+use Rattle.voice.specs.declared.Voice.{Voice}
+use Rattle.voice.specs.Changes.{with_moved, sounds}
+use Rattle.voice.specs.Sound.{whole_loss}
+use Rattle.voice.specs.Stages.{envelope, dead, spent_by}
+use Rattle.voice.specs.Internal.Calm.{Calms}
+use Rattle.voice.specs.Internal.Frames.{heard_at}
+use Rattle.voice.specs.Internal.Pace.{value_in, stop_in}
+use Rattle.voice.specs.Internal.Rounds.{rings}
+use Rattle.voice.specs.Internal.Sides.{share, left_out, right_out}
+use Rattle.voice.specs.Internal.Stages.{RoomBy}
+use Rattle.voice.specs.Internal.Stretch.{Clear, plains}
+use Rattle.voice.specs.Internal.Sums.{Small, add_at}
+use Rattle.voice.proofs.PaceLaws.{room}
+use Rattle.voice.proofs.RoundsLaws.{Rounded, rounds-slot, rounds-sums}
+use Rattle.voice.proofs.StagesLaws.{room-le}
+use Rattle.voice.proofs.StretchLaws.{stretch-slot, stretch-sums}
+use Rattle.voice.proofs.frames.onward.Goals as goal
+
+-- so many frames before the stop leave room
+roomy : (v : Voice) (s : Stage) (m : ℕ) → v.attack < 4294967296 → v.hold < 4294967296 → v.decay < 4294967296 → v.release < 4294967296
+    → ((j : ℕ) → j < m → value_in v (spent_by j s) < stop_in v s) → 0 < m → RoomBy m s
+roomy v s zero a h d r k z = absurd (not-suc-le-zero z)
+roomy v s (suc m) a h d r k z = room v s m a h d r (k m (omega arith))
+
+pub ring-requires : goal.ring-requires
+ring-requires c = let y = c.way_of-way.ensures.1 in
+    let s = start cAfter-sides_of in
+    let b = w-back w64 s.pre.1.0 (lit< tt) in (
+      s.pre.0,
+      (
+        rw b s.pre.1.0,
+        (
+          (c.sides_of-sides.ensures.1, c.sides_of-sides.ensures.3),
+          ((y.0, y.1, y.2), (omega (arith, c.few.ensures.0, s.pre.1.1.1.0), s.pre.1.1.1.1)),
+        ),
+      ),
+    )
+
+pub returns-then-count-eq0 : goal.returns-then-count-eq0
+returns-then-count-eq0 c = let counts : (c.args.v.attack < 4294967296) × (c.args.v.hold < 4294967296) × (c.args.v.decay < 4294967296) × (c.args.v.release < 4294967296) = (omega arith, omega arith, omega arith, omega arith) in
+    let m : ℕ = c.ring.result.frames in
+    let rounded : Rounded k.args.st k.args.l k.args.w.now k.args.v k.args.s c.way_of-way.result c.way_of-way.ensures.0.0 m = c.ring.ensures.1.0.1 in
+    let pan : to_z w16 (of_z w16 c.args.v.pan) ≡ c.args.v.pan = to_z-of_z {w = w16} {z = c.args.v.pan} (sfits_of c.good.0.1.1.1.1.1.1.1.1.1.1.1.1.1.1.1.1.1.0.1) in
+    let left : c.sides_of-sides.result.left ≡ share (left_out c.args.v.pan) = rw pan at c.sides_of-sides.ensures.0 in
+    let right : c.sides_of-sides.result.right ≡ share (right_out c.args.v.pan) = rw pan at c.sides_of-sides.ensures.2 in
+    let rang : rings k.args.l c.sides_of-sides.result.left c.sides_of-sides.result.right k.args.w.now k.args.v k.args.s c.way_of-way.result m
+    ≡ heard_at k.args.st k.args.l k.args.w.now m (sounds k.args.v) = let a = k.args in
+    let y = c.way_of-way.result in
+    ap₂ (λ (x z : ℕ). rings a.l x z a.w.now a.v a.s y m) (left) (right)
+    ∙ sym (rounds-sums a.st a.l a.w.now a.v a.s y c.way_of-way.ensures.0.0 k.pre.1.1.0 c.way_of-way.ensures.0.1 m rounded) in
+    let s = k cAfter-ring in
+    let a = s.args in
+    let y = c.Way-of in
+    let n = counts s in
+    let b = w-back w64 s.pre.1.0 (lit< tt) in (
+      (
+        omega (arith, c.ring.ensures.0, c.few.ensures.0),
+        omega (arith, c.ring.ensures.0, c.few.ensures.1),
+        λ z. roomy a.v a.s (m) n.0 n.1 n.2 n.3 (λ j h. (rounded j h).1) z,
+      ),
+      (
+        λ z.
+            rounds-slot a.st a.l a.w.now a.v a.s y.result y.ensures.0.0 s.pre.1.1.0 y.ensures.0.1 (m) z (rounded)
+            ∙ ap (λ (p : ℕ). sounds (with_moved a.v (spent_by (m) a.s) p a.v.marked)) (sym c.ring.ensures.1.0.0),
+        (
+          rw b at c.ring.ensures.1.1.0 ∙ ap (λ (xs : List ℤ). add_at (2 * a.k) xs a.acc.now) (rang),
+          subst (Small 1) (rang) (rw b at c.ring.ensures.1.1.1),
+        ),
+      ),
+    )
+
+pub glide-requires : goal.glide-requires
+glide-requires c = let s = start cAfter-sides_of in
+    let h : 0 < c.ahead-count.result = omega (arith, c.if-count-eq0.false) in
+    let here = (c.ahead-count.ensures.1.1 h).1 in
+    let first = c.limit_of-limit.ensures.1.0 (omega (arith, here)) in (
+      (c.gain.ensures.1, c.sides_of-sides.ensures.1, c.sides_of-sides.ensures.3),
+      (
+        (c.limit_of-limit.ensures.1.1, λ p q. (c.limit_of-limit.ensures.0 p q).inside),
+        (
+          (first.1, first.0, here, c.ahead-count.ensures.0.1),
+          (omega (arith, c.ahead-count.ensures.0.0, s.pre.1.1.1.0), s.pre.1.1.1.1),
+        ),
+      ),
+    )
+
+pub returns : goal.returns
+returns c = let count : ℕ = c.glide.result.frames in
+    let some : 0 < c.ahead-count.result = omega (arith, c.if-count-eq0.left) in
+    let voice : Voice = begun.args.v in
+    let alive : dead voice begun.args.s ≡ false = (c.ahead-count.ensures.1.1 some).0 in
+    let calm : Calms voice begun.args.s count = λ j h. c.ahead-count.ensures.1.0 j (omega (arith, c.glide.ensures.0.0)) in
+    let clear : (j : ℕ) → j < count → Clear begun.args.w.now voice begun.args.s begun.args.st (voice.place + j * begun.args.st) = λ j h. c.limit_of-limit.ensures.0 (voice.place + j * begun.args.st) (c.glide.ensures.1.0.1 j h) in
+    let pan : to_z w16 (of_z w16 c.args.v.pan) ≡ c.args.v.pan = to_z-of_z {w = w16} {z = c.args.v.pan} (sfits_of c.good.0.1.1.1.1.1.1.1.1.1.1.1.1.1.1.1.1.1.0.1) in
+    let left : c.sides_of-sides.result.left ≡ share (left_out c.args.v.pan) = rw pan at c.sides_of-sides.ensures.0 in
+    let right : c.sides_of-sides.result.right ≡ share (right_out c.args.v.pan) = rw pan at c.sides_of-sides.ensures.2 in
+    let heard : plains c.gain.result c.sides_of-sides.result.left c.sides_of-sides.result.right begun.args.w.now begun.args.st voice.place count
+    ≡ heard_at begun.args.st begun.args.l begun.args.w.now count (sounds voice) = let a = begun.args in
+    let w = a.w.now in
+    let e = c.gain.ensures.0 ∙ ap gain_of (rw (w-back w64 begun.pre.1.0 (lit< tt)) at c.total_of-a.ensures ∙ ap (whole_loss a.l) c.envelope_of.ensures.0) in
+    ap (λ (x : ℕ). plains x c.sides_of-sides.result.left c.sides_of-sides.result.right w a.st voice.place count) e
+    ∙ ap₂ (λ (x z : ℕ). plains (gain_of (whole_loss a.l (envelope voice a.s))) x z w a.st voice.place count) (left) (right)
+    ∙ sym (stretch-sums a.st a.l w voice a.s alive begun.pre.1.1.0 count calm clear) in
+    let s = begun cAfter-glide in
+    let a = s.args in (
+      (
+        omega (arith, c.glide.ensures.0.0, c.ahead.ensures.0.0),
+        omega (arith, c.glide.ensures.0.0, c.ahead.ensures.0.1),
+        λ z. room-le a.s c.ahead.result (count) c.glide.ensures.0.0 (c.ahead.ensures.1.1 (some)).2,
+      ),
+      (
+        λ z.
+            stretch-slot a.st a.l a.w.now a.v a.s (alive) s.pre.1.1.0 (count) z (calm) (clear)
+            ∙ ap (λ (p : ℕ). sounds (with_moved a.v (spent_by (count) a.s) p a.v.marked)) (sym c.glide.ensures.1.0.0),
+        (
+          c.glide.ensures.1.1.0 ∙ ap (λ (xs : List ℤ). add_at (2 * a.k) xs a.acc.now) (heard),
+          subst (Small 1) (heard) c.glide.ensures.1.1.1,
+        ),
+      ),
+    )

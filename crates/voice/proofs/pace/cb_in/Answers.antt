@@ -1,0 +1,26 @@
+-- The c_b, by the stage: each return by that case of `cb_in`.
+use mathlib.Core.Path.{sym, ap, ◌∙◌}
+use native.Mathlib.Omega.{arith}
+use Rattle.voice.specs.declared.Stage.{Stage}
+use Rattle.voice.specs.Internal.Pace.{cb_in}
+use Rattle.voice.proofs.pace.cb_in.Goals as goal
+
+pub returns-in-Delay : goal.returns-in-Delay
+returns-in-Delay c = let a = c.args in (sym (ap (λ (s : Stage). cb_in a.v s a.value) c.enum_told-1.given.1), omega arith)
+
+pub returns-in-Attack : goal.returns-in-Attack
+returns-in-Attack c = let a = c.args in (sym (ap (λ (s : Stage). cb_in a.v s a.value) c.enum_told-in-Attack-1.given.1), omega arith)
+
+pub returns-in-Hold : goal.returns-in-Hold
+returns-in-Hold c = let a = c.args in (sym (ap (λ (s : Stage). cb_in a.v s a.value) c.enum_told-in-Hold-1.given.1), omega arith)
+
+pub returns-in-Decay : goal.returns-in-Decay
+returns-in-Decay c = let a = c.args in (sym (ap (λ (s : Stage). cb_in a.v s a.value) c.enum_told-in-Decay-1.given.1), omega (arith, c.requires))
+
+pub returns-in-Sustain : goal.returns-in-Sustain
+returns-in-Sustain c = let a = c.args in
+    (c.wide.ensures ∙ sym (ap (λ (s : Stage). cb_in a.v s a.value) c.enum_told-in-Sustain-1.given.1), omega arith)
+
+pub returns-in-Release : goal.returns-in-Release
+returns-in-Release c = let a = c.args in
+    (c.fallen.ensures.0 ∙ sym (ap (λ (s : Stage). cb_in a.v s a.value) c.s-1.given.1), c.fallen.ensures.1)

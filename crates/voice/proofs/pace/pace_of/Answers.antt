@@ -1,0 +1,32 @@
+-- The pace, by the stage.
+use mathlib.Core.Path.{◌≡◌, sym, subst}
+use Rattle.voice.specs.declared.Stage.{Stage}
+use Rattle.voice.specs.declared.Voice.{Voice}
+use Rattle.voice.specs.declared.pace.Pace.{Pace}
+use Rattle.voice.specs.Internal.Pace.{some, PaceAt}
+use Rattle.voice.proofs.pace.pace_of.Goals as goal
+
+-- what is shown of the stage that the match found is shown of s
+seen : (v : Voice) (c : Pace) (s g : Stage) → s ≡ g → PaceAt v g c → PaceAt v s c
+seen v c s g e h = subst (λ (x : Stage). PaceAt v x c) (sym e) h
+
+pub returns-in-Delay : goal.returns-in-Delay
+unfolding some
+returns-in-Delay c = seen _ _ _ _ c.enum_told-1.given.1 c.paced.ensures
+
+pub returns-in-Attack : goal.returns-in-Attack
+returns-in-Attack c = seen _ _ _ _ c.s-1.given.1 c.paced-in-Attack.ensures
+
+pub returns-in-Hold : goal.returns-in-Hold
+unfolding some
+returns-in-Hold c = seen _ _ _ _ c.s-in-Hold-1.given.1 c.paced-in-Hold.ensures
+
+pub returns-in-Decay : goal.returns-in-Decay
+returns-in-Decay c = seen _ _ _ _ c.s-in-Decay-1.given.1 c.paced-in-Decay.ensures
+
+pub returns-in-Sustain : goal.returns-in-Sustain
+unfolding some
+returns-in-Sustain c = seen _ _ _ _ c.enum_told-in-Sustain-1.given.1 c.paced-in-Sustain.ensures
+
+pub returns-in-Release : goal.returns-in-Release
+returns-in-Release c = seen _ _ _ _ c.s-in-Release-1.given.1 c.paced-in-Release.ensures

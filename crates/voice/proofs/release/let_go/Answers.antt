@@ -1,0 +1,27 @@
+-- The stage at release, by the stage before it: each return by that case of `let_go`.
+use Prim.Native.Nat.{ℕ}
+use mathlib.Core.Path.{sym, ap, ◌∙◌}
+use Rattle.voice.specs.Release.{let_go}
+use Rattle.curves.specs.Levels.{least_cb}
+use Rattle.voice.specs.declared.Stage.TheVariants.{Release}
+use Rattle.voice.proofs.release.let_go.Goals as goal
+
+pub returns-in-Delay : goal.returns-in-Delay
+returns-in-Delay c = sym (ap (let_go c.args.v) c.enum_told-1.given.1)
+
+pub returns-in-Attack : goal.returns-in-Attack
+returns-in-Attack c = let v = c.args.v in
+    ap (λ (x : ℕ). Release x 0) (c.least_cb.ensures ∙ ap least_cb c.level_at.ensures.0) ∙ sym (ap (let_go v) c.s-1.given.1)
+
+pub returns-in-Hold : goal.returns-in-Hold
+returns-in-Hold c = sym (ap (let_go c.args.v) c.enum_told-in-Hold-1.given.1)
+
+pub returns-in-Decay : goal.returns-in-Decay
+returns-in-Decay c = let v = c.args.v in
+    ap (λ (x : ℕ). Release x 0) c.decay_at.ensures ∙ sym (ap (let_go v) c.s-in-Decay-1.given.1)
+
+pub returns-in-Sustain : goal.returns-in-Sustain
+returns-in-Sustain c = sym (ap (let_go c.args.v) c.enum_told-in-Sustain-1.given.1)
+
+pub returns-in-Release : goal.returns-in-Release
+returns-in-Release c = sym (ap (let_go c.args.v) c.s-in-Release-1.given.1)

@@ -1,0 +1,22 @@
+-- floor(u * level / 2^24) and its bound, by the signed expression.
+use lib.Dec.{lit≤}
+use mir.Syntax.{w64}
+use mathlib.Core.List.{List, [], ◌∷◌}
+use Rattle.arith.proofs.WithinLaws.{w-nat, w_le}
+use Rattle.arith.proofs.Expressions.{E, Var, var, mul, shr, given, fits, back, within}
+use Rattle.voice.proofs.sound.at_level.Goals as goal
+
+abbrev env : tie.Start → List Var
+env c = given c.requires.0 ∷ given (w-nat c.requires.1) ∷ []
+
+abbrev product : E
+product = mul (var 0) (var 1)
+
+abbrev whole : E
+whole = shr product 24
+
+pub overflow_mul-result : goal.overflow_mul-result
+overflow_mul-result c = fits w64 (env cStart) product tt
+
+pub returns : goal.returns
+returns c = let e = back w64 (env cStart) whole tt in (e, rw e (w_le (within whole (env cStart)) (lit≤ tt)))

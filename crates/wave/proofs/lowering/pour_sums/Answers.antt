@@ -1,0 +1,46 @@
+-- The tests are those of the definition, in its order; half the room is compared, so that no product can wrap.
+use mathlib.Core.Path.{refl, ap, ap₂, sym, ◌∙◌}
+use mathlib.Core.List.{◌++◌}
+use native.Mathlib.Omega.{arith}
+use Prim.Native.Nat.{ℕ, ◌*◌, min}
+use lib.ListN.{length, drop}
+use Rattle.wave.specs.Lowering.{frames_past, poured_sums}
+use Rattle.wave.proofs.LoweringLaws.{not-odd, sums-0, sums-13, sums-15, sums-answer, sums-refused, sums-written}
+use Rattle.wave.proofs.lowering.pour_sums.Goals as goal
+
+pub returns-then-sums-eq1 : goal.returns-then-sums-eq1
+returns-then-sums-eq1 c = let a = c.args in
+    let zs = a.sums.now in
+    let out = a.out.now in
+    let r = sums-refused a.attenuation zs out 13 (sums-13 zs (length out) c.if-sums-eq1.true) refl in
+    (c.refuse.ensures ∙ r.0, r.1)
+
+pub returns-then-out-sums : goal.returns-then-out-sums
+returns-then-out-sums c = let a = c.args in
+    let zs = a.sums.now in
+    let out = a.out.now in
+    let few = c.if-out-sums.true in
+    let r = sums-refused a.attenuation zs out 15 (sums-15 zs (length out) (not-odd (length zs) c.if-sums-eq1.false) (omega (arith, few))) refl in
+    (c.refuse-then-out-sums.ensures ∙ r.0, r.1)
+
+pub fill-requires : goal.fill-requires
+fill-requires c = let enough = c.if-out-sums.false in
+    (c.gain-g.ensures.1, omega (arith, enough))
+
+pub frames_past-requires : goal.frames_past-requires
+frames_past-requires c = (not-odd (length c.args.sums.now) c.if-sums-eq1.false, c.gain-g.ensures.1)
+
+pub returns : goal.returns
+returns c = let a = c.args in
+    let zs = a.sums.now in
+    let out = a.out.now in
+    let enough = c.if-out-sums.false in
+    let zero = sums-0 zs (length out) (not-odd (length zs) c.if-sums-eq1.false) (omega (arith, enough)) in
+    let gain = c.gain-g.ensures.0 in (
+      ap₂ (λ (h l : ℕ). record { number = 0; held = h; loudest = l })
+          (c.least-held.ensures ∙ ap (λ (k : ℕ). min k 4294967295) (c.frames_past.ensures ∙ ap (λ (k : ℕ). frames_past k zs) gain)) c.loudest_of.ensures
+          ∙ sym (sums-answer a.attenuation zs (length out) zero),
+      c.fill.ensures
+          ∙ ap (λ (k : ℕ). poured_sums k zs ++ drop (2 * length zs) out) gain
+          ∙ sym (sums-written a.attenuation zs out zero),
+    )
