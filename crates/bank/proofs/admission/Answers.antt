@@ -68,7 +68,7 @@ pub parts_of-m-requires : goal.parts_of-m-requires
 parts_of-m-requires c = let bytes : List ℕ = c.args.b.now in
     let chunks-good : chunk_fault (bytes) ≡ Nothing = answers c.chunk_fault.ensures c.enum_told-1.given.1 in
     let the-bytes : List ℕ = bytes in
-    omega (arith, whole-bank (the-bytes) (chunks-good (whole cAfter-enum_told2)))
+    omega (arith, whole-bank (the-bytes) (chunks-good))
 
 -- 4. indexes, the first test that reads the lists
 pub index_fault-requires : goal.index_fault-requires
@@ -84,10 +84,10 @@ returns-in-At-index_fault c = let bytes : List ℕ = c.args.b.now in
     let records-good : records_fault the-bytes ≡ Nothing = answers c.records_fault.ensures c.enum_told-in_default-records_fault-1.given.1 in
     let lent : List ℕ = the-bytes in
     let short : long_fault bytes ≡ Nothing = long-none bytes c.if-b-gt65536.false in
-    let short-here : long_fault lent ≡ Nothing = short c.before.before.before in
+    let short-here : long_fault lent ≡ Nothing = short in
     let p = c.p-in-At-index_fault-1.given.0.0 in
     let e = answers_of (index_fault (lent)) c.parts_of-m.ensures c.index_fault.ensures c.p-in-At-index_fault-1.given.1 in
-    sym (fault-index (lent) (short-here) (chunks-good (whole (early cAfter-parts_of))) (records-good (early cAfter-parts_of)) p e)
+    sym (fault-index (lent) (short-here) (chunks-good) (records-good) p e)
 
 pub enum_told-in_default-index_fault : goal.enum_told-in_default-index_fault
 enum_told-in_default-index_fault c = c.in_default-index_fault.keys2
@@ -106,12 +106,11 @@ returns-in-At-number_fault c = let bytes : List ℕ = c.args.b.now in
     let records-good : records_fault the-bytes ≡ Nothing = answers c.records_fault.ensures c.enum_told-in_default-records_fault-1.given.1 in
     let lent : List ℕ = the-bytes in
     let short : long_fault bytes ≡ Nothing = long-none bytes c.if-b-gt65536.false in
-    let short-here : long_fault lent ≡ Nothing = short c.before.before.before in
+    let short-here : long_fault lent ≡ Nothing = short in
     let indexes-good : index_fault (lent) (parts_of (lent)) ≡ Nothing = answers_of (index_fault (lent)) c.parts_of-m.ensures c.index_fault.ensures c.enum_told-in_default-index_fault-1.given.1 in
-    let m = read cAfter-enum_told3 in
     let p = c.p-in-At-number_fault-1.given.0.0 in
-    let e = answers_of (number_fault (lent m)) m.parts-of.ensures c.number_fault.ensures c.p-in-At-number_fault-1.given.1 in
-    sym (fault-number (lent m) (short-here m) (chunks-good (whole (early m))) (records-good (early m)) (indexes-good) p e)
+    let e = answers_of (number_fault (lent)) c.parts_of-m.ensures c.number_fault.ensures c.p-in-At-number_fault-1.given.1 in
+    sym (fault-number (lent) (short-here) (chunks-good) (records-good) (indexes-good) p e)
 
 pub enum_told-in_default-number_fault : goal.enum_told-in_default-number_fault
 enum_told-in_default-number_fault c = c.in_default-number_fault.keys2
@@ -130,14 +129,12 @@ returns-in-At-rate_fault c = let bytes : List ℕ = c.args.b.now in
     let records-good : records_fault the-bytes ≡ Nothing = answers c.records_fault.ensures c.enum_told-in_default-records_fault-1.given.1 in
     let lent : List ℕ = the-bytes in
     let short : long_fault bytes ≡ Nothing = long-none bytes c.if-b-gt65536.false in
-    let short-here : long_fault lent ≡ Nothing = short c.before.before.before in
+    let short-here : long_fault lent ≡ Nothing = short in
     let indexes-good : index_fault (lent) (parts_of (lent)) ≡ Nothing = answers_of (index_fault (lent)) c.parts_of-m.ensures c.index_fault.ensures c.enum_told-in_default-index_fault-1.given.1 in
-    let numbers-good : number_fault (lent (read cAfter-enum_told3)) (parts_of (lent (read cAfter-enum_told3))) ≡ Nothing = answers_of (number_fault (lent (read cAfter-enum_told3))) c.parts-of.ensures c.number_fault.ensures c.enum_told-in_default-number_fault-1.given.1 in
-    let i = indexed cAfter-enum_told4 in
-    let m = read i in
+    let numbers-good : number_fault (lent) (parts_of (lent)) ≡ Nothing = answers_of (number_fault (lent)) c.parts_of-m.ensures c.number_fault.ensures c.enum_told-in_default-number_fault-1.given.1 in
     let p = c.p-in-At-rate_fault-1.given.0.0 in
-    let e = answers_of (rate_fault (lent m)) m.parts-of.ensures c.rate_fault.ensures c.p-in-At-rate_fault-1.given.1 in
-    sym (fault-rate (lent m) (short-here m) (chunks-good (whole (early m))) (records-good (early m)) (indexes-good i) (numbers-good) p e)
+    let e = answers_of (rate_fault (lent)) c.parts_of-m.ensures c.rate_fault.ensures c.p-in-At-rate_fault-1.given.1 in
+    sym (fault-rate (lent) (short-here) (chunks-good) (records-good) (indexes-good) (numbers-good) p e)
 
 pub enum_told-in_default-rate_fault : goal.enum_told-in_default-rate_fault
 enum_told-in_default-rate_fault c = c.in_default-rate_fault.keys2
@@ -156,15 +153,13 @@ returns-in-At-window_fault c = let bytes : List ℕ = c.args.b.now in
     let records-good : records_fault the-bytes ≡ Nothing = answers c.records_fault.ensures c.enum_told-in_default-records_fault-1.given.1 in
     let lent : List ℕ = the-bytes in
     let short : long_fault bytes ≡ Nothing = long-none bytes c.if-b-gt65536.false in
-    let short-here : long_fault lent ≡ Nothing = short c.before.before.before in
+    let short-here : long_fault lent ≡ Nothing = short in
     let indexes-good : index_fault (lent) (parts_of (lent)) ≡ Nothing = answers_of (index_fault (lent)) c.parts_of-m.ensures c.index_fault.ensures c.enum_told-in_default-index_fault-1.given.1 in
-    let numbers-good : number_fault (lent (read cAfter-enum_told3)) (parts_of (lent (read cAfter-enum_told3))) ≡ Nothing = answers_of (number_fault (lent (read cAfter-enum_told3))) c.parts-of.ensures c.number_fault.ensures c.enum_told-in_default-number_fault-1.given.1 in
-    let rates-good : rate_fault (lent lists) (parts_of (lent lists)) ≡ Nothing = answers_of (rate_fault (lent lists)) lists.parts-of.ensures c.rate_fault.ensures c.enum_told-in_default-rate_fault-1.given.1 in
-    let n = numbered cAfter-enum_told5 in
-    let m = lists cAfter-enum_told5 in
+    let numbers-good : number_fault (lent) (parts_of (lent)) ≡ Nothing = answers_of (number_fault (lent)) c.parts_of-m.ensures c.number_fault.ensures c.enum_told-in_default-number_fault-1.given.1 in
+    let rates-good : rate_fault (lent) (parts_of (lent)) ≡ Nothing = answers_of (rate_fault (lent)) c.parts_of-m.ensures c.rate_fault.ensures c.enum_told-in_default-rate_fault-1.given.1 in
     let p = c.p-in-At-window_fault-1.given.0.0 in
-    let e = answers_of (window_fault (lent m)) m.parts-of.ensures c.window_fault.ensures c.p-in-At-window_fault-1.given.1 in
-    sym (fault-window (lent m) (short-here m) (chunks-good (whole (early m))) (records-good (early m)) (indexes-good (indexed n)) (numbers-good n) (rates-good) p e)
+    let e = answers_of (window_fault (lent)) c.parts_of-m.ensures c.window_fault.ensures c.p-in-At-window_fault-1.given.1 in
+    sym (fault-window (lent) (short-here) (chunks-good) (records-good) (indexes-good) (numbers-good) (rates-good) p e)
 
 pub enum_told-in_default-window_fault : goal.enum_told-in_default-window_fault
 enum_told-in_default-window_fault c = c.in_default-window_fault.keys2
@@ -176,11 +171,9 @@ returns c = let bytes : List ℕ = c.args.b.now in
     let records-good : records_fault the-bytes ≡ Nothing = answers c.records_fault.ensures c.enum_told-in_default-records_fault-1.given.1 in
     let lent : List ℕ = the-bytes in
     let short : long_fault bytes ≡ Nothing = long-none bytes c.if-b-gt65536.false in
-    let short-here : long_fault lent ≡ Nothing = short c.before.before.before in
+    let short-here : long_fault lent ≡ Nothing = short in
     let indexes-good : index_fault (lent) (parts_of (lent)) ≡ Nothing = answers_of (index_fault (lent)) c.parts_of-m.ensures c.index_fault.ensures c.enum_told-in_default-index_fault-1.given.1 in
-    let numbers-good : number_fault (lent (read cAfter-enum_told3)) (parts_of (lent (read cAfter-enum_told3))) ≡ Nothing = answers_of (number_fault (lent (read cAfter-enum_told3))) c.parts-of.ensures c.number_fault.ensures c.enum_told-in_default-number_fault-1.given.1 in
-    let rates-good : rate_fault (lent lists) (parts_of (lent lists)) ≡ Nothing = answers_of (rate_fault (lent lists)) lists.parts-of.ensures c.rate_fault.ensures c.enum_told-in_default-rate_fault-1.given.1 in
-    let n = numbered cAfter-enum_told5 in
-    let m = lists cAfter-enum_told5 in
-    let e = answers_of (window_fault (lent m)) m.parts-of.ensures c.window_fault.ensures c.enum_told-in_default-window_fault-1.given.1 in
-    sym (fault-none (lent m) (short-here m) (chunks-good (whole (early m))) (records-good (early m)) (indexes-good (indexed n)) (numbers-good n) (rates-good) e)
+    let numbers-good : number_fault (lent) (parts_of (lent)) ≡ Nothing = answers_of (number_fault (lent)) c.parts_of-m.ensures c.number_fault.ensures c.enum_told-in_default-number_fault-1.given.1 in
+    let rates-good : rate_fault (lent) (parts_of (lent)) ≡ Nothing = answers_of (rate_fault (lent)) c.parts_of-m.ensures c.rate_fault.ensures c.enum_told-in_default-rate_fault-1.given.1 in
+    let e = answers_of (window_fault (lent)) c.parts_of-m.ensures c.window_fault.ensures c.enum_told-in_default-window_fault-1.given.1 in
+    sym (fault-none (lent) (short-here) (chunks-good) (records-good) (indexes-good) (numbers-good) (rates-good) e)

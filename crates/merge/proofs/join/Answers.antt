@@ -65,7 +65,7 @@ overflow_sub-size c = let sequence : List Entry = sequence_of c.args.count c.arg
     let file : List ℕ = joined_file c.args.division (sequence) in
     let size_is : c.whole_size-size.result ≡ held_count (length file) = c.whole_size-size.ensures ∙ ap (λ (t : Tally). held_count (t.size + length (closing_bytes t.line))) (tally-is)
     ∙ all-size (sequence) (3600000000 * c.args.division) ∙ ap held_count (sym (file-length c.args.division (sequence))) in
-    omega (arith, size_is, file-length c.args.division (sequence (told cAfter-whole_size)))
+    omega (arith, size_is, file-length c.args.division (sequence))
 
 pub write-requires : goal.write-requires
 write-requires c = let sequence : List Entry = sequence_of c.args.count c.args.file.now c.args.at in
@@ -77,8 +77,8 @@ write-requires c = let sequence : List Entry = sequence_of c.args.count c.args.f
     let a = c.args in
     let z = size_is in
     let r = c.room.ensures in
-    let n = file-length a.division (sequence (told cAfter-whole_size)) in
-    (c.before.lanes.ensures.1.0, rw (same-sequence (told cAfter-whole_size)) (omega (arith, z, r, n, c.if-room-size.false)))
+    let n = file-length a.division (sequence) in
+    (c.lanes-l.ensures.1.0, rw (same-sequence) (omega (arith, z, r, n, c.if-room-size.false)))
 
 pub returns : goal.returns
 returns c = let sequence : List Entry = sequence_of c.args.count c.args.file.now c.args.at in
@@ -93,11 +93,11 @@ returns c = let sequence : List Entry = sequence_of c.args.count c.args.file.now
     let a = c.args in
     let z = size_is in
     let r = c.room.ensures in
-    let n = file-length a.division (sequence (told cAfter-whole_size)) in
+    let n = file-length a.division (sequence) in
     let small : length (file) ≤ room_of a.out.now = omega (arith, z, r, c.if-room-size.false) in
     let same : c.whole_size-size.result ≡ length (file) = omega (arith, z, small) in
-    let put = rw (same-sequence (told cAfter-whole_size)) at c.write.ensures in
-    let track : c.whole_size-size.result - 22 ≡ length (line_bytes line_start (sequence (told cAfter-whole_size))) = omega (arith, same, n) in
-    let done = laid-file a.out.now _ a.division (c.whole_size-size.result - 22) (sequence (told cAfter-whole_size)) track put in
+    let put = rw (same-sequence) at c.write.ensures in
+    let track : c.whole_size-size.result - 22 ≡ length (line_bytes line_start (sequence)) = omega (arith, same, n) in
+    let done = laid-file a.out.now _ a.division (c.whole_size-size.result - 22) (sequence) track put in
     let answer : ◌≡◌ {A = Merged} (record { number = 0; place = 0; size = c.whole_size-size.result }) (record { number = 0; place = 0; size = length (file) }) = ap (λ (x : ℕ). record { number = 0; place = 0; size = x }) same in
     rw (outcome (room_of a.out.now) ∙ fitted-in (room_of a.out.now) (file) small) (answer, done)

@@ -8,18 +8,18 @@ use Rattle.arith.proofs.WithinLaws.{w-nat}
 use Rattle.curves.specs.Pitch.{bend_cents}
 use Rattle.curves.proofs.pitch.bend_cents.Goals as goal
 
-abbrev env : tie.Start → List Var
-env c = given (w-nat {m = c.args.bend} {n = 65535} (omega arith)) ∷ []
-
 abbrev product : E
 product = mul (sub (var 0) (lit (pos 8192))) (lit (pos 25))
 
 pub overflow_sub-result : goal.overflow_sub-result
-overflow_sub-result c = fits w32 (env cStart) (sub (var 0) (lit (pos 8192))) tt
+overflow_sub-result c = let env : List Var = given (w-nat {m = c.args.bend} {n = 65535} (omega arith)) ∷ [] in
+    fits w32 (env) (sub (var 0) (lit (pos 8192))) tt
 
 pub overflow_mul-result : goal.overflow_mul-result
-overflow_mul-result c = fits w32 (env cStart) product tt
+overflow_mul-result c = let env : List Var = given (w-nat {m = c.args.bend} {n = 65535} (omega arith)) ∷ [] in
+    fits w32 (env) product tt
 
 pub returns : goal.returns
 unfolding bend_cents
-returns c = back w32 (env cStart) (shr product 10) tt
+returns c = let env : List Var = given (w-nat {m = c.args.bend} {n = 65535} (omega arith)) ∷ [] in
+    back w32 (env) (shr product 10) tt

@@ -17,7 +17,7 @@ pub loop-i-init : goal.loop-i-init
 loop-i-init c = let a = c.args in
     let e = a.e in
     let f = slot_after a.ram.now a.rom.now e a.n in (
-      paired-length e.sounding e.voices ∙ simp length-map at c.well-formed.0.1.1.0.1.0.1,
+      paired-length e.sounding e.voices ∙ simp length-map at c.well_formed.0.1.1.0.1.0.1,
       store-none f e,
       sym (word_none f (slots_of e)),
       sym (add_none (slot_heard a.ram.now a.rom.now e a.n) (slots_of e) a.acc.now),

@@ -12,7 +12,7 @@ use Rattle.events.proofs.starting.any_past.Goals as goal
 
 pub loop-i-init : goal.loop-i-init
 unfolding any_past
-loop-i-init c = (c.well-formed.1.1.0.1.0.1, sym (any_none (ends_past c.args.ram.now c.args.rom.now) c.args.t3), omega arith, omega arith)
+loop-i-init c = (c.well_formed.1.1.0.1.0.1, sym (any_none (ends_past c.args.ram.now c.args.rom.now) c.args.t3), omega arith, omega arith)
 
 pub loop-i-preserved : goal.loop-i-preserved
 unfolding any_past

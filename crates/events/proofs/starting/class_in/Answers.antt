@@ -11,7 +11,7 @@ use Rattle.events.proofs.starting.class_in.Goals as goal
 
 pub loop-i-init : goal.loop-i-init
 unfolding class_in
-loop-i-init c = (c.well-formed.1.0.1.0.1, sym (any_none (same_class c.args.class) c.args.t2), omega arith, omega arith)
+loop-i-init c = (c.well_formed.1.0.1.0.1, sym (any_none (same_class c.args.class) c.args.t2), omega arith, omega arith)
 
 pub loop-i-preserved : goal.loop-i-preserved
 unfolding class_in

@@ -10,7 +10,7 @@ use Rattle.events.proofs.StartingLaws.{start_none, start-turn}
 use Rattle.events.proofs.starting.start_all.Goals as goal
 
 pub loop-i-init : goal.loop-i-init
-loop-i-init c = (c.well-formed.1.0.1.0.1, sym (start_none c.args.t2 (begin c.args.e)), omega arith, omega arith)
+loop-i-init c = (c.well_formed.1.0.1.0.1, sym (start_none c.args.t2 (begin c.args.e)), omega arith, omega arith)
 
 pub loop-i-preserved : goal.loop-i-preserved
 loop-i-preserved c = let a = c.args in (

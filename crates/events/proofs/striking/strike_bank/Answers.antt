@@ -17,9 +17,6 @@ use Rattle.events.specs.Internal.Striking.{layers_answer}
 use Rattle.events.proofs.StrikingLaws.{answer-bad, answer-none, answer-found, preset-low}
 use Rattle.events.proofs.striking.strike_bank.Goals as goal
 
-abbrev start : tie.After-preset-for → tie.Start
-start p = p.before.before.before.before.before.before.before
-
 pub returns-then-not-admitted : goal.returns-then-not-admitted
 returns-then-not-admitted c = let a = c.args in
     let h = sym c.admitted.ensures ∙ not-true c.admitted.result c.if-not-admitted.true-raw in
@@ -30,33 +27,33 @@ parts_of-m-requires c = admitted-room c.args.bank.now (sym c.admitted.ensures �
 
 pub overflow_cast-h : goal.overflow_cast-h
 overflow_cast-h c = let heads : c.parts_of-m.result.presets.nheads < 4294967296 = omega arith in
-    omega (arith, heads, preset-low (start cAfter-preset_for).args.bank.now c.parts_of-m.result c.bank_number-number.result c.channel_of-c.result.program c.h-1.given.0.0 (sym c.preset_for.ensures ∙ c.h-1.given.1))
+    omega (arith, heads, preset-low c.args.bank.now c.parts_of-m.result c.bank_number-number.result c.channel_of-c.result.program c.h-1.given.0.0 (sym c.preset_for.ensures ∙ c.h-1.given.1))
 
 pub returns-in-Nothing : goal.returns-in-Nothing
-returns-in-Nothing c = let fine : admitted (start cAfter-preset_for).args.bank.now ≡ true = sym c.admitted.ensures ∙ not-false c.admitted.result c.if-not-admitted.false-raw in
+returns-in-Nothing c = let fine : admitted c.args.bank.now ≡ true = sym c.admitted.ensures ∙ not-false c.admitted.result c.if-not-admitted.false-raw in
     let found : c.preset_for.result
-    ≡ preset_for (start cAfter-preset_for).args.bank.now (parts_of (start cAfter-preset_for).args.bank.now) (channel_bank (start cAfter-preset_for).args.e (start cAfter-preset_for).args.channel)
-    (channel_at (start cAfter-preset_for).args.e (start cAfter-preset_for).args.channel).program = let b = (start cAfter-preset_for).args.bank.now in
+    ≡ preset_for c.args.bank.now (parts_of c.args.bank.now) (channel_bank c.args.e c.args.channel)
+    (channel_at c.args.e c.args.channel).program = let b = c.args.bank.now in
     let m = c.parts_of-m in
     c.preset_for.ensures
     ∙ ap (λ (x : Parts). preset_for b x c.bank_number-number.result c.channel_of-c.result.program) m.ensures
     ∙ ap (λ (x : ℕ). preset_for b (parts_of b) x c.channel_of-c.result.program) c.bank_number-number.ensures
-    ∙ ap (λ (x : Channel). preset_for b (parts_of b) (channel_bank (start cAfter-preset_for).args.e (start cAfter-preset_for).args.channel) x.program) c.channel_of-c.ensures in
-    let a = (start cAfter-preset_for).args in
+    ∙ ap (λ (x : Channel). preset_for b (parts_of b) (channel_bank c.args.e c.args.channel) x.program) c.channel_of-c.ensures in
+    let a = c.args in
     c.refuse-in-Nothing.ensures
     ∙ sym (answer-none a.bank.now a.ram.now a.rom.now a.channel a.key a.velocity a.e (fine) (sym (found) ∙ c.enum_told-1.given.1))
 
 pub returns-in-At : goal.returns-in-At
-returns-in-At c = let fine : admitted (start cAfter-preset_for).args.bank.now ≡ true = sym c.admitted.ensures ∙ not-false c.admitted.result c.if-not-admitted.false-raw in
+returns-in-At c = let fine : admitted c.args.bank.now ≡ true = sym c.admitted.ensures ∙ not-false c.admitted.result c.if-not-admitted.false-raw in
     let found : c.preset_for.result
-    ≡ preset_for (start cAfter-preset_for).args.bank.now (parts_of (start cAfter-preset_for).args.bank.now) (channel_bank (start cAfter-preset_for).args.e (start cAfter-preset_for).args.channel)
-    (channel_at (start cAfter-preset_for).args.e (start cAfter-preset_for).args.channel).program = let b = (start cAfter-preset_for).args.bank.now in
+    ≡ preset_for c.args.bank.now (parts_of c.args.bank.now) (channel_bank c.args.e c.args.channel)
+    (channel_at c.args.e c.args.channel).program = let b = c.args.bank.now in
     let m = c.parts_of-m in
     c.preset_for.ensures
     ∙ ap (λ (x : Parts). preset_for b x c.bank_number-number.result c.channel_of-c.result.program) m.ensures
     ∙ ap (λ (x : ℕ). preset_for b (parts_of b) x c.channel_of-c.result.program) c.bank_number-number.ensures
-    ∙ ap (λ (x : Channel). preset_for b (parts_of b) (channel_bank (start cAfter-preset_for).args.e (start cAfter-preset_for).args.channel) x.program) c.channel_of-c.ensures in
-    let a = (start cAfter-preset_for).args in
+    ∙ ap (λ (x : Channel). preset_for b (parts_of b) (channel_bank c.args.e c.args.channel) x.program) c.channel_of-c.ensures in
+    let a = c.args in
     let i = c.h-1.given.0.0 in
     c.strike_layers.ensures
     ∙ ap (λ (m : Parts). layers_answer a.ram.now a.rom.now a.channel (voices_of a.bank.now m i a.channel a.key a.velocity) a.e) c.parts_of-m.ensures

@@ -12,29 +12,30 @@ use Rattle.events.specs.Internal.Striking.{layers_answer}
 use Rattle.events.proofs.StrikingLaws.{few-count, few-by}
 use Rattle.events.proofs.striking.strike_layers.Goals as goal
 
-abbrev layers : tie.After-voices-for → List Voice
-layers v =
-    let a = v.before.before.args in
-    voices_of a.bank.now a.m a.h a.channel a.key a.velocity
-
 pub returns-then-n-gt32 : goal.returns-then-n-gt32
 unfolding layers_answer
-returns-then-n-gt32 c = let counted : c.voices_for-s.result.count ≡ length (layers cAfter-voices_for) = few-count c.voices_for-s.result (layers cAfter-voices_for) c.voices_for-s.ensures in
-    c.refuse.ensures ∙ simp (lt-ltb 32 (length (layers cAfter-voices_for)) (omega (arith, counted, c.if-n-gt32.true)))
+returns-then-n-gt32 c = let layers : List Voice = let a = c.args in
+    voices_of a.bank.now a.m a.h a.channel a.key a.velocity in
+    let counted : c.voices_for-s.result.count ≡ length (layers) = few-count c.voices_for-s.result (layers) c.voices_for-s.ensures in
+    c.refuse.ensures ∙ simp (lt-ltb 32 (length (layers)) (omega (arith, counted, c.if-n-gt32.true)))
 
 pub returns-then-any_past : goal.returns-then-any_past
 unfolding layers_answer
-returns-then-any_past c = let counted : c.voices_for-s.result.count ≡ length (layers cAfter-voices_for) = few-count c.voices_for-s.result (layers cAfter-voices_for) c.voices_for-s.ensures in
+returns-then-any_past c = let layers : List Voice = let a = c.args in
+    voices_of a.bank.now a.m a.h a.channel a.key a.velocity in
+    let counted : c.voices_for-s.result.count ≡ length (layers) = few-count c.voices_for-s.result (layers) c.voices_for-s.ensures in
     let a = c.args in
-    let few = few-by c.voices_for-s.result (layers cAfter-voices_for) c.voices_for-s.ensures c.if-n-gt32.false in
+    let few = few-by c.voices_for-s.result (layers) c.voices_for-s.ensures c.if-n-gt32.false in
     let q = sym (c.any_past.ensures ∙ ap (any_past a.ram.now a.rom.now) few) ∙ c.if-any_past.true in
-    c.refuse-then-any_past.ensures ∙ simp (le-ltb 32 (length (layers cAfter-voices_for)) (omega (arith, counted, c.if-n-gt32.false)), q)
+    c.refuse-then-any_past.ensures ∙ simp (le-ltb 32 (length (layers)) (omega (arith, counted, c.if-n-gt32.false)), q)
 
 pub returns : goal.returns
 unfolding layers_answer
-returns c = let counted : c.voices_for-s.result.count ≡ length (layers cAfter-voices_for) = few-count c.voices_for-s.result (layers cAfter-voices_for) c.voices_for-s.ensures in
+returns c = let layers : List Voice = let a = c.args in
+    voices_of a.bank.now a.m a.h a.channel a.key a.velocity in
+    let counted : c.voices_for-s.result.count ≡ length (layers) = few-count c.voices_for-s.result (layers) c.voices_for-s.ensures in
     let a = c.args in
-    let few = few-by c.voices_for-s.result (layers cAfter-voices_for) c.voices_for-s.ensures c.if-n-gt32.false in
+    let few = few-by c.voices_for-s.result (layers) c.voices_for-s.ensures c.if-n-gt32.false in
     let q = sym (c.any_past.ensures ∙ ap (any_past a.ram.now a.rom.now) few) ∙ c.if-any_past.false in
     ap₂ done (counted) (c.strike.ensures ∙ ap (λ (vs : List Voice). (struck a.channel vs a.e).engine) few)
-    ∙ simp (le-ltb 32 (length (layers cAfter-voices_for)) (omega (arith, counted, c.if-n-gt32.false)), q)
+    ∙ simp (le-ltb 32 (length (layers)) (omega (arith, counted, c.if-n-gt32.false)), q)

@@ -18,15 +18,15 @@ loop-n-init c = (sym (poured-none c.args.b.now c.args.s _ _), search rules, sear
 pub loop-n-preserved : goal.loop-n-preserved
 unfolding signed i16_at amount
 loop-n-preserved c = let a = c.args in (
-      ⊎_elim
-          (λ w. w.3 ∙ rw (to_z-of_z (sfits_of w.2.ok)) (pour-store a.b.now a.s a.d c.loop-n.a a.z.from c.loop-n.n c.operator-o.result w.2.result c.loop-n.invariant.0 c.operator-o.ensures (w.2.ensures ∙ ap (to_z w16) w.1.ensures)))
-          (λ w. w.1 ∙ pour-pass a.b.now a.s a.d c.loop-n.a a.z.from c.loop-n.n c.operator-o.result c.loop-n.invariant.0 c.operator-o.ensures (rw c.loop-n.invariant.1 w.0.left))
-          c.if-o-lt61.branch,
-      search rules,
-      search rules,
-      search rules,
-      search rules,
-    )
+  ⊎_elim
+      (λ w. w.3 ∙ rw (to_z-of_z (sfits_of w.2.ok)) (pour-store a.b.now a.s a.d c.loop-n.a a.z.from c.loop-n.n c.operator-o.result w.2.result c.loop-n.invariant.0 c.operator-o.ensures (w.2.ensures ∙ ap (to_z w16) w.1.ensures)))
+      (λ w. w.1 ∙ pour-pass a.b.now a.s a.d c.loop-n.a a.z.from c.loop-n.n c.operator-o.result c.loop-n.invariant.0 c.operator-o.ensures (rw c.loop-n.invariant.1 w.0.left))
+      c.if-o-lt61.branch,
+  search rules,
+  search rules,
+  search rules,
+  search rules,
+)
 
 pub returns : goal.returns
 returns c = let n : c.loop-n.n ≡ c.args.z.count = omega arith in

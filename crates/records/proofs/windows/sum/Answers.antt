@@ -7,9 +7,6 @@ use Rattle.arith.proofs.WithinLaws.{w_le}
 use Rattle.arith.proofs.Expressions.{E, var, lit, add, mul, Var, given, fits, back, within}
 use Rattle.records.proofs.windows.sum.Goals as goal
 
-abbrev env : tie.Start → List Var
-env c = given c.requires.0 ∷ given c.requires.1 ∷ given c.requires.2 ∷ []
-
 abbrev fine : E
 fine = add (var 0) (var 1)
 
@@ -20,13 +17,17 @@ abbrev whole : E
 whole = add fine product
 
 pub overflow_add-result : goal.overflow_add-result
-overflow_add-result c = fits w64 (env cStart) fine tt
+overflow_add-result c = let env : List Var = given c.requires.0 ∷ given c.requires.1 ∷ given c.requires.2 ∷ [] in
+    fits w64 (env) fine tt
 
 pub overflow_mul-result : goal.overflow_mul-result
-overflow_mul-result c = fits w64 (env cStart) product tt
+overflow_mul-result c = let env : List Var = given c.requires.0 ∷ given c.requires.1 ∷ given c.requires.2 ∷ [] in
+    fits w64 (env) product tt
 
 pub overflow_add-result-2 : goal.overflow_add-result-2
-overflow_add-result-2 c = fits w64 (env cStart) whole tt
+overflow_add-result-2 c = let env : List Var = given c.requires.0 ∷ given c.requires.1 ∷ given c.requires.2 ∷ [] in
+    fits w64 (env) whole tt
 
 pub returns : goal.returns
-returns c = let e = back w64 (env cStart) whole tt in (e, rw e (w_le (within whole (env cStart)) (lit≤ tt)))
+returns c = let env : List Var = given c.requires.0 ∷ given c.requires.1 ∷ given c.requires.2 ∷ [] in
+    let e = back w64 (env) whole tt in (e, rw e (w_le (within whole (env)) (lit≤ tt)))

@@ -10,7 +10,7 @@ use Rattle.state.proofs.SeatsLaws.{first-le, first-here, first_on}
 use Rattle.state.proofs.seats.place_of.Goals as goal
 
 pub loop-k-init : goal.loop-k-init
-loop-k-init c = (c.well-formed.0.1.0.1, omega arith, omega arith)
+loop-k-init c = (c.well_formed.0.1.0.1, omega arith, omega arith)
 
 pub returns-then-order-k : goal.returns-then-order-k
 returns-then-order-k c = let a = c.args in

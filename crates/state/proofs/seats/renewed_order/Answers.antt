@@ -12,7 +12,7 @@ use Rattle.state.proofs.SeatsLaws.{renewed-length, fill-turn}
 use Rattle.state.proofs.seats.renewed_order.Goals as goal
 
 pub loop-k-init : goal.loop-k-init
-loop-k-init c = let n = c.well-formed.0.1.0.1 in (n, n, refl, omega arith)
+loop-k-init c = let n = c.well_formed.0.1.0.1 in (n, n, refl, omega arith)
 
 pub shifted-requires : goal.shifted-requires
 shifted-requires c = (search rules, c.place_of-p.ensures)

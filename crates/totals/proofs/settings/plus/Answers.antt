@@ -7,17 +7,17 @@ use Rattle.arith.proofs.Expressions.{E, var, add, Var, given, fits, back, within
 use Rattle.arith.proofs.WithinLaws.{w-nat, w_fits, w-back}
 use Rattle.totals.proofs.settings.plus.Goals as goal
 
-abbrev env : tie.Start → List Var
-env c = given c.requires ∷ given (w-nat {m = c.args.v} {n = 65535} (omega arith)) ∷ []
-
 abbrev whole : E
 whole = add (var 0) (var 1)
 
 pub overflow_add-result : goal.overflow_add-result
-overflow_add-result c = fits w64 (env cStart) whole tt
+overflow_add-result c = let env : List Var = given c.requires ∷ given (w-nat {m = c.args.v} {n = 65535} (omega arith)) ∷ [] in
+    fits w64 (env) whole tt
 
 pub overflow_cast-result-2 : goal.overflow_cast-result-2
-overflow_cast-result-2 c = rw (back w64 (env cStart) whole tt) (w_fits w32 (within whole (env cStart)) (lit< tt))
+overflow_cast-result-2 c = let env : List Var = given c.requires ∷ given (w-nat {m = c.args.v} {n = 65535} (omega arith)) ∷ [] in
+    rw (back w64 (env) whole tt) (w_fits w32 (within whole (env)) (lit< tt))
 
 pub returns : goal.returns
-returns c = rw (back w64 (env cStart) whole tt) (w-back w32 (within whole (env cStart)) (lit< tt))
+returns c = let env : List Var = given c.requires ∷ given (w-nat {m = c.args.v} {n = 65535} (omega arith)) ∷ [] in
+    rw (back w64 (env) whole tt) (w-back w32 (within whole (env)) (lit< tt))

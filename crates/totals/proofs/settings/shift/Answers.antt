@@ -7,9 +7,6 @@ use Rattle.arith.proofs.Expressions.{E, var, lit, add, sub, mul, Var, given, fit
 use Rattle.arith.proofs.WithinLaws.{w_fits, w-back}
 use Rattle.totals.proofs.settings.shift.Goals as goal
 
-abbrev env : tie.Start → List Var
-env c = given c.requires.0 ∷ given c.requires.1 ∷ given c.requires.2 ∷ []
-
 abbrev part : E
 part = mul (sub (lit (pos 60)) (var 1)) (var 2)
 
@@ -17,16 +14,21 @@ abbrev whole : E
 whole = add (var 0) part
 
 pub overflow_sub-result : goal.overflow_sub-result
-overflow_sub-result c = fits w64 (env cStart) (sub (lit (pos 60)) (var 1)) tt
+overflow_sub-result c = let env : List Var = given c.requires.0 ∷ given c.requires.1 ∷ given c.requires.2 ∷ [] in
+    fits w64 (env) (sub (lit (pos 60)) (var 1)) tt
 
 pub overflow_mul-result : goal.overflow_mul-result
-overflow_mul-result c = fits w64 (env cStart) part tt
+overflow_mul-result c = let env : List Var = given c.requires.0 ∷ given c.requires.1 ∷ given c.requires.2 ∷ [] in
+    fits w64 (env) part tt
 
 pub overflow_add-result : goal.overflow_add-result
-overflow_add-result c = fits w64 (env cStart) whole tt
+overflow_add-result c = let env : List Var = given c.requires.0 ∷ given c.requires.1 ∷ given c.requires.2 ∷ [] in
+    fits w64 (env) whole tt
 
 pub overflow_cast-result : goal.overflow_cast-result
-overflow_cast-result c = rw (back w64 (env cStart) whole tt) (w_fits w32 (within whole (env cStart)) (lit< tt))
+overflow_cast-result c = let env : List Var = given c.requires.0 ∷ given c.requires.1 ∷ given c.requires.2 ∷ [] in
+    rw (back w64 (env) whole tt) (w_fits w32 (within whole (env)) (lit< tt))
 
 pub returns : goal.returns
-returns c = rw (back w64 (env cStart) whole tt) (w-back w32 (within whole (env cStart)) (lit< tt))
+returns c = let env : List Var = given c.requires.0 ∷ given c.requires.1 ∷ given c.requires.2 ∷ [] in
+    rw (back w64 (env) whole tt) (w-back w32 (within whole (env)) (lit< tt))

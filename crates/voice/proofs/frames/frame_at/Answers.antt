@@ -81,7 +81,7 @@ returns c = let w = c.args.w.now in
     let loudness = rw (w-back w64 c.requires.1 (lit< tt)) at c.loud_of-u.ensures.0 ∙ ap (loud l w v) e in
     let back = w-back w64 c.loud_of-u.ensures.1 (lit< tt) in
     let inside = subst (λ (q : ℤ). Within q 16777216) loudness (w_le c.loud_of-u.ensures.1 (lit≤ tt)) in
-    let pan = to_z-of_z {w = w16} {cAfter-sides_of = v.pan} (sfits_of c.well-formed.1.1.1.1.0.1.1.1.0.1.1.1.1.1.1.1.1.1.1.1.1.1.1.1.1.1.0.1) in
+    let pan = to_z-of_z {w = w16} {z = v.pan} (sfits_of c.well_formed.1.1.1.1.0.1.1.1.0.1.1.1.1.1.1.1.1.1.1.1.1.1.1.1.1.1.0.1) in
     let shares = rw pan at c.sides_of-d.ensures in
     let left = rw back at c.part_of-a.ensures.0 ∙ ap₂ (λ (q : ℤ) (i : ℕ). part q i) loudness shares.0 ∙ part_left (loud l w v (entered v v.stage)) v.pan inside in
     let right = rw back at c.part_of-b.ensures.0 ∙ ap₂ (λ (q : ℤ) (i : ℕ). part q i) loudness shares.2 ∙ part_right (loud l w v (entered v v.stage)) v.pan inside in

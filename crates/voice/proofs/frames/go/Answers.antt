@@ -52,25 +52,23 @@ onward-r-requires c = let p = c.requires.1.1.1 in
 pub one-requires : goal.one-requires
 unfolding heard_at
 one-requires c = let none : c.onward-r.result.frames ≡ 0 → c.onward-r.last.1.1.1.1.1.1.0 ≡ c.args.acc.now = λ e. let a = c.args in
-    rw (w-back w64 c.pre.1.0 (lit< tt)) at c.onward-r.ensures.1.1.0
+    rw (w-back w64 c.requires.1.0 (lit< tt)) at c.onward-r.ensures.1.1.0
     ∙ ap (λ (m : ℕ). add_at (2 * a.k) (heard_at a.st a.l a.w.now m (sounds a.s.voice)) a.acc.now) e
     ∙ add_at-none (2 * a.k) a.acc.now in
-    let s = k cAfter-onward in
-    let p = s.pre.1.1.1 in
-    (s.pre.0, (rw (w-back w64 s.pre.1.0 (lit< tt)) s.pre.1.0, rw (none c.if-r-eq0.true) (omega (arith, p.0, p.1), p.2)))
+    let p = c.requires.1.1.1 in
+    (c.requires.0, (rw (w-back w64 c.requires.1.0 (lit< tt)) c.requires.1.0, rw (none c.if-r-eq0.true) (omega (arith, p.0, p.1), p.2)))
 
 pub returns-then-r-eq0 : goal.returns-then-r-eq0
 unfolding heard_at
 returns-then-r-eq0 c = let none : c.onward-r.result.frames ≡ 0 → c.onward-r.last.1.1.1.1.1.1.0 ≡ c.args.acc.now = λ e. let a = c.args in
-    rw (w-back w64 c.pre.1.0 (lit< tt)) at c.onward-r.ensures.1.1.0
+    rw (w-back w64 c.requires.1.0 (lit< tt)) at c.onward-r.ensures.1.1.0
     ∙ ap (λ (m : ℕ). add_at (2 * a.k) (heard_at a.st a.l a.w.now m (sounds a.s.voice)) a.acc.now) e
     ∙ add_at-none (2 * a.k) a.acc.now in
     let o = c.one.ensures in
-    let s = k cAfter-onward in
-    let a = s.args in
-    let b = w-back w64 s.pre.1.0 (lit< tt) in
+    let a = c.args in
+    let b = w-back w64 c.requires.1.0 (lit< tt) in
     let f = o.0 in (
-      (omega (arith, f), omega (arith, f, s.pre.1.1.1.0)),
+      (omega (arith, f), omega (arith, f, c.requires.1.1.1.0)),
       (
         rw b at o.1.0 ∙ ap (λ (m : ℕ). after_at a.st a.l a.w.now m a.s) (sym f),
         (
@@ -87,21 +85,20 @@ age_by-y-requires c = c.onward-r.ensures.0.2 (omega (arith, c.if-r-eq0.false))
 
 pub returns : goal.returns
 returns c = let on : c.args.s ≡ sounds c.args.s.voice = ap (λ (b : Bool). mk b c.args.s.voice) c.requires.1.1.0 in
-    let s = k cAfter-onward in
-    let a = s.args in
+    let a = c.args in
     let w = a.w.now in
     let v = a.s.voice in
     let m = c.onward-r.result.frames in
-    let b = w-back w64 s.pre.1.0 (lit< tt) in
+    let b = w-back w64 c.requires.1.0 (lit< tt) in
     let some : 0 < m = omega (arith, c.if-r-eq0.false) in (
       (some, c.onward-r.ensures.0.0),
       (
         ap sounds (c.with_moved-2.ensures ∙ ap (λ (x : Stage). with_moved v x c.onward-r.result.place v.marked) c.age_by-y.ensures)
             ∙ sym (rw b at (c.onward-r.ensures.1.0 some))
-            ∙ ap (after_at a.st a.l w m) (sym (on s)),
+            ∙ ap (after_at a.st a.l w m) (sym (on)),
         (
-          rw b at c.onward-r.ensures.1.1.0 ∙ ap (λ (x : Slot). add_at (2 * a.k) (heard_at a.st a.l w m x) a.acc.now) (sym (on s)),
-          subst (λ (x : Slot). Small 1 (heard_at a.st a.l w m x)) (sym (on s)) (rw b at c.onward-r.ensures.1.1.1),
+          rw b at c.onward-r.ensures.1.1.0 ∙ ap (λ (x : Slot). add_at (2 * a.k) (heard_at a.st a.l w m x) a.acc.now) (sym (on)),
+          subst (λ (x : Slot). Small 1 (heard_at a.st a.l w m x)) (sym (on)) (rw b at c.onward-r.ensures.1.1.1),
         ),
       ),
     )

@@ -73,11 +73,10 @@ loop-k-smaller c = let last : (c.loop-k.k < c.args.n) × (2 * c.args.n < 1844674
 pub loop-k-preserved : goal.loop-k-preserved
 loop-k-preserved c = let loss : ℤ = to_z w64 (of_z w64 c.args.l) in
     let last : (c.loop-k.k < c.args.n) × (2 * c.args.n < 18446744073709551616) = (c.loop-k-test.true, omega (arith, c.loop-k.inv.4)) in
-    let l = lp cAfter-go in
-    let a = l.before.args in
+    let a = c.args in
     let w = a.w.now in
     let z = loss in
-    let k = l.loop.k in
+    let k = c.loop-k.k in
     let m = c.go-f.result.frames in
     let s = after_at a.st z w k a.s0 in
     let xs = heard_at a.st z w k a.s0 in
@@ -85,15 +84,15 @@ loop-k-preserved c = let loss : ℤ = to_z w64 (of_z w64 c.args.l) in
     let cut : heard_at a.st z w (k + m) a.s0 ≡ xs ++ heard_at a.st z w m s = heard_at-cut a.st z w k m a.s0 in
     let e =
     c.go-f.ensures.1.1.0
-    ∙ ap₂ (λ (x : Slot) (q : List ℤ). add_at (2 * k) (heard_at a.st z w m x) q) l.loop.inv.0 l.loop.inv.1
+    ∙ ap₂ (λ (x : Slot) (q : List ℤ). add_at (2 * k) (heard_at a.st z w m x) q) c.loop-k.inv.0 c.loop-k.inv.1
     ∙ add-next xs (heard_at a.st z w m s) ys (2 * k) (heard-length a.st z w k a.s0)
     ∙ ap (λ (q : List ℤ). add_to q ys) (sym cut) in (
-      c.go-f.ensures.1.0 ∙ ap (after_at a.st z w m) l.loop.inv.0 ∙ sym (at_cut a.st z w k m a.s0),
+      c.go-f.ensures.1.0 ∙ ap (after_at a.st z w m) c.loop-k.inv.0 ∙ sym (at_cut a.st z w k m a.s0),
       e,
       ap length e ∙ add_to-length (heard_at a.st z w (k + m) a.s0) ys,
       omega (arith, c.go-f.ensures.0, last),
-      l.loop.inv.4,
-      subst (Small 1) (sym cut) (small-append xs (heard_at a.st z w m s) l.loop.inv.5 (subst (λ (x : Slot). Small 1 (heard_at a.st z w m x)) l.loop.inv.0 c.go-f.ensures.1.1.1)),
+      c.loop-k.inv.4,
+      subst (Small 1) (sym cut) (small-append xs (heard_at a.st z w m s) c.loop-k.inv.5 (subst (λ (x : Slot). Small 1 (heard_at a.st z w m x)) c.loop-k.inv.0 c.go-f.ensures.1.1.1)),
     )
 
 pub returns : goal.returns

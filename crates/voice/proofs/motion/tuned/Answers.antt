@@ -12,9 +12,6 @@ use Rattle.arith.proofs.Expressions.{E, Var, var, add, given, fits, back}
 use Rattle.curves.specs.Pitch.{pitch_held}
 use Rattle.voice.proofs.motion.tuned.Goals as goal
 
-abbrev env : tie.After-bend-cents → List Var
-env c = given (w-of w32 c.before.ranges.pitch) ∷ given (w-of w32 (cents c)) ∷ []
-
 abbrev sum : E
 sum = add (var 0) (var 1)
 
@@ -27,11 +24,13 @@ overflow_cast-b c = let cents : SFits w32 c.bend_cents-b.result = sfits_of c.ben
 
 pub overflow_add-pitch : goal.overflow_add-pitch
 overflow_add-pitch c = let cents : SFits w32 c.bend_cents-b.result = sfits_of c.bend_cents-b.type_inv in
-    rw (to_z-of_z c.ranges.pitch, to_z-of_z (cents)) (fits w64 (env cAfter-bend_cents) sum tt)
+    let env : List Var = given (w-of w32 c.ranges.pitch) ∷ given (w-of w32 (cents)) ∷ [] in
+    rw (to_z-of_z c.ranges.pitch, to_z-of_z (cents)) (fits w64 (env) sum tt)
 
 pub returns : goal.returns
 returns c = let cents : SFits w32 c.bend_cents-b.result = sfits_of c.bend_cents-b.type_inv in
+    let env : List Var = given (w-of w32 c.ranges.pitch) ∷ given (w-of w32 (cents)) ∷ [] in
     let a = c.args in
     rw (to_z-of_z {w = w32} {z = c.hold_pitch.result} (sfits_of c.hold_pitch.type_inv))
-    (rw (to_z-of_z c.ranges.pitch, to_z-of_z (cents), back w64 (env cAfter-bend_cents) sum tt) at c.hold_pitch.ensures
+    (rw (to_z-of_z c.ranges.pitch, to_z-of_z (cents), back w64 (env) sum tt) at c.hold_pitch.ensures
     ∙ ap (λ (z : ℤ). pitch_held (a.pitch +ℤ z)) c.bend_cents-b.ensures)

@@ -20,10 +20,10 @@ pub returns : goal.returns
 unfolding reading
 returns c = let a = c.args in
     let w = a.w.now in
-    let e0 = to_z-of_z {w = w16} {cAfter-before_at = c.before_at-x0.result} (sfits_of c.before_at-x0.type_inv) in
-    let e1 = to_z-of_z {w = w16} {cAfter-before_at = c.sample_at-x1.result} (sfits_of c.sample_at-x1.type_inv) in
-    let e2 = to_z-of_z {w = w16} {cAfter-before_at = c.sample_at-x2.result} (sfits_of c.sample_at-x2.type_inv) in
-    let e3 = to_z-of_z {w = w16} {cAfter-before_at = c.sample_at-x3.result} (sfits_of c.sample_at-x3.type_inv) in
+    let e0 = to_z-of_z {w = w16} {z = c.before_at-x0.result} (sfits_of c.before_at-x0.type_inv) in
+    let e1 = to_z-of_z {w = w16} {z = c.sample_at-x1.result} (sfits_of c.sample_at-x1.type_inv) in
+    let e2 = to_z-of_z {w = w16} {z = c.sample_at-x2.result} (sfits_of c.sample_at-x2.type_inv) in
+    let e3 = to_z-of_z {w = w16} {z = c.sample_at-x3.result} (sfits_of c.sample_at-x3.type_inv) in
     let e = rw (e0, e1, e2, e3) at c.reading_of.ensures.0 in
     let two = c.sample_at-x2.ensures ∙ ap (sample w) c.behind_at-j.ensures in
     let three =

@@ -86,9 +86,8 @@ cb_in-e-requires c = let value : ℕ = c.loop-m.c.value in
     omega (arith, small)
 
 pub regain-known-requires : goal.regain-known-requires
-regain-known-requires c = let k = start cElse1 in
-    let b = w-back w64 k.pre.1.0 (lit< tt) in
-    (k.pre.0, ((rw b k.pre.1.0, c.cb_in-e.ensures.1), (c.loop.invariant.4, c.loop.invariant.5)))
+regain-known-requires c = let b = w-back w64 c.requires.1.0 (lit< tt) in
+    (c.requires.0, ((rw b c.requires.1.0, c.cb_in-e.ensures.1), (c.loop-m.invariant.4, c.loop-m.invariant.5)))
 
 pub rung_at-u-requires : goal.rung_at-u-requires
 rung_at-u-requires c = let value : ℕ = c.loop-m.c.value in
@@ -106,20 +105,20 @@ pub overflow_add-k : goal.overflow_add-k
 overflow_add-k c = let long : length c.args.acc.now < 9223372036854775808 = omega arith in
     let turning : c.loop-m.m < c.args.most = c.loop-m-test.true in
     let room : (2 * (c.args.k + c.loop-m.m) + 1 < length c.loop-m.acc) × (length c.loop-m.acc < 9223372036854775808) = (omega (arith, turning, c.loop-m.inv.7, c.loop-m.inv.8), omega (arith, c.loop-m.inv.7, long)) in
-    omega (arith, room (test cAfter-part_of2))
+    omega (arith, room)
 
 pub add_pair-requires : goal.add_pair-requires
 add_pair-requires c = let long : length c.args.acc.now < 9223372036854775808 = omega arith in
     let turning : c.loop-m.m < c.args.most = c.loop-m-test.true in
     let room : (2 * (c.args.k + c.loop-m.m) + 1 < length c.loop-m.acc) × (length c.loop-m.acc < 9223372036854775808) = (omega (arith, turning, c.loop-m.inv.7, c.loop-m.inv.8), omega (arith, c.loop-m.inv.7, long)) in
     let loss : ℤ = to_z w64 (of_z w64 c.args.l) in
-    let xs : List ℤ = rings loss c.args.sides.left c.args.sides.right c.args.w.now c.args.v c.args.s c.args.y c.loop.m in
-    let xs-length : length xs ≡ 2 * c.loop.m = rings-length loss c.args.sides.left c.args.sides.right c.args.w.now c.args.v c.args.s c.args.y c.loop.m in
-    let behind : (j : ℕ) → 2 * (c.args.k + c.loop.m) ≤ j → get_or c.loop.acc j (pos 0) ≡ get_or c.args.acc.now j (pos 0) = λ j h. ap (λ (q : List ℤ). get_or q j (pos 0)) c.loop.inv.6
+    let xs : List ℤ = rings loss c.args.sides.left c.args.sides.right c.args.w.now c.args.v c.args.s c.args.y c.loop-m.m in
+    let xs-length : length xs ≡ 2 * c.loop-m.m = rings-length loss c.args.sides.left c.args.sides.right c.args.w.now c.args.v c.args.s c.args.y c.loop-m.m in
+    let behind : (j : ℕ) → 2 * (c.args.k + c.loop-m.m) ≤ j → get_or c.loop-m.acc j (pos 0) ≡ get_or c.args.acc.now j (pos 0) = λ j h. ap (λ (q : List ℤ). get_or q j (pos 0)) c.loop-m.inv.6
     ∙ add-beyond (2 * c.args.k) xs c.args.acc.now j (omega (arith, xs-length)) in
     let u = c.part_of-b.ensures.1 in
     let t = c.part_of-a.ensures.1 in (
-      (omega (arith, room (test cAfter-part_of2)), λ j h. subst (λ (z : ℤ). Within z (31 * loudest)) (sym (behind j h)) (c.pre.1.1.1.1.1 j (omega arith))),
+      (omega (arith, room), λ j h. subst (λ (z : ℤ). Within z (31 * loudest)) (sym (behind j h)) (c.requires.1.1.1.1.1 j (omega arith))),
       (rw (w-back w32 t (lit< tt)) t, rw (w-back w32 u (lit< tt)) u),
     )
 
@@ -127,9 +126,8 @@ pub next_place-p-requires : goal.next_place-p-requires
 next_place-p-requires c = let value : ℕ = c.loop-m.c.value in
     let tests : (leb c.args.y.limit c.loop-m.p ≡ false) × (leb c.stop_of-stop.result value ≡ false) = neither _ _ (sym c.is_over.ensures ∙ c.if-is_over.false) in
     let below : c.loop-m.p < c.args.y.limit = leb-false _ _ tests.0 in
-    let t = test cAfter-part_of2 in
-    let k = c.pre.1.1.1.0 in
-    (omega (arith, below t, k.0), k.1, k.2)
+    let k = c.requires.1.1.1.0 in
+    (omega (arith, below, k.0), k.1, k.2)
 
 pub next_pace-n-requires : goal.next_pace-n-requires
 next_pace-n-requires c = let stage : Stage = spent_by c.loop-m.m c.args.s in
@@ -137,21 +135,20 @@ next_pace-n-requires c = let stage : Stage = spent_by c.loop-m.m c.args.s in
     let tests : (leb c.args.y.limit c.loop-m.p ≡ false) × (leb c.stop_of-stop.result value ≡ false) = neither _ _ (sym c.is_over.ensures ∙ c.if-is_over.false) in
     let small : value < 4294967296 = let h : value < c.stop_of-stop.result = leb-false _ _ tests.1 in
     omega (arith, h, c.stop_of-stop.ensures.1) in
-    let t = test cAfter-part_of2 in
-    let i = c.loop.inv.3 in
-    let whole = whole_in (stage t) in
-    let b = by_le whole (frames_in c.args.v (stage t)) (whole * spent_in (stage t)) c.loop.c i in
-    (omega (arith, small t), omega (arith, i.over, i.size.1), omega (arith, b, whole_le (stage t)), omega (arith, i.more, i.size.1))
+    let i = c.loop-m.inv.3 in
+    let whole = whole_in (stage) in
+    let b = by_le whole (frames_in c.args.v (stage)) (whole * spent_in (stage)) c.loop-m.c i in
+    (omega (arith, small), omega (arith, i.over, i.size.1), omega (arith, b, whole_le (stage)), omega (arith, i.more, i.size.1))
 
 pub overflow_add-m : goal.overflow_add-m
 overflow_add-m c = let long : length c.args.acc.now < 9223372036854775808 = omega arith in
     let turning : c.loop-m.m < c.args.most = c.loop-m-test.true in
     let room : (2 * (c.args.k + c.loop-m.m) + 1 < length c.loop-m.acc) × (length c.loop-m.acc < 9223372036854775808) = (omega (arith, turning, c.loop-m.inv.7, c.loop-m.inv.8), omega (arith, c.loop-m.inv.7, long)) in
-    let t = test cAfter-part_of2 in omega (arith, room t)
+    omega (arith, room)
 
 pub loop-m-smaller : goal.loop-m-smaller
 loop-m-smaller c = let turning : c.loop-m.m < c.args.most = c.loop-m-test.true in
-    let t = test cAfter-part_of2 in omega (arith, turning t)
+    omega (arith, turning)
 
 pub loop-m-preserved : goal.loop-m-preserved
 unfolding place_on
@@ -167,44 +164,42 @@ loop-m-preserved c = let stage : Stage = spent_by c.loop-m.m c.args.s in
   subst (λ (x : ℕ). x < stop_in c.args.v c.args.s) at early,
 ) in
     let loss : ℤ = to_z w64 (of_z w64 c.args.l) in
-    let xs : List ℤ = rings loss c.args.sides.left c.args.sides.right c.args.w.now c.args.v c.args.s c.args.y c.loop.m in
+    let xs : List ℤ = rings loss c.args.sides.left c.args.sides.right c.args.w.now c.args.v c.args.s c.args.y c.loop-m.m in
     let lefts : ℤ = c.part_of-a.result in
     let rights : ℤ = c.part_of-b.result in
-    let xs-length : length xs ≡ 2 * c.loop.m = rings-length loss c.args.sides.left c.args.sides.right c.args.w.now c.args.v c.args.s c.args.y c.loop.m in
-    let rang : c.rung_at-u.result ≡ rung_in loss c.args.w.now c.args.v c.args.s c.args.y c.loop.m = let v = c.args.v in
+    let xs-length : length xs ≡ 2 * c.loop-m.m = rings-length loss c.args.sides.left c.args.sides.right c.args.w.now c.args.v c.args.s c.args.y c.loop-m.m in
+    let rang : c.rung_at-u.result ≡ rung_in loss c.args.w.now c.args.v c.args.s c.args.y c.loop-m.m = let v = c.args.v in
     let s = c.args.s in
     let w = c.args.w.now in
     let gain = c.regain-known.ensures.0 ∙ ap (λ (x : ℕ). gain_of (whole_loss loss x)) c.cb_in-e.ensures.0 in
     c.rung_at-u.ensures.0
-    ∙ ap (λ (x : ℕ). rung x w v s c.loop.p (value)) gain
-    ∙ ap₂ (λ (p x : ℕ). rung (gain_of (whole_loss loss (cb_in v s x))) w v s p x) c.loop.inv.1 (at) in
-    let turn : rings loss c.args.sides.left c.args.sides.right c.args.w.now c.args.v c.args.s c.args.y (c.loop.m + 1) ≡ xs ++ (lefts ∷ rights ∷ []) = let b = w-back w64 c.rung_at-u.ensures.1 (lit< tt) in
+    ∙ ap (λ (x : ℕ). rung x w v s c.loop-m.p (value)) gain
+    ∙ ap₂ (λ (p x : ℕ). rung (gain_of (whole_loss loss (cb_in v s x))) w v s p x) c.loop-m.inv.1 (at) in
+    let turn : rings loss c.args.sides.left c.args.sides.right c.args.w.now c.args.v c.args.s c.args.y (c.loop-m.m + 1) ≡ xs ++ (lefts ∷ rights ∷ []) = let b = w-back w64 c.rung_at-u.ensures.1 (lit< tt) in
     let x = rw b at c.part_of-a.ensures.0 ∙ ap (λ (z : ℤ). part z c.args.sides.left) rang in
     let y = rw b at c.part_of-b.ensures.0 ∙ ap (λ (z : ℤ). part z c.args.sides.right) rang in
-    rings-turn loss c.args.sides.left c.args.sides.right c.args.w.now c.args.v c.args.s c.args.y c.loop.m
+    rings-turn loss c.args.sides.left c.args.sides.right c.args.w.now c.args.v c.args.s c.args.y c.loop-m.m
     ∙ ap₂ (λ (p q : ℤ). xs ++ (p ∷ q ∷ [])) (sym x) (sym y) in
-    let t = test cAfter-part_of2 in
-    let l = lp t in
     let a = c.args in
-    let m = l.loop.m in
+    let m = c.loop-m.m in
     let n = 2 * (a.k + m) in
-    let whole = whole_in (stage t) in
+    let whole = whole_in (stage) in
     let e =
     rw (w-back w32 c.part_of-a.ensures.1 (lit< tt), w-back w32 c.part_of-b.ensures.1 (lit< tt)) at c.add_pair.ensures
-    ∙ ap (add_at n (lefts ∷ rights ∷ [])) l.loop.inv.6
+    ∙ ap (add_at n (lefts ∷ rights ∷ [])) c.loop-m.inv.6
     ∙ add-after (2 * a.k) n (xs) (lefts ∷ rights ∷ []) a.acc.now (omega (arith, xs-length))
     ∙ ap (λ (zs : List ℤ). add_at (2 * a.k) zs a.acc.now) (sym (turn)) in
-    let paced = pace-on a.v (stage t) c.next_pace-n.result (c.next_pace-n.ensures whole (frames_in a.v (stage t)) (whole * spent_in (stage t)) l.loop.inv.3) in (
-      omega (arith, turning t),
-      c.next_place-p.ensures ∙ ap (next_place a.y) l.loop.inv.1 ∙ ap (place_on a.y a.v.place) (sym (add-one m)),
-      λ j h. more a.v a.s a.y m j l.loop.inv.2 (goes t) h,
+    let paced = pace-on a.v (stage) c.next_pace-n.result (c.next_pace-n.ensures whole (frames_in a.v (stage)) (whole * spent_in (stage)) c.loop-m.inv.3) in (
+      omega (arith, turning),
+      c.next_place-p.ensures ∙ ap (next_place a.y) c.loop-m.inv.1 ∙ ap (place_on a.y a.v.place) (sym (add-one m)),
+      λ j h. more a.v a.s a.y m j c.loop-m.inv.2 (goes) h,
       subst (λ (x : Stage). PaceAt a.v x c.next_pace-n.result) (spent-by m a.s ∙ ap (λ (x : ℕ). spent_by x a.s) (sym (add-one m))) paced,
       c.regain-known.ensures.0,
       c.regain-known.ensures.1,
       e,
       ap length e ∙ add_at-length (2 * a.k) (rings (loss) a.sides.left a.sides.right a.w.now a.v a.s a.y (m + 1)) a.acc.now,
-      l.loop.inv.8,
-      subst (Small 1) (sym (turn)) (small-two (xs) (lefts) (rights) l.loop.inv.9 c.part_of-a.ensures.1 c.part_of-b.ensures.1),
+      c.loop-m.inv.8,
+      subst (Small 1) (sym (turn)) (small-two (xs) (lefts) (rights) c.loop-m.inv.9 c.part_of-a.ensures.1 c.part_of-b.ensures.1),
     )
 
 pub returns : goal.returns

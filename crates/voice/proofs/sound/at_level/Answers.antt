@@ -6,9 +6,6 @@ use Rattle.arith.proofs.WithinLaws.{w-nat, w_le}
 use Rattle.arith.proofs.Expressions.{E, Var, var, mul, shr, given, fits, back, within}
 use Rattle.voice.proofs.sound.at_level.Goals as goal
 
-abbrev env : tie.Start → List Var
-env c = given c.requires.0 ∷ given (w-nat c.requires.1) ∷ []
-
 abbrev product : E
 product = mul (var 0) (var 1)
 
@@ -16,7 +13,9 @@ abbrev whole : E
 whole = shr product 24
 
 pub overflow_mul-result : goal.overflow_mul-result
-overflow_mul-result c = fits w64 (env cStart) product tt
+overflow_mul-result c = let env : List Var = given c.requires.0 ∷ given (w-nat c.requires.1) ∷ [] in
+    fits w64 (env) product tt
 
 pub returns : goal.returns
-returns c = let e = back w64 (env cStart) whole tt in (e, rw e (w_le (within whole (env cStart)) (lit≤ tt)))
+returns c = let env : List Var = given c.requires.0 ∷ given (w-nat c.requires.1) ∷ [] in
+    let e = back w64 (env) whole tt in (e, rw e (w_le (within whole (env)) (lit≤ tt)))

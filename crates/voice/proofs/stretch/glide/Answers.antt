@@ -98,14 +98,14 @@ add_pair-requires c = let early : c.loop-p.p < c.least-end.result = c.loop-p-tes
     ∙ add-beyond (2 * c.args.k) xs c.args.acc.now j (omega (arith, xs-length)) in
     let u = c.part_of-b.ensures.1 in
     let t = c.part_of-a.ensures.1 in (
-      (omega (arith, room), λ j h. subst (λ (z : ℤ). Within z (31 * loudest)) (sym (behind j h)) (c.before.before.requires.1.1.1.1 j (omega arith))),
+      (omega (arith, room), λ j h. subst (λ (z : ℤ). Within z (31 * loudest)) (sym (behind j h)) (c.requires.1.1.1.1 j (omega arith))),
       (rw (w-back w32 t (lit< tt)) t, rw (w-back w32 u (lit< tt)) u),
     )
 
 pub overflow_add-p : goal.overflow_add-p
 overflow_add-p c = let early : c.loop-p.p < c.least-end.result = c.loop-p-test.true in
     let below : c.loop-p.p < c.args.limit = omega (arith, early, c.least-end.ensures) in
-    omega (arith, below, c.before.before.requires.1.0.0)
+    omega (arith, below, c.requires.1.0.0)
 
 pub overflow_add-m : goal.overflow_add-m
 overflow_add-m c = let early : c.loop-p.p < c.least-end.result = c.loop-p-test.true in
@@ -116,7 +116,7 @@ overflow_add-m c = let early : c.loop-p.p < c.least-end.result = c.loop-p-test.t
 
 pub loop-p-smaller : goal.loop-p-smaller
 loop-p-smaller c = let early : c.loop-p.p < c.least-end.result = c.loop-p-test.true in
-    omega (arith, early, c.before.before.requires.1.1.0.0)
+    omega (arith, early, c.requires.1.1.0.0)
 
 pub loop-p-preserved : goal.loop-p-preserved
 unfolding plain
@@ -139,22 +139,21 @@ loop-p-preserved c = let xs : List ℤ = plains c.args.gain c.args.sides.left c.
     let y = rw b at c.part_of-b.ensures.0 ∙ ap (λ (z : ℤ). part z a.sides.right) value in
     plains-turn a.gain a.sides.left a.sides.right a.w.now a.st a.from c.loop-p.m
     ∙ ap₂ (λ (p q : ℤ). xs ++ (p ∷ q ∷ [])) (sym x) (sym y) in
-    let l = lp cAfter-part_of2 in
-    let a = l.before.before.args in
-    let m = l.loop.m in
+    let a = c.args in
+    let m = c.loop-p.m in
     let n = 2 * (a.k + m) in
     let e =
     rw (w-back w32 c.part_of-a.ensures.1 (lit< tt), w-back w32 c.part_of-b.ensures.1 (lit< tt)) at c.add_pair.ensures
-    ∙ ap (add_at n (lefts ∷ rights ∷ [])) l.loop.inv.3
+    ∙ ap (add_at n (lefts ∷ rights ∷ [])) c.loop-p.inv.3
     ∙ add-after (2 * a.k) n (xs) (lefts ∷ rights ∷ []) a.acc.now (omega (arith, xs-length))
     ∙ ap (λ (zs : List ℤ). add_at (2 * a.k) zs a.acc.now) (sym (turn)) in (
       omega (arith, turning),
-      there a.from m a.st l.loop.p l.loop.inv.1,
-      λ j h. earlier a.from a.st a.limit m j l.loop.p l.loop.inv.1 (below) l.loop.inv.2 h,
+      there a.from m a.st c.loop-p.p c.loop-p.inv.1,
+      λ j h. earlier a.from a.st a.limit m j c.loop-p.p c.loop-p.inv.1 (below) c.loop-p.inv.2 h,
       e,
       ap length e ∙ add_at-length (2 * a.k) (plains a.gain a.sides.left a.sides.right a.w.now a.st a.from (m + 1)) a.acc.now,
-      l.loop.inv.5,
-      subst (Small 1) (sym (turn)) (small-two (xs) (lefts) (rights) l.loop.inv.6 c.part_of-a.ensures.1 c.part_of-b.ensures.1),
+      c.loop-p.inv.5,
+      subst (Small 1) (sym (turn)) (small-two (xs) (lefts) (rights) c.loop-p.inv.6 c.part_of-a.ensures.1 c.part_of-b.ensures.1),
     )
 
 pub returns : goal.returns

@@ -8,9 +8,6 @@ use Rattle.arith.proofs.Expressions.{E, Var, var, mul, shr, given, fits, back, w
 use Rattle.wave.specs.Lowering.{lowered_by}
 use Rattle.wave.proofs.lowering.lower.Goals as goal
 
-abbrev env : tie.Start → List Var
-env c = given (w-of w32 c.ranges.z) ∷ given (w-nat c.requires) ∷ []
-
 abbrev product : E
 product = mul (var 0) (var 1)
 
@@ -21,8 +18,10 @@ pub overflow_cast-result : goal.overflow_cast-result
 overflow_cast-result c = rw (to_z-of_z c.ranges.z) (w_fits w64 (w-of w32 c.ranges.z) (lit< tt))
 
 pub overflow_mul-result : goal.overflow_mul-result
-overflow_mul-result c = rw (to_z-of_z c.ranges.z) (fits w64 (env cStart) product tt)
+overflow_mul-result c = let env : List Var = given (w-of w32 c.ranges.z) ∷ given (w-nat c.requires) ∷ [] in
+    rw (to_z-of_z c.ranges.z) (fits w64 (env) product tt)
 
 pub returns : goal.returns
 unfolding lowered_by
-returns c = let e = back w64 (env cStart) whole tt in rw (to_z-of_z c.ranges.z) (e, rw e (w_le (within whole (env cStart)) (lit≤ tt)))
+returns c = let env : List Var = given (w-of w32 c.ranges.z) ∷ given (w-nat c.requires) ∷ [] in
+    let e = back w64 (env) whole tt in rw (to_z-of_z c.ranges.z) (e, rw e (w_le (within whole (env)) (lit≤ tt)))

@@ -10,4 +10,4 @@ pub float_to_bits-x : goal.float_to_bits-x
 float_to_bits-x c = itself c.args.x c.if-x.false
 
 pub returns : goal.returns
-returns c = c.is_output_bits.ensures ∙ sym (output-bits c.args.x c.well-formed.0.1)
+returns c = c.is_output_bits.ensures ∙ sym (output-bits c.args.x c.well_formed.0.1)

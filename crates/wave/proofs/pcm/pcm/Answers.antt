@@ -10,9 +10,9 @@ pub float_to_bits-bits : goal.float_to_bits-bits
 float_to_bits-bits c = no_nan c.args.x c.requires
 
 pub k_of_bits-requires : goal.k_of_bits-requires
-k_of_bits-requires c = subst T (output-bits c.args.x c.well-formed.0.1) c.requires
+k_of_bits-requires c = subst T (output-bits c.args.x c.well_formed.0.1) c.requires
 
 pub returns : goal.returns
 returns c = c.word_of.ensures
     ∙ ap (word_of (leb 2147483648 (to_bits binary32 c.args.x))) c.k_of_bits.ensures.0
-    ∙ pcm-bits c.args.x c.well-formed.0.1 (subst T (output-bits c.args.x c.well-formed.0.1) c.requires)
+    ∙ pcm-bits c.args.x c.well_formed.0.1 (subst T (output-bits c.args.x c.well_formed.0.1) c.requires)
