@@ -1,7 +1,8 @@
 // Reading standard input as it comes, through a lent room: bytes, little-endian numbers, samples.
 ghost use Rattle.std.specs.Prelude.{◌≡◌, ◌+◌, ◌*◌, true, false};
 
-use libc::STDIN_FILENO;
+// The descriptor of standard input.
+const STDIN: i32 = 0;
 
 // The part of the room that is still to be read, and whether a read came up short. Once cut, always cut: a program tests it when it has read all that it wants.
 #[derive(Clone, Copy)]
@@ -75,8 +76,7 @@ pub fn filled(room: &mut [u8], from: Place) -> Place {
     if from.last {
         return spoilt(from);
     }
-    let got = libc::read(STDIN_FILENO, room);
-    let n = io::count(got, room);
+    let n = io::read_full(STDIN, room);
     Place {
         at: 0,
         end: n,

@@ -1,7 +1,8 @@
 // Writing text to standard output in few large blocks, through a lent room. `at` is how much of the room is to be written yet.
 ghost use Rattle.std.specs.Prelude.{◌≡◌, unsigned_abs};
 
-use libc::STDOUT_FILENO;
+// The descriptor of standard output.
+const STDOUT: i32 = 1;
 
 // Writes out what stands in the room.
 pub fn flush(room: &[u8; 65536], at: usize) {
@@ -11,9 +12,9 @@ pub fn flush(room: &[u8; 65536], at: usize) {
 // The first n bytes, at most all of them.
 fn write_out(all: &[u8], n: usize) {
     if n < all.len() {
-        io::write_all(STDOUT_FILENO, &all[..n]);
+        io::write_all(STDOUT, &all[..n]);
     } else {
-        io::write_all(STDOUT_FILENO, all);
+        io::write_all(STDOUT, all);
     }
 }
 

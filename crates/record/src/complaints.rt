@@ -1,12 +1,13 @@
 // What is said on standard error where there is no recording.
-use libc::STDERR_FILENO;
+// The descriptor of standard error.
+const STDERR: i32 = 2;
 
 // A command is bad.
 pub fn bad(begun: usize) {
-    io::write_all(STDERR_FILENO, b"record: the case is bad at byte ");
-    io::print_decimal(STDERR_FILENO, begun as u64);
+    io::write_all(STDERR, b"record: the case is bad at byte ");
+    io::print_decimal(STDERR, begun as u64);
     io::write_all(
-        STDERR_FILENO,
+        STDERR,
         b": the command there is unknown, cut off, or has a number that is out of range\n",
     );
 }
@@ -14,7 +15,7 @@ pub fn bad(begun: usize) {
 // The case does not fit the room.
 pub fn long() {
     io::write_all(
-        STDERR_FILENO,
+        STDERR,
         b"record: the case has more than 4,194,303 bytes\n",
     );
 }
@@ -22,7 +23,7 @@ pub fn long() {
 // The file would be longer than its heading can say.
 pub fn endless() {
     io::write_all(
-        STDERR_FILENO,
+        STDERR,
         b"record: the case has more than 1,073,741,814 frames\n",
     );
 }
@@ -30,7 +31,7 @@ pub fn endless() {
 // The file, or the rest of it, is not written.
 pub fn lost() {
     io::write_all(
-        STDERR_FILENO,
+        STDERR,
         b"record: standard output cannot be written\n",
     );
 }

@@ -9,9 +9,12 @@ mod renders;
 mod tapes;
 
 use cases::Command;
-use libc::{STDIN_FILENO, STDOUT_FILENO};
 use player::Player;
 use tapes::Tape;
+
+// The descriptors of standard input and output.
+const STDIN: i32 = 0;
+const STDOUT: i32 = 1;
 
 // The player and the tape behind a command.
 #[derive(Clone, Copy)]
@@ -76,7 +79,7 @@ fn begin_file(frames: u64) -> bool {
     if wave::heading(frames, &mut heading) != 0 {
         return false;
     }
-    io::write_all(STDOUT_FILENO, &heading)
+    io::write_all(STDOUT, &heading)
 }
 
 // The file of a case of n bytes that was counted: its heading, and the numbers of its renders.
@@ -134,7 +137,7 @@ fn record(room: &mut [u8; 4194304], n: usize) {
 
 // The case is read whole into the room. One that fills it to the last byte may go on behind it, and is refused.
 fn listen(room: &mut [u8; 4194304]) {
-    let n = io::read_full(STDIN_FILENO, room);
+    let n = io::read_full(STDIN, room);
     if n < 4194304 {
         record(room, n);
     } else {

@@ -2,7 +2,7 @@
 use crate::tapes::Tape;
 use crate::{Played, tapes};
 use cases::Command;
-use libc::STDOUT_FILENO;
+use crate::STDOUT;
 use player::Player;
 
 // So many frames more. Above what a file can hold the count stays.
@@ -28,7 +28,7 @@ fn pour(out: &[f32], frames: u32) -> bool {
     if wave::pour(first_numbers(out, 2 * n), &mut bytes) != 0 {
         return false;
     }
-    io::write_all(STDOUT_FILENO, cases::first_bytes(&bytes, 4 * n))
+    io::write_all(STDOUT, cases::first_bytes(&bytes, 4 * n))
 }
 
 // The tape behind a done render of so many frames.
