@@ -12,16 +12,16 @@ returns-then-file-gt16777216 c = let a = c.args in
 
 pub join-requires : goal.join-requires
 join-requires c = let a = c.args in
-    let f = sym c.front-f.ensures ∙ c.f-in-Song-1.given.1 in
+    let f = sym c.front-f.ensures ∙ c.in-Song.is in
     let i = subst (λ (x : Front). FrontIn a.file.now x) f (front-in a.file.now) in
     (c.if-file-gt16777216.false, i.0, i.1)
 
 pub returns-in-Refused : goal.returns-in-Refused
 returns-in-Refused c = let a = c.args in
-    let f = sym c.front-f.ensures ∙ c.f-1.given.1 in
+    let f = sym c.front-f.ensures ∙ c.in-Refused.is in
     rw (merged-front a.file.now (room_of a.out.now) _ _ c.if-file-gt16777216.false f) (c.refused-in-Refused.ensures, refl)
 
 pub returns-in-Song : goal.returns-in-Song
 returns-in-Song c = let a = c.args in
-    let f = sym c.front-f.ensures ∙ c.f-in-Song-1.given.1 in
+    let f = sym c.front-f.ensures ∙ c.in-Song.is in
     rw (merged-song a.file.now (room_of a.out.now) _ _ _ c.if-file-gt16777216.false f) c.join.ensures

@@ -21,4 +21,5 @@ unfolding closing_bytes
 returns c = let a = c.args in
     let w = rw c.gap.ensures at c.put_gap-p.ensures in
     let d = c.put.ensures in
-    laid_then a.out.now a.at (gap_bytes a.l.tempo (a.l.end - a.l.tick)) (255 ∷ 47 ∷ 0 ∷ []) c.requires _ _ w.0 w.1 _ _ d.0 d.1
+    let answer = laid_then a.out.now a.at (gap_bytes a.l.tempo (a.l.end - a.l.tick)) (255 ∷ 47 ∷ 0 ∷ []) c.requires _ _ w.0 w.1 _ _ d.0 d.1 in
+    record { value = answer.0; output = answer.1 }

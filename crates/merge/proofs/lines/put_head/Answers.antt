@@ -4,4 +4,5 @@ use Rattle.merge.proofs.lines.put_head.Goals as goal
 
 pub returns : goal.returns
 unfolding two_bytes four_bytes
-returns c = c.put.ensures
+returns c = let answer = c.put.ensures in
+    record { value = answer.0; output = answer.1 }

@@ -111,7 +111,7 @@ earliest-j-requires-in-loop-j c = c.requires.room
 
 pub loop-j-smaller : goal.loop-j-smaller
 loop-j-smaller c = let a = c.args in
-    less a.b.now a.l (3600000000 * a.division) c.loop-j.ticks c.loop-j.entries c.loop-j.t c.loop-j.j c.loop-j.invariant c.loop-j-test.true _ c.advanced-next.ensures.0
+    less a.b.now a.l (3600000000 * a.division) c.loop-j.ticks c.loop-j.entries c.loop-j.t c.loop-j.j c.loop-j.invariant c.loop-j-test.true _ c.advanced-next.ensures.value
 
 pub loop-j-preserved : goal.loop-j-preserved
 loop-j-preserved c = let a = c.args in

@@ -122,21 +122,21 @@ rejoined out head file p first second n r q f s =
     (laid_then out 0 head file (omega (arith, l, n, r)) p first (omega (arith, n, q)) f (p + length file) second refl s).1
 
 pub put_head-at-requires : goal.put_head-at-requires
-put_head-at-requires c = omega (arith, c.requires.1)
+put_head-at-requires c = omega (arith, c.requires.room)
 
 pub line_start-line-requires : goal.line_start-line-requires
 line_start-line-requires c = tt
 
 pub earliest-j-requires : goal.earliest-j-requires
-earliest-j-requires c = c.requires.0.room
+earliest-j-requires c = c.requires.lined.room
 
 pub loop-j-init : goal.loop-j-init
 loop-j-init c = let a = c.args in
-    let p = c.requires.0 in
+    let p = c.requires.lined in
     let w = c.put_head-at.ensures in
     let r = c.line_start-line.ensures in
     let n = head-length a.division a.size in
-    let o = ap length w.1 ∙ laid-length a.out.now 0 (head_bytes a.division a.size) (omega (arith, n, c.requires.1)) in
+    let o = ap length w.1 ∙ laid-length a.out.now 0 (head_bytes a.division a.size) (omega (arith, n, c.requires.room)) in
     record {
       way = record { room = p.room; whole = p.whole; own = p.ticks; settled = p.settled };
       next = c.earliest-j.ensures;
@@ -144,7 +144,7 @@ loop-j-init c = let a = c.args in
       there = omega arith;
       laid = sym (laid_none c.put_head-at.new.0 c.put_head-at.result);
       all = rw r refl;
-      room = omega (arith, o, w.0, c.requires.1);
+      room = omega (arith, o, w.0, c.requires.room);
     }
 
 pub offset_bounds-entries-j : goal.offset_bounds-entries-j
@@ -177,11 +177,11 @@ pub bounds-entries-j-in-loop-j : goal.bounds-entries-j-in-loop-j
 bounds-entries-j-in-loop-j c = omega arith
 
 pub earliest-j-requires-in-loop-j : goal.earliest-j-requires-in-loop-j
-earliest-j-requires-in-loop-j c = c.requires.0.room
+earliest-j-requires-in-loop-j c = c.requires.lined.room
 
 pub loop-j-smaller : goal.loop-j-smaller
 loop-j-smaller c = let a = c.args in
-    less a.b.now a.l _ _ _ c.loop-j.out c.loop-j.at c.loop-j.line c.loop-j.ticks c.loop-j.entries c.loop-j.j c.loop-j.invariant c.loop-j-test.true _ c.advanced-next.ensures.0
+    less a.b.now a.l _ _ _ c.loop-j.out c.loop-j.at c.loop-j.line c.loop-j.ticks c.loop-j.entries c.loop-j.j c.loop-j.invariant c.loop-j-test.true _ c.advanced-next.ensures.value
 
 pub loop-j-preserved : goal.loop-j-preserved
 loop-j-preserved c = let a = c.args in
@@ -205,4 +205,5 @@ returns c = let a = c.args in
     let n = head-length a.division a.size in
     let file = line_bytes line_start (lane_sequence a.b.now a.l) in
     let d = done a.b.now a.l file _ _ c.loop-j.out c.loop-j.at c.loop-j.line c.loop-j.ticks c.loop-j.entries c.loop-j.j c.loop-j.invariant c.loop-j-test.false _ _ w.0 w.1 in
-    rejoined a.out.now (head_bytes a.division a.size) file _ _ _ n (omega (arith, c.requires.1)) h.0 h.1 d
+    let answer = rejoined a.out.now (head_bytes a.division a.size) file _ _ _ n (omega (arith, c.requires.room)) h.0 h.1 d in
+    record { output = answer }

@@ -79,4 +79,4 @@ pub returns : goal.returns
 returns c = let l = c.loop-k in
     let a = c.args in
     let all : l.k ≡ a.n = omega arith in
-    (l.invariant.1 ∙ ap (λ (k : ℕ). a.at + length (bridge_bytes a.tempo k)) all, l.invariant.0 ∙ ap (λ (k : ℕ). laid_over a.out.now a.at (bridge_bytes a.tempo k)) all)
+    record { value = l.invariant.1 ∙ ap (λ (k : ℕ). a.at + length (bridge_bytes a.tempo k)) all; output = l.invariant.0 ∙ ap (λ (k : ℕ). laid_over a.out.now a.at (bridge_bytes a.tempo k)) all }

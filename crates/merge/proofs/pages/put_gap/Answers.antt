@@ -24,4 +24,5 @@ unfolding gap_bytes
 returns c = let a = c.args in
     let w = rw c.bridges.ensures.0 at c.put_bridges-p.ensures in
     let q = rw c.rest.ensures.0 at c.put_quantity.ensures in
-    laid_then a.out.now a.at (bridge_bytes a.tempo (bridges_of a.ticks)) (quantity_bytes (rest_of a.ticks)) c.requires _ _ w.0 w.1 _ _ q.0 q.1
+    let answer = laid_then a.out.now a.at (bridge_bytes a.tempo (bridges_of a.ticks)) (quantity_bytes (rest_of a.ticks)) c.requires _ _ w.0 w.1 _ _ q.0 q.1 in
+    record { value = answer.0; output = answer.1 }

@@ -4,4 +4,5 @@ use Rattle.merge.proofs.pages.put_tempo.Goals as goal
 
 pub returns : goal.returns
 unfolding three_bytes
-returns c = c.put.ensures
+returns c = let answer = c.put.ensures in
+    record { value = answer.0; output = answer.1 }
