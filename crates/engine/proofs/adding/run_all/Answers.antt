@@ -28,7 +28,7 @@ loop-i-init c = let a = c.args in
     )
 
 pub run_slot-t-requires : goal.run_slot-t-requires
-run_slot-t-requires c = let p = c.requires in
+run_slot-t-requires c = let p = (c.requires.tables, c.requires.sums) in
     record { tables = p.0; sums = (omega (arith, c.loop-i.invariant.5, c.loop-i.invariant.6), λ j. w_le (c.loop-i.invariant.4 j) (omega arith)) }
 
 pub overflow_add-word : goal.overflow_add-word

@@ -61,7 +61,7 @@ returns-then-r-eq0 c = let none : c.onward-r.result.frames ≡ 0 → c.onward-r.
     rw (w-back w64 c.requires.loss (lit< tt)) at c.onward-r.ensures.sums
     ∙ ap (λ (m : ℕ). add_at (2 * a.k) (heard_at a.st a.l a.w.now m (sounds a.s.voice)) a.acc.now) e
     ∙ add_at-none (2 * a.k) a.acc.now in
-    let o = c.one.ensures in
+    let o = (c.one.ensures.count, (c.one.ensures.slot, (c.one.ensures.sums, c.one.ensures.small))) in
     let a = c.args in
     let b = w-back w64 c.requires.loss (lit< tt) in
     let f = o.0 in

@@ -39,7 +39,7 @@ returns-then-not-s c = let a = c.args in
     )
 
 pub go-f-requires : goal.go-f-requires
-go-f-requires c = let p = c.requires in
+go-f-requires c = let p = (c.requires.tables, (c.requires.loss, c.requires.sums)) in
     let a = c.args in
     let z = to_z w64 (of_z w64 a.l) in
     let xs = heard_at a.st z a.w.now c.loop-k.k a.s0 in
