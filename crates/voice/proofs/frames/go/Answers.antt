@@ -48,7 +48,7 @@ onward-r-requires c = let p = c.requires.sums in
 
 pub one-requires : goal.one-requires
 unfolding heard_at
-one-requires c = let none : c.onward-r.result.frames ≡ 0 → c.onward-r.last.1.1.1.1.1.1.0 ≡ c.args.acc.now = λ e. let a = c.args in
+one-requires c = let none : c.onward-r.result.frames ≡ 0 → c.onward-r.new.acc ≡ c.args.acc.now = λ e. let a = c.args in
     rw (w-back w64 c.requires.loss (lit< tt)) at c.onward-r.ensures.sums
     ∙ ap (λ (m : ℕ). add_at (2 * a.k) (heard_at a.st a.l a.w.now m (sounds a.s.voice)) a.acc.now) e
     ∙ add_at-none (2 * a.k) a.acc.now in
@@ -57,21 +57,20 @@ one-requires c = let none : c.onward-r.result.frames ≡ 0 → c.onward-r.last.1
 
 pub returns-then-r-eq0 : goal.returns-then-r-eq0
 unfolding heard_at
-returns-then-r-eq0 c = let none : c.onward-r.result.frames ≡ 0 → c.onward-r.last.1.1.1.1.1.1.0 ≡ c.args.acc.now = λ e. let a = c.args in
+returns-then-r-eq0 c = let none : c.onward-r.result.frames ≡ 0 → c.onward-r.new.acc ≡ c.args.acc.now = λ e. let a = c.args in
     rw (w-back w64 c.requires.loss (lit< tt)) at c.onward-r.ensures.sums
     ∙ ap (λ (m : ℕ). add_at (2 * a.k) (heard_at a.st a.l a.w.now m (sounds a.s.voice)) a.acc.now) e
     ∙ add_at-none (2 * a.k) a.acc.now in
-    let o = (c.one.ensures.count, (c.one.ensures.slot, (c.one.ensures.sums, c.one.ensures.small))) in
     let a = c.args in
     let b = w-back w64 c.requires.loss (lit< tt) in
-    let f = o.0 in
+    let f = c.one.ensures.count in
     record {
       count = (omega (arith, f), omega (arith, f, c.requires.sums.0));
-      slot = rw b at o.1.0 ∙ ap (λ (m : ℕ). after_at a.st a.l a.w.now m a.s) (sym f);
-      sums = rw b at o.1.1.0
+      slot = rw b at c.one.ensures.slot ∙ ap (λ (m : ℕ). after_at a.st a.l a.w.now m a.s) (sym f);
+      sums = rw b at c.one.ensures.sums
           ∙ ap (λ (xs : List ℤ). add_at (2 * a.k) (heard_at a.st a.l a.w.now 1 a.s) xs) (none c.if-r-eq0.true)
           ∙ ap (λ (m : ℕ). add_at (2 * a.k) (heard_at a.st a.l a.w.now m a.s) a.acc.now) (sym f);
-      small = subst (λ (m : ℕ). Small 1 (heard_at a.st a.l a.w.now m a.s)) (sym f) (rw b at o.1.1.1);
+      small = subst (λ (m : ℕ). Small 1 (heard_at a.st a.l a.w.now m a.s)) (sym f) (rw b at c.one.ensures.small);
     }
 
 pub age_by-y-requires : goal.age_by-y-requires
