@@ -46,7 +46,7 @@ go-f-requires c = let a = c.args in
     let t = c.loop-k-test.true in
     record {
       tables = c.requires.tables;
-      loss = rw (w-back w64 (c.requires.loss, c.requires.sums).0 (lit< tt)) (c.requires.loss, c.requires.sums).0;
+      loss = rw (w-back w64 c.requires.loss (lit< tt)) c.requires.loss;
       sounding = not-false c.loop-k.s.sounding c.if-not-s.false;
       sums = (
         omega (arith, t),
@@ -54,7 +54,7 @@ go-f-requires c = let a = c.args in
         λ j h.
             subst (λ (y : ℤ). Within y (31 * loudest))
             (sym (ap (λ (q : List ℤ). get_or q j (pos 0)) c.loop-k.invariant.1 ∙ to-beyond xs a.acc.now j (omega (arith, x))))
-            ((c.requires.loss, c.requires.sums).1.1 j),
+            (c.requires.sums.1 j),
       );
     }
 
