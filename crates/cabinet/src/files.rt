@@ -29,8 +29,7 @@ pub fn number(n: u8) -> u32
 }
 
 // 0 where the bank is admitted, else 1.
-#[unsafe(no_mangle)]
-pub extern "C" fn thularek_admit(bank: &[u8]) -> u32
+pub fn thularek_admit(bank: &[u8]) -> u32
     ensures { result ≡ fault_number (fault_of bank.now) }
 {
     number(engine::admit(bank))
@@ -69,8 +68,7 @@ fn fault_place(f: Fault) -> usize
 }
 
 // Why a bank is not admitted: the kind of its first fault (0: none), and the fault's place.
-#[unsafe(no_mangle)]
-pub extern "C" fn thularek_bank_fault(bank: &[u8], place: &mut usize) -> u32
+pub fn thularek_bank_fault(bank: &[u8], place: &mut usize) -> u32
     ensures { (result ≡ fault_kind (fault_of bank.now)) × (place.new ≡ fault_place (fault_of bank.now)) }
 {
     let f = bank::admission(bank);
@@ -109,8 +107,7 @@ fn row_of(l: Listed) -> Row
 }
 
 // The listing, one step: 0 and a row's program, bank and next place; 1 where it is refused; 2 at the end.
-#[unsafe(no_mangle)]
-pub extern "C" fn thularek_list(
+pub fn thularek_list(
     bytes: &[u8],
     place: u32,
     program: &mut u16,
@@ -127,8 +124,7 @@ pub extern "C" fn thularek_list(
 }
 
 // Where the bank and the samples of a SoundFont file lie, or its number and the place of its first fault.
-#[unsafe(no_mangle)]
-pub extern "C" fn thularek_font(
+pub fn thularek_font(
     file: &[u8],
     bank: &mut usize,
     bank_size: &mut usize,
@@ -150,8 +146,7 @@ pub extern "C" fn thularek_font(
 }
 
 // Whether a song can be played: its number (0: yes), and the place of its first fault.
-#[unsafe(no_mangle)]
-pub extern "C" fn thularek_song_test(song: &[u8], place: &mut u32) -> u32
+pub fn thularek_song_test(song: &[u8], place: &mut u32) -> u32
     ensures { (result ≡ (test_of song.now).number) × (place.new ≡ (test_of song.now).place) }
 {
     let t = smf::test(song);
@@ -160,13 +155,7 @@ pub extern "C" fn thularek_song_test(song: &[u8], place: &mut u32) -> u32
 }
 
 // A song of several tracks as one of one track: its number (0: written), how many bytes were written, and the place of its first fault.
-#[unsafe(no_mangle)]
-pub extern "C" fn thularek_merge(
-    file: &[u8],
-    out: &mut [u8],
-    size: &mut usize,
-    place: &mut u32,
-) -> u32
+pub fn thularek_merge(file: &[u8], out: &mut [u8], size: &mut usize, place: &mut u32) -> u32
     ensures { (result ≡ (answer_of (merged_of file.now (room_of out.old))).number) × (size.new ≡ (answer_of (merged_of file.now (room_of out.old))).size) × (place.new ≡ (answer_of (merged_of file.now (room_of out.old))).place) × (out.new ≡ written_into (merged_of file.now (room_of out.old)) out.old) }
 {
     let m = merge::merge(file, out);
@@ -176,24 +165,21 @@ pub extern "C" fn thularek_merge(
 }
 
 // The 44 bytes in front of so many frames.
-#[unsafe(no_mangle)]
-pub extern "C" fn thularek_wave_heading(frames: u64, out: &mut [u8]) -> u32
+pub fn thularek_wave_heading(frames: u64, out: &mut [u8]) -> u32
     ensures { (result ≡ heading_number frames (length out.old)) × (out.new ≡ headed frames out.old) }
 {
     number(wave::heading(frames, out))
 }
 
 // Output numbers as bytes, two for each.
-#[unsafe(no_mangle)]
-pub extern "C" fn thularek_wave_pour(numbers: &[f32], out: &mut [u8]) -> u32
+pub fn thularek_wave_pour(numbers: &[f32], out: &mut [u8]) -> u32
     ensures { (result ≡ pour_number numbers.now (length out.old)) × (out.new ≡ poured_into numbers.now out.old) }
 {
     number(wave::pour(numbers, out))
 }
 
 // The frames of a file that these made, and its numbers.
-#[unsafe(no_mangle)]
-pub extern "C" fn thularek_wave_read(file: &[u8], out: &mut [i16], frames: &mut u32) -> u32
+pub fn thularek_wave_read(file: &[u8], out: &mut [i16], frames: &mut u32) -> u32
     ensures { (result ≡ (heard_of file.now (length out.old)).number) × (frames.new ≡ (heard_of file.now (length out.old)).frames) × (out.new ≡ replayed file.now out.old) }
 {
     let h = wave::read(file, out);

@@ -20,8 +20,7 @@ fn sums<'a>(s: Flat, ram: &'a [i16], rom: &'a [i16], out: &mut [i32], to: u32) -
 }
 
 // Frames up to a clock value, with no song, as the sums of their voices.
-#[unsafe(no_mangle)]
-pub extern "C" fn thularek_sums<'a>(
+pub fn thularek_sums<'a>(
     state: &mut Flat,
     ram: &'a [i16],
     rom: &'a [i16],
@@ -35,8 +34,7 @@ pub extern "C" fn thularek_sums<'a>(
 }
 
 // Sums as bytes at a lower level, two for each; how many frames were held, and the largest size of a sum.
-#[unsafe(no_mangle)]
-pub extern "C" fn thularek_wave_sums(
+pub fn thularek_wave_sums(
     sums: &[i32],
     attenuation: u16,
     out: &mut [u8],
@@ -52,8 +50,7 @@ pub extern "C" fn thularek_wave_sums(
 }
 
 // The least attenuation with which no sum of at most this size is held.
-#[unsafe(no_mangle)]
-pub extern "C" fn thularek_attenuation_for(loudest: u32) -> u32
+pub fn thularek_attenuation_for(loudest: u32) -> u32
     ensures { result ≡ attenuation_for loudest }
 {
     wave::attenuation_for(loudest) as u32

@@ -31,8 +31,7 @@ fn note_on<'a>(
 }
 
 // A key is struck.
-#[unsafe(no_mangle)]
-pub extern "C" fn thularek_note_on<'a>(
+pub fn thularek_note_on<'a>(
     state: &mut Flat,
     bank: &[u8],
     ram: &'a [i16],
@@ -57,8 +56,7 @@ fn note_off(s: Flat, channel: u8, key: u8) -> Flat
 }
 
 // A key is let go.
-#[unsafe(no_mangle)]
-pub extern "C" fn thularek_note_off(state: &mut Flat, channel: u8, key: u8) -> u32
+pub fn thularek_note_off(state: &mut Flat, channel: u8, key: u8) -> u32
     ensures { (state.new ≡ kept_answer (note_off channel key (engine_in state.old)) state.old) × (result ≡ (note_off channel key (engine_in state.old)).status) }
 {
     *state = note_off(*state, channel, key);
@@ -75,13 +73,7 @@ fn control_change(s: Flat, channel: u8, control: u8, value: u8) -> Flat
 }
 
 // A control is set.
-#[unsafe(no_mangle)]
-pub extern "C" fn thularek_control_change(
-    state: &mut Flat,
-    channel: u8,
-    control: u8,
-    value: u8,
-) -> u32
+pub fn thularek_control_change(state: &mut Flat, channel: u8, control: u8, value: u8) -> u32
     ensures { (state.new ≡ kept_answer (control_change channel control value (engine_in state.old)) state.old) × (result ≡ (control_change channel control value (engine_in state.old)).status) }
 {
     *state = control_change(*state, channel, control, value);
@@ -98,8 +90,7 @@ fn program_change(s: Flat, channel: u8, program: u8) -> Flat
 }
 
 // A program is chosen.
-#[unsafe(no_mangle)]
-pub extern "C" fn thularek_program_change(state: &mut Flat, channel: u8, program: u8) -> u32
+pub fn thularek_program_change(state: &mut Flat, channel: u8, program: u8) -> u32
     ensures { (state.new ≡ kept_answer (program_change channel program (engine_in state.old)) state.old) × (result ≡ (program_change channel program (engine_in state.old)).status) }
 {
     *state = program_change(*state, channel, program);
@@ -116,8 +107,7 @@ fn pitch_bend(s: Flat, channel: u8, bend: u16) -> Flat
 }
 
 // A channel is bent.
-#[unsafe(no_mangle)]
-pub extern "C" fn thularek_pitch_bend(state: &mut Flat, channel: u8, bend: u16) -> u32
+pub fn thularek_pitch_bend(state: &mut Flat, channel: u8, bend: u16) -> u32
     ensures { (state.new ≡ kept_answer (pitch_bend channel bend (engine_in state.old)) state.old) × (result ≡ (pitch_bend channel bend (engine_in state.old)).status) }
 {
     *state = pitch_bend(*state, channel, bend);

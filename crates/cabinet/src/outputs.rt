@@ -18,8 +18,7 @@ fn render<'a>(s: Flat, ram: &'a [i16], rom: &'a [i16], out: &mut [f32], to: u32)
 }
 
 // Frames up to a clock value, with no song.
-#[unsafe(no_mangle)]
-pub extern "C" fn thularek_render<'a>(
+pub fn thularek_render<'a>(
     state: &mut Flat,
     ram: &'a [i16],
     rom: &'a [i16],
@@ -50,8 +49,7 @@ fn song_render<'a>(
 }
 
 // Frames up to a clock value, with each event of the song before its frame.
-#[unsafe(no_mangle)]
-pub extern "C" fn thularek_song_render<'a>(
+pub fn thularek_song_render<'a>(
     state: &mut Flat,
     song: &[u8],
     bank: &[u8],

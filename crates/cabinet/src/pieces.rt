@@ -15,8 +15,7 @@ fn begin() -> Flat
 }
 
 // A fresh engine, and no song. Whatever stood in C's memory is gone.
-#[unsafe(no_mangle)]
-pub extern "C" fn thularek_init(state: &mut Flat) -> u32
+pub fn thularek_init(state: &mut Flat) -> u32
     ensures { (state.new ≡ kept 0 0 0 0 idle) × (result ≡ 0) }
 {
     *state = begin();
@@ -32,8 +31,7 @@ fn song_start(s: Flat, song: &[u8]) -> Flat
 }
 
 // A song starts at the clock's value. A refused file changes nothing of the player.
-#[unsafe(no_mangle)]
-pub extern "C" fn thularek_song_start(state: &mut Flat, song: &[u8]) -> u32
+pub fn thularek_song_start(state: &mut Flat, song: &[u8]) -> u32
     ensures { (state.new ≡ kept_start (started song.now (player_in state.old))) × (result ≡ (started song.now (player_in state.old)).number) }
 {
     *state = song_start(*state, song);
@@ -49,8 +47,7 @@ fn song_stop(s: Flat) -> Flat
 }
 
 // The song stops.
-#[unsafe(no_mangle)]
-pub extern "C" fn thularek_song_stop(state: &mut Flat) -> u32
+pub fn thularek_song_stop(state: &mut Flat) -> u32
     ensures { (state.new ≡ kept 0 0 0 0 (stopped (player_in state.old))) × (result ≡ 0) }
 {
     *state = song_stop(*state);

@@ -8,8 +8,7 @@ use crate::files::number;
 use records::Found;
 
 // A preset's sheet: 0 and where its name begins, its zones, its lowest and its highest key; 1 where the bank is not admitted; 2 at the end.
-#[unsafe(no_mangle)]
-pub extern "C" fn thularek_preset(
+pub fn thularek_preset(
     bytes: &[u8],
     place: u32,
     name: &mut usize,
@@ -48,8 +47,7 @@ fn past_place(f: Found) -> usize
 }
 
 // Whether a window of an admitted bank ends past its memory, of so many samples: 8 and the place of the first such zone's 53, else 0.
-#[unsafe(no_mangle)]
-pub extern "C" fn thularek_past_memory(
+pub fn thularek_past_memory(
     bank: &[u8],
     ram_count: usize,
     rom_count: usize,

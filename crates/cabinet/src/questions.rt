@@ -19,8 +19,7 @@ fn count_in(s: Flat) -> u32
 }
 
 // The last call's count: the voices that a message started, let off or changed, or the events that a song's render or step applied.
-#[unsafe(no_mangle)]
-pub extern "C" fn thularek_count(state: &Flat) -> u32
+pub fn thularek_count(state: &Flat) -> u32
     ensures { result ≡ state.now.count }
 {
     count_in(*state)
@@ -34,8 +33,7 @@ fn refused_in(s: Flat) -> u32
 }
 
 // The refused events among those that the last render of a song, or a step, applied.
-#[unsafe(no_mangle)]
-pub extern "C" fn thularek_refused(state: &Flat) -> u32
+pub fn thularek_refused(state: &Flat) -> u32
     ensures { result ≡ state.now.refused }
 {
     refused_in(*state)
@@ -49,8 +47,7 @@ fn place_in(s: Flat) -> u32
 }
 
 // The place of the first fault of a song that the last call refused to start.
-#[unsafe(no_mangle)]
-pub extern "C" fn thularek_place(state: &Flat) -> u32
+pub fn thularek_place(state: &Flat) -> u32
     ensures { result ≡ state.now.place }
 {
     place_in(*state)
@@ -66,8 +63,7 @@ fn clock_in(s: Flat) -> u32
 }
 
 // The clock: the frame that the next render begins with.
-#[unsafe(no_mangle)]
-pub extern "C" fn thularek_clock(state: &Flat) -> u32
+pub fn thularek_clock(state: &Flat) -> u32
     ensures { result ≡ (engine_in state.now).clock }
 {
     clock_in(*state)
@@ -82,8 +78,7 @@ fn song_is_over(s: Flat) -> u32
 }
 
 // 1 where no event of the song is left.
-#[unsafe(no_mangle)]
-pub extern "C" fn thularek_song_is_over(state: &Flat) -> u32
+pub fn thularek_song_is_over(state: &Flat) -> u32
     ensures { result ≡ flag_to (player_in state.now).ended }
 {
     song_is_over(*state)
@@ -98,8 +93,7 @@ fn is_silent(s: Flat) -> u32
 }
 
 // 1 where no voice sounds.
-#[unsafe(no_mangle)]
-pub extern "C" fn thularek_is_silent(state: &Flat) -> u32
+pub fn thularek_is_silent(state: &Flat) -> u32
     ensures { result ≡ flag_to (is_silent (player_in state.now)) }
 {
     is_silent(*state)
@@ -115,8 +109,7 @@ fn voice_count(s: Flat) -> u32
 }
 
 // How many voices sound.
-#[unsafe(no_mangle)]
-pub extern "C" fn thularek_voice_count(state: &Flat) -> u32
+pub fn thularek_voice_count(state: &Flat) -> u32
     ensures { result ≡ voice_count (engine_in state.now) }
 {
     voice_count(*state)
@@ -131,8 +124,7 @@ fn held_count(s: Flat) -> u32
 }
 
 // How many voices are held.
-#[unsafe(no_mangle)]
-pub extern "C" fn thularek_held_count(state: &Flat) -> u32
+pub fn thularek_held_count(state: &Flat) -> u32
     ensures { result ≡ held_count (player_in state.now) }
 {
     held_count(*state)
@@ -164,8 +156,7 @@ fn panel_stage(s: Flat, slot: u8) -> u32
 }
 
 // The stage of a slot's voice; 6 where the slot is free, 7 past the last slot.
-#[unsafe(no_mangle)]
-pub extern "C" fn thularek_panel_stage(state: &Flat, slot: u8) -> u32
+pub fn thularek_panel_stage(state: &Flat, slot: u8) -> u32
     ensures { result ≡ lamp_stage (ask slot (engine_in state.now)) }
 {
     panel_stage(*state, slot)
@@ -197,8 +188,7 @@ fn panel_level(s: Flat, slot: u8) -> f32
 }
 
 // The level of a slot's voice, 0 to 1.
-#[unsafe(no_mangle)]
-pub extern "C" fn thularek_panel_level(state: &Flat, slot: u8) -> f32
+pub fn thularek_panel_level(state: &Flat, slot: u8) -> f32
     ensures { result ≡ lamp_level (ask slot (engine_in state.now)) }
 {
     panel_level(*state, slot)

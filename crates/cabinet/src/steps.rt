@@ -35,8 +35,7 @@ fn song_step<'a>(s: Flat, song: &[u8], bank: &[u8], ram: &'a [i16], rom: &'a [i1
 }
 
 // The event that comes next acts now.
-#[unsafe(no_mangle)]
-pub extern "C" fn thularek_song_step<'a>(
+pub fn thularek_song_step<'a>(
     state: &mut Flat,
     song: &[u8],
     bank: &[u8],
@@ -58,8 +57,7 @@ fn song_gap(s: Flat, most: u32) -> u32
 }
 
 // The frames up to the event that comes next, at most so many; all of them where none is left.
-#[unsafe(no_mangle)]
-pub extern "C" fn thularek_song_gap(state: &Flat, most: u32) -> u32
+pub fn thularek_song_gap(state: &Flat, most: u32) -> u32
     ensures { result ≡ gap_of (player_in state.now) most }
 {
     song_gap(*state, most)
@@ -74,8 +72,7 @@ fn song_next(s: Flat) -> u32
 }
 
 // The three bytes of the event that comes next, its status lowest; 0 where none is left.
-#[unsafe(no_mangle)]
-pub extern "C" fn thularek_song_next(state: &Flat) -> u32
+pub fn thularek_song_next(state: &Flat) -> u32
     ensures { result ≡ next_event (player_in state.now) }
 {
     song_next(*state)
@@ -90,8 +87,7 @@ fn song_frame(s: Flat) -> u32
 }
 
 // Its frame, counted from the song's start; 0 where none is left.
-#[unsafe(no_mangle)]
-pub extern "C" fn thularek_song_frame(state: &Flat) -> u32
+pub fn thularek_song_frame(state: &Flat) -> u32
     ensures { result ≡ next_frame (player_in state.now) }
 {
     song_frame(*state)
@@ -107,8 +103,7 @@ fn channel_program(s: Flat, channel: u8) -> u32
 }
 
 // The program that a note-on of a channel looks for; 65,535 past channel 15.
-#[unsafe(no_mangle)]
-pub extern "C" fn thularek_channel_program(state: &Flat, channel: u8) -> u32
+pub fn thularek_channel_program(state: &Flat, channel: u8) -> u32
     ensures { result ≡ sought_program channel (engine_in state.now) }
 {
     channel_program(*state, channel)
@@ -124,8 +119,7 @@ fn channel_bank(s: Flat, channel: u8) -> u32
 }
 
 // The bank number that it looks for, 128 on channel 9; 65,535 past channel 15.
-#[unsafe(no_mangle)]
-pub extern "C" fn thularek_channel_bank(state: &Flat, channel: u8) -> u32
+pub fn thularek_channel_bank(state: &Flat, channel: u8) -> u32
     ensures { result ≡ sought_bank channel (engine_in state.now) }
 {
     channel_bank(*state, channel)

@@ -8,19 +8,22 @@ use Rattle.cabinet.specs.Twins.{voice_of_twin, voice_to, engine_of}
 use Rattle.cabinet.proofs.TwinsLaws.{fill, filled}
 use Rattle.cabinet.proofs.twins.engine_of.Goals as goal
 
+<<<<<<< HEAD
 pub loop-i-init : goal.loop-i-init
 loop-i-init c = let n : length c.args.t1.voices ≡ 32 = c.well_formed.0.1.1.0.1.0.1 in
     (n, sym n, refl, omega arith)
 
+=======
+>>>>>>> 8b2cde9dd9cdd5f639a267c654d8878892493632
 pub loop-i-preserved : goal.loop-i-preserved
 loop-i-preserved c = let a = c.args in
     let i = c.loop-i.i in (
       c.loop-i.invariant.0,
       simp length-set c.loop-i.invariant.1,
-      fill voice_of_twin a.t1.voices c.loop-i.vs i (voice_to blank) c.voice_of.result (omega arith) c.loop-i.invariant.1 c.loop-i.invariant.2 c.voice_of.ensures,
+      fill voice_of_twin a.f.voices c.loop-i.vs i (voice_to blank) c.voice_of.result (omega arith) c.loop-i.invariant.1 c.loop-i.invariant.2 c.voice_of.ensures,
       omega arith,
     )
 
 pub returns : goal.returns
 unfolding engine_of
-returns c = simp (filled voice_of_twin c.args.t1.voices c.loop-i.vs c.loop-i.i (omega arith) c.loop-i.invariant.1 c.loop-i.invariant.2)
+returns c = simp (filled voice_of_twin c.args.f.voices c.loop-i.vs c.loop-i.i (omega arith) c.loop-i.invariant.1 c.loop-i.invariant.2)

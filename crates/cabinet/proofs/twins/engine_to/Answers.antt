@@ -8,19 +8,15 @@ use Rattle.cabinet.specs.Twins.{voice_to, engine_to}
 use Rattle.cabinet.proofs.TwinsLaws.{fill, filled}
 use Rattle.cabinet.proofs.twins.engine_to.Goals as goal
 
-pub loop-i-init : goal.loop-i-init
-loop-i-init c = let n : length c.args.t1.voices ≡ 32 = c.well_formed.0.1.1.0.1.0.1 in
-    (n, sym n, refl, omega arith)
-
 pub loop-i-preserved : goal.loop-i-preserved
 loop-i-preserved c = let a = c.args in
     let i = c.loop-i.i in (
       c.loop-i.invariant.0,
       simp length-set c.loop-i.invariant.1,
-      fill voice_to a.t1.voices c.loop-i.vs i blank c.voice_to.result (omega arith) c.loop-i.invariant.1 c.loop-i.invariant.2 c.voice_to.ensures,
+      fill voice_to a.e.voices c.loop-i.vs i blank c.voice_to.result (omega arith) c.loop-i.invariant.1 c.loop-i.invariant.2 c.voice_to.ensures,
       omega arith,
     )
 
 pub returns : goal.returns
 unfolding engine_to
-returns c = simp (filled voice_to c.args.t1.voices c.loop-i.vs c.loop-i.i (omega arith) c.loop-i.invariant.1 c.loop-i.invariant.2)
+returns c = simp (filled voice_to c.args.e.voices c.loop-i.vs c.loop-i.i (omega arith) c.loop-i.invariant.1 c.loop-i.invariant.2)

@@ -1,6 +1,0 @@
--- The equations of what it calls, one put into the next.
-use Rattle.cabinet.proofs.outputs.render.Goals as goal
-
-pub returns : goal.returns
-returns c = let e = c.player_in-p.ensures in
-    (simp (c.keep_answer.ensures, c.render-a.ensures.0, e), simp (c.render-a.ensures.1, e))

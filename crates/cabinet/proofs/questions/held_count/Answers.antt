@@ -1,5 +1,0 @@
--- The equations of what it calls, one put into the next.
-use Rattle.cabinet.proofs.questions.held_count.Goals as goal
-
-pub returns : goal.returns
-returns c = simp (c.held_count.ensures, c.player_in-p.ensures)

@@ -1,0 +1,101 @@
+// What is asked of bytes alone: banks, fonts, songs and waves. Numbers beside the answer go to where the caller points, 0 where there is none.
+ghost use Rattle.std.specs.Prelude.{◌≡◌, length};
+ghost use Rattle.bank.specs.Admission.{fault_of, fault_number};
+ghost use Rattle.bank.specs.Listing.{listed};
+ghost use Rattle.merge.specs.Merging.{merged_of, room_of, answer_of, written_into};
+ghost use Rattle.riff.specs.Form.{find_of};
+ghost use Rattle.smf.specs.Songs.{test_of};
+ghost use Rattle.wave.specs.Headings.{heading_number, headed};
+ghost use Rattle.wave.specs.Pours.{pour_number, poured_into};
+ghost use Rattle.wave.specs.Playback.{heard_of, replayed};
+ghost use Rattle.cabinet.specs.Files.{fault_kind, fault_place, row_kind, row_program, row_bank, row_next};
+
+// 0 where the bank is admitted, else 1.
+#[unsafe(no_mangle)]
+pub extern "C" fn thularek_admit(bank: &[u8]) -> u32
+    ensures { result ≡ fault_number (fault_of bank.now) }
+{
+    cabinet::thularek_admit(bank)
+}
+
+// Why a bank is not admitted: the kind of its first fault (0: none), and the fault's place.
+#[unsafe(no_mangle)]
+pub extern "C" fn thularek_bank_fault(bank: &[u8], place: &mut usize) -> u32
+    ensures { (result ≡ fault_kind (fault_of bank.now)) × (place.new ≡ fault_place (fault_of bank.now)) }
+{
+    cabinet::thularek_bank_fault(bank, place)
+}
+
+// The listing, one step: 0 and a row's program, bank and next place; 1 where it is refused; 2 at the end.
+#[unsafe(no_mangle)]
+pub extern "C" fn thularek_list(
+    bytes: &[u8],
+    place: u32,
+    program: &mut u16,
+    bank: &mut u16,
+    next: &mut usize,
+) -> u32
+    ensures { (result ≡ row_kind (listed bytes.now place)) × (program.new ≡ row_program (listed bytes.now place)) × (bank.new ≡ row_bank (listed bytes.now place)) × (next.new ≡ row_next (listed bytes.now place)) }
+{
+    cabinet::thularek_list(bytes, place, program, bank, next)
+}
+
+// Where the bank and the samples of a SoundFont file lie, or its number and the place of its first fault.
+#[unsafe(no_mangle)]
+pub extern "C" fn thularek_font(
+    file: &[u8],
+    bank: &mut usize,
+    bank_size: &mut usize,
+    samples: &mut usize,
+    samples_size: &mut usize,
+    place: &mut usize,
+) -> u32
+    ensures { (result ≡ (find_of file.now).number) × (bank.new ≡ (find_of file.now).bank.at) × (bank_size.new ≡ (find_of file.now).bank.size) × (samples.new ≡ (find_of file.now).samples.at) × (samples_size.new ≡ (find_of file.now).samples.size) × (place.new ≡ (find_of file.now).place) }
+{
+    cabinet::thularek_font(file, bank, bank_size, samples, samples_size, place)
+}
+
+// Whether a song can be played: its number (0: yes), and the place of its first fault.
+#[unsafe(no_mangle)]
+pub extern "C" fn thularek_song_test(song: &[u8], place: &mut u32) -> u32
+    ensures { (result ≡ (test_of song.now).number) × (place.new ≡ (test_of song.now).place) }
+{
+    cabinet::thularek_song_test(song, place)
+}
+
+// A song of several tracks as one of one track: its number (0: written), how many bytes were written, and the place of its first fault.
+#[unsafe(no_mangle)]
+pub extern "C" fn thularek_merge(
+    file: &[u8],
+    out: &mut [u8],
+    size: &mut usize,
+    place: &mut u32,
+) -> u32
+    ensures { (result ≡ (answer_of (merged_of file.now (room_of out.old))).number) × (size.new ≡ (answer_of (merged_of file.now (room_of out.old))).size) × (place.new ≡ (answer_of (merged_of file.now (room_of out.old))).place) × (out.new ≡ written_into (merged_of file.now (room_of out.old)) out.old) }
+{
+    cabinet::thularek_merge(file, out, size, place)
+}
+
+// The 44 bytes in front of so many frames.
+#[unsafe(no_mangle)]
+pub extern "C" fn thularek_wave_heading(frames: u64, out: &mut [u8]) -> u32
+    ensures { (result ≡ heading_number frames (length out.old)) × (out.new ≡ headed frames out.old) }
+{
+    cabinet::thularek_wave_heading(frames, out)
+}
+
+// Output numbers as bytes, two for each.
+#[unsafe(no_mangle)]
+pub extern "C" fn thularek_wave_pour(numbers: &[f32], out: &mut [u8]) -> u32
+    ensures { (result ≡ pour_number numbers.now (length out.old)) × (out.new ≡ poured_into numbers.now out.old) }
+{
+    cabinet::thularek_wave_pour(numbers, out)
+}
+
+// The frames of a file that these made, and its numbers.
+#[unsafe(no_mangle)]
+pub extern "C" fn thularek_wave_read(file: &[u8], out: &mut [i16], frames: &mut u32) -> u32
+    ensures { (result ≡ (heard_of file.now (length out.old)).number) × (frames.new ≡ (heard_of file.now (length out.old)).frames) × (out.new ≡ replayed file.now out.old) }
+{
+    cabinet::thularek_wave_read(file, out, frames)
+}

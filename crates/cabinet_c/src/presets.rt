@@ -1,0 +1,33 @@
+// What is told of a bank's presets and samples. Numbers beside the answer go to where the caller points, 0 where there is none.
+ghost use Rattle.std.specs.Prelude.{◌≡◌};
+ghost use Rattle.bank.specs.Past.{past_memory};
+ghost use Rattle.layers.specs.Spans.{sheet_of};
+ghost use Rattle.cabinet.specs.Presets.{past_number, past_place};
+
+// A preset's sheet: 0 and where its name begins, its zones, its lowest and its highest key; 1 where the bank is not admitted; 2 at the end.
+#[unsafe(no_mangle)]
+pub extern "C" fn thularek_preset(
+    bytes: &[u8],
+    place: u32,
+    name: &mut usize,
+    zones: &mut u32,
+    low: &mut u8,
+    high: &mut u8,
+) -> u32
+    ensures { (result ≡ (sheet_of bytes.now place).kind) × (name.new ≡ (sheet_of bytes.now place).name) × (zones.new ≡ (sheet_of bytes.now place).zones) × (low.new ≡ (sheet_of bytes.now place).low) × (high.new ≡ (sheet_of bytes.now place).high) }
+{
+    cabinet::thularek_preset(bytes, place, name, zones, low, high)
+}
+
+// Whether a window of an admitted bank ends past its memory, of so many samples: 8 and the place of the first such zone's 53, else 0.
+#[unsafe(no_mangle)]
+pub extern "C" fn thularek_past_memory(
+    bank: &[u8],
+    ram_count: usize,
+    rom_count: usize,
+    place: &mut usize,
+) -> u32
+    ensures { (result ≡ past_number (past_memory bank.now ram_count rom_count)) × (place.new ≡ past_place (past_memory bank.now ram_count rom_count)) }
+{
+    cabinet::thularek_past_memory(bank, ram_count, rom_count, place)
+}
