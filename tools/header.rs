@@ -1,11 +1,13 @@
-// Holds library/thularek.h and thularek.rs to crate cabinet: nothing else compares what C and Rust are told with what is proved.
+// Holds library/thularek.h and thularek.rs to crate cabinet_c, and that one to cabinet: nothing else compares what C and Rust are told with what is proved.
 //
 //     rustc --edition 2021 -O -o target/header tools/header.rs && target/header
 //
 // complains, with status 1, where a prototype is not the one of the function that is exported under its name (result, order,
-// names and C types of the parameters; a slice is a pointer and a length), where one of the two has no other, and where
-// THULAREK_STATE_USED is not the size of `Flat` by C's rules. `--layout` prints where each number of `Flat` lies: its
-// place, its size in bytes and its name. `--twin` prints `Flat` in C with an assertion of each place, for a C compiler.
+// names and C types of the parameters; a slice is a pointer and a length), where one of the two has no other, where an
+// export has not the parameters, the answer and the clauses of cabinet's function of that name, or does more than call it,
+// and where THULAREK_STATE_USED is not the size of `Flat` by C's rules. `--layout` prints where each number of `Flat`
+// lies: its place, its size in bytes and its name. `--twin` prints `Flat` in C with an assertion of each place, for a C
+// compiler.
 use std::collections::BTreeMap;
 use std::fs;
 use std::process::ExitCode;
@@ -16,7 +18,9 @@ const BINDINGS: &str = "library/thularek.rs";
 const MESSAGES: &str = "library/message.c";
 const MESSAGE: &str = "const char *thularek_message(uint32_t number)";
 const MESSAGE_IN_RUST: &str = "fn thularek_message(number: u32) -> *const std::ffi::c_char";
-/// The crates with what C is handed: the functions and the twin, and the structs that the twin has as they are.
+/// The crates with what C is handed: the exports, the functions that these call and the twin, and the structs that the
+/// twin has as they are.
+const EXPORTS: &str = "crates/cabinet_c/src";
 const CABINET: &str = "crates/cabinet/src";
 const OTHERS: [&str; 2] = ["crates/voice/src", "crates/smf/src"];
 
@@ -29,13 +33,19 @@ fn read(path: &str) -> String {
     fs::read_to_string(path).unwrap_or_else(|error| fail(&format!("{path}: {error}")))
 }
 
-/// All source files of a folder, one behind the other.
-fn sources(folder: &str) -> String {
+/// The source files of a folder, by their names.
+fn files(folder: &str) -> Vec<(String, String)> {
     let entries = fs::read_dir(folder).unwrap_or_else(|error| fail(&format!("{folder}: {error}")));
     let mut paths: Vec<_> = entries.flatten().map(|entry| entry.path()).collect();
     paths.sort();
     let is_source = |path: &&std::path::PathBuf| path.extension().is_some_and(|ending| ending == "rt");
-    paths.iter().filter(is_source).map(|path| read(&path.to_string_lossy())).collect()
+    let name = |path: &std::path::Path| path.file_name().unwrap_or_default().to_string_lossy().into_owned();
+    paths.iter().filter(is_source).map(|path| (name(path), read(&path.to_string_lossy()))).collect()
+}
+
+/// All source files of a folder, one behind the other.
+fn sources(folder: &str) -> String {
+    files(folder).into_iter().map(|(_, text)| text).collect()
 }
 
 /// A text with one space where it has any number of them, line feeds too.
@@ -91,6 +101,10 @@ fn parameter_in_rust(name: &str, rattle: &str) -> String {
     format!("{name}: {pointer} {}{length}", number_in_rust(target))
 }
 
+/// How an export begins.
+const MARK: &str = "#[unsafe(no_mangle)]\n";
+const EXPORTED: &str = "pub extern \"C\" fn ";
+
 /// Prototypes by the names of their functions.
 type Prototypes = BTreeMap<String, String>;
 
@@ -108,11 +122,11 @@ fn exported(text: &str) -> Option<Export> {
     Some((name.to_string(), parameters, answer.to_string()))
 }
 
-/// The functions that crate cabinet exports.
+/// The functions that crate cabinet_c exports.
 fn exports() -> Vec<Export> {
-    let source = sources(CABINET);
-    let marked = source.split("#[no_mangle]\n").skip(1);
-    let heads = marked.map(|text| text.strip_prefix("pub extern \"C\" fn ").and_then(exported));
+    let source = sources(EXPORTS);
+    let marked = source.split(MARK).skip(1);
+    let heads = marked.map(|text| text.strip_prefix(EXPORTED).and_then(exported));
     heads.map(|head| head.unwrap_or_else(|| fail("an export that cannot be read"))).collect()
 }
 
@@ -150,10 +164,14 @@ fn of_header(header: &str) -> Prototypes {
     statements.filter(|it| it.contains('(') && !it.starts_with("typedef")).map(named).collect()
 }
 
+/// A head of a function as if it had room on one line.
+fn on_one_line(head: &str) -> String {
+    spaced(head).replace("( ", "(").replace(", )", ")")
+}
+
 /// The prototypes of the block `extern "C"` of the bindings.
 fn of_bindings(bindings: &str) -> Prototypes {
     let block = bindings.split("extern \"C\" {").nth(1).and_then(|rest| rest.split('}').next()).unwrap_or_default();
-    let on_one_line = |it: &str| spaced(it).replace("( ", "(").replace(", )", ")");
     block.split(';').map(on_one_line).filter(|it| !it.is_empty()).map(named).collect()
 }
 
@@ -172,15 +190,64 @@ fn differences(file: &str, exports: &Prototypes, told: &Prototypes, own: &str) -
     wrong
 }
 
-/// What is wrong with the prototypes of both files.
+// ---- The functions behind the exports
+
+/// A function's head with its clauses, and its body, from the text behind `fn `.
+fn head_and_body(text: &str) -> Option<(&str, &str)> {
+    let (head, rest) = text.split_once("\n{\n")?;
+    Some((head, rest.split_once("\n}\n")?.0))
+}
+
+/// What the `ghost use` lines of a file bring, each with its module: by them the words of its clauses mean what they mean.
+fn ghosts(text: &str) -> Vec<String> {
+    let lines = text.lines().filter_map(|line| line.strip_prefix("ghost use ")?.strip_suffix("};"));
+    let parts = lines.filter_map(|line| line.split_once(".{"));
+    parts.flat_map(|(module, names)| names.split(", ").map(move |name| format!("{module}.{name}"))).collect()
+}
+
+/// Where an export is not cabinet's function: its parameters, answer and clauses, in the same words with the same meaning,
+/// and a body that calls that function and does nothing else.
+fn not_passed_on() -> Vec<String> {
+    let cabinet: BTreeMap<String, String> = files(CABINET).into_iter().collect();
+    let mut wrong = Vec::new();
+    for (file, text) in files(EXPORTS) {
+        let own = cabinet.get(&file).map_or("", String::as_str);
+        let brought = ghosts(own);
+        let strange = ghosts(&text).into_iter().filter(|ghost| !brought.contains(ghost));
+        wrong.extend(strange.map(|ghost| format!("{EXPORTS}/{file} brings {ghost}, and {CABINET}/{file} does not")));
+        for export in text.split(MARK).skip(1) {
+            let export = export.strip_prefix(EXPORTED).unwrap_or(export);
+            let Some((name, parameters, _)) = exported(export) else { fail("an export that cannot be read") };
+            let Some((head, body)) = head_and_body(export) else { fail(&format!("{name} cannot be read")) };
+            let behind = |mark: &str| own.split_once(&format!("\npub fn {name}{mark}"));
+            let function = behind("(").or_else(|| behind("<")).map(|(before, _)| &own[before.len() + 8..]);
+            match function.and_then(head_and_body) {
+                None => wrong.push(format!("{CABINET}/{file} has no function {name}")),
+                Some((its, _)) if on_one_line(its) != on_one_line(head) => {
+                    wrong.push(format!("{name} is exported as '{}', and is '{}'", on_one_line(head), on_one_line(its)))
+                }
+                Some(_) => {}
+            }
+            let names: Vec<&str> = parameters.iter().map(|(name, _)| name.as_str()).collect();
+            let call = format!("cabinet::{name}({})", names.join(", "));
+            if on_one_line(body) != call {
+                wrong.push(format!("{name} is exported by '{}', and not by '{call}'", on_one_line(body)));
+            }
+        }
+    }
+    wrong
+}
+
+/// What is wrong with the exports, and with the prototypes of both files.
 fn complaints(header: &str) -> Vec<String> {
     let exports = exports();
     if exports.is_empty() {
-        fail("crate cabinet exports nothing");
+        fail("crate cabinet_c exports nothing");
     }
     let (c, rust): (Prototypes, Prototypes) =
         (exports.iter().map(in_c).collect(), exports.iter().map(in_rust).collect());
-    let mut wrong = differences(HEADER, &c, &of_header(header), MESSAGE);
+    let mut wrong = not_passed_on();
+    wrong.extend(differences(HEADER, &c, &of_header(header), MESSAGE));
     wrong.extend(differences(BINDINGS, &rust, &of_bindings(&read(BINDINGS)), MESSAGE_IN_RUST));
     if !spaced(&read(MESSAGES)).contains(&format!("{MESSAGE} {{")) {
         wrong.push(format!("{MESSAGES} lacks '{MESSAGE}'"));
@@ -196,7 +263,9 @@ type Structs = BTreeMap<String, Vec<(String, String)>>;
 fn structs() -> Structs {
     let source: String = [CABINET].iter().chain(&OTHERS).map(|folder| sources(folder)).collect();
     let mut found = Structs::new();
-    for text in source.split("#[repr(C)]\npub struct ").skip(1) {
+    for text in source.split("#[repr(C)]\n").skip(1) {
+        let text = text.strip_prefix("#[derive(Clone, Copy)]\n").unwrap_or(text);
+        let text = text.strip_prefix("pub struct ").unwrap_or_else(|| fail("a struct that cannot be read"));
         let (name, rest) = text.split_once(" {").unwrap_or_else(|| fail("a struct that cannot be read"));
         let body = rest.split('}').next().unwrap_or_default();
         let fields = body.lines().filter_map(|line| line.trim().strip_prefix("pub "));

@@ -95,26 +95,26 @@ fn depth(call: &mut dyn FnMut()) -> usize {
 // ---- The calls
 
 /// What is lent: where it begins, and how many elements there are.
-#[repr(C)]
+#[derive(Clone, Copy)]
 struct Lent(*const u8, usize);
 
 #[rustfmt::skip]
 extern "C" {
     #[link_name = "state::quiet::fresh"] fn fresh(engine: *mut u8);
-    #[link_name = "events::striking::note_on"] fn note_on(answer: *mut u8, engine: *const u8, bank: *const Lent, ram: *const Lent, rom: *const Lent, channel: u8, key: u8, velocity: u8);
+    #[link_name = "events::striking::note_on"] fn note_on(answer: *mut u8, engine: *const u8, bank: *const u8, bank_length: usize, ram: *const u8, ram_length: usize, rom: *const u8, rom_length: usize, channel: u8, key: u8, velocity: u8);
     #[link_name = "events::keys::note_off"] fn note_off(answer: *mut u8, engine: *const u8, channel: u8, key: u8);
     #[link_name = "events::controls::control_change"] fn control_change(answer: *mut u8, engine: *const u8, channel: u8, control: u8, value: u8);
     #[link_name = "events::programs::program_change"] fn program_change(answer: *mut u8, engine: *const u8, channel: u8, program: u8);
     #[link_name = "events::bends::pitch_bend"] fn pitch_bend(answer: *mut u8, engine: *const u8, channel: u8, bend: u16);
-    #[link_name = "engine::rendering::render"] fn render(answer: *mut u8, engine: *const u8, ram: *const Lent, rom: *const Lent, out: *const Lent, to: u32);
-    #[link_name = "state::board::panel"] fn panel(shown: *mut u8, engine: *const u8, slot: u8);
+    #[link_name = "engine::rendering::render"] fn render(answer: *mut u8, engine: *const u8, ram: *const u8, ram_length: usize, rom: *const u8, rom_length: usize, out: *const u8, out_length: usize, to: u32);
+    #[link_name = "state::board::panel"] fn panel(engine: *const u8, slot: u8) -> u8;
     #[link_name = "state::board::voice_count"] fn voice_count(engine: *const u8) -> u32;
-    #[link_name = "engine::banks::admit"] fn admit(bank: *const Lent) -> u8;
-    #[link_name = "engine::banks::list"] fn list(listed: *mut u8, bank: *const Lent, place: u32);
+    #[link_name = "engine::banks::admit"] fn admit(bank: *const u8, bank_length: usize) -> u8;
+    #[link_name = "engine::banks::list"] fn list(listed: *mut u8, bank: *const u8, bank_length: usize, place: u32);
     #[link_name = "player::cues::fresh"] fn fresh_player(player: *mut u8);
-    #[link_name = "player::pauses::start"] fn start(begun: *mut u8, player: *const u8, song: *const Lent);
+    #[link_name = "player::pauses::start"] fn start(begun: *mut u8, player: *const u8, song: *const u8, song_length: usize);
     #[link_name = "player::pauses::stop"] fn stop(after: *mut u8, player: *const u8);
-    #[link_name = "player::playing::render"] fn render_song(told: *mut u8, player: *const u8, song: *const Lent, bank: *const Lent, ram: *const Lent, rom: *const Lent, out: *const Lent, to: u32);
+    #[link_name = "player::playing::render"] fn render_song(told: *mut u8, player: *const u8, song: *const u8, song_length: usize, bank: *const u8, bank_length: usize, ram: *const u8, ram_length: usize, rom: *const u8, rom_length: usize, out: *const u8, out_length: usize, to: u32);
     #[link_name = "player::asking::is_over"] fn is_over(player: *const u8) -> bool;
 }
 
@@ -232,26 +232,45 @@ impl Player {
                     // the clock is the state's last field
                     self.player.0[ENGINE_BYTES - 4..ENGINE_BYTES].copy_from_slice(a);
                 }
-                'n' => self.call(letter, |r, e| note_on(r, e, &bank, &ram, &rom, a[0], a[1], a[2])),
+                'n' => self
+                    .call(letter, |r, e| note_on(r, e, bank.0, bank.1, ram.0, ram.1, rom.0, rom.1, a[0], a[1], a[2])),
                 'o' => self.call(letter, |r, e| note_off(r, e, a[0], a[1])),
                 'c' => self.call(letter, |r, e| control_change(r, e, a[0], a[1], a[2])),
                 'p' => self.call(letter, |r, e| program_change(r, e, a[0], a[1])),
                 'b' => self.call(letter, |r, e| pitch_bend(r, e, a[0], whole(&a[1..]) as u16)),
                 'r' => {
                     let out = Lent(self.output.as_mut_ptr().cast(), whole(&a[4..]) as usize);
-                    self.call(letter, |r, e| render(r, e, &ram, &rom, &out, whole(&a[..4])));
+                    self.call(letter, |r, e| render(r, e, ram.0, ram.1, rom.0, rom.1, out.0, out.1, whole(&a[..4])));
                 }
-                's' => self.call(letter, |r, e| panel(r, e, a[0])),
+                's' => self.call(letter, |_, e| {
+                    std::hint::black_box(panel(e, a[0]));
+                }),
                 'u' => self.call(letter, |_, e| {
                     std::hint::black_box(voice_count(e));
                 }),
-                'a' => self.call(letter, |_, _| number = Some(u32::from(admit(&bank)))),
-                'l' => self.call(letter, |r, _| list(r, &bank, whole(a))),
-                'G' => self.call(letter, |r, p| start(r, p, &song)),
+                'a' => self.call(letter, |_, _| number = Some(u32::from(admit(bank.0, bank.1)))),
+                'l' => self.call(letter, |r, _| list(r, bank.0, bank.1, whole(a))),
+                'G' => self.call(letter, |r, p| start(r, p, song.0, song.1)),
                 'H' => self.call(letter, |r, p| stop(r, p)),
                 'V' => {
                     let out = Lent(self.output.as_mut_ptr().cast(), whole(&a[4..]) as usize);
-                    self.call(letter, |r, p| render_song(r, p, &song, &bank, &ram, &rom, &out, whole(&a[..4])));
+                    self.call(letter, |r, p| {
+                        render_song(
+                            r,
+                            p,
+                            song.0,
+                            song.1,
+                            bank.0,
+                            bank.1,
+                            ram.0,
+                            ram.1,
+                            rom.0,
+                            rom.1,
+                            out.0,
+                            out.1,
+                            whole(&a[..4]),
+                        )
+                    });
                 }
                 'E' => self.call(letter, |_, p| {
                     std::hint::black_box(is_over(p));

@@ -1,5 +1,5 @@
-// The listing reader, which keeps the lent bank and its place (01, "Bank admission"). No function over a struct that holds a
-// reference is covered: each takes it apart, calls a covered one on slice and number, and is proved by a walk of its MIR.
+// The listing reader, which keeps the lent bank and its place (01, "Bank admission"). Each function over a struct that holds
+// a reference takes it apart, and calls one on slice and number.
 
 #![tactic(auto)]
 
@@ -82,7 +82,7 @@ pub fn next<'a>(r: Reader<'a>) -> Taken<'a>
     }
 }
 
-// 01's number for opening. A caller of this one and of `nth` needs no walk.
+// 01's number for opening.
 pub fn opens(bank: &[u8]) -> u8
     ensures { result ≡ fault_number (fault_of bank.now) }
 {

@@ -9,7 +9,10 @@ pub loop-i-init : goal.loop-i-init
 loop-i-init c = (c.requires.0, c.requires.1, c.requires.2, refl, c.requires.3, omega arith)
 
 pub run-t-requires : goal.run-t-requires
-run-t-requires c = ((c.loop-i.invariant.0, c.loop-i.invariant.1), (omega arith, λ j. w_le (c.loop-i.invariant.4 j) (omega arith)))
+run-t-requires c = record {
+  tables = (c.loop-i.invariant.0, c.loop-i.invariant.1);
+  sums = (omega arith, λ j. w_le (c.loop-i.invariant.4 j) (omega arith));
+}
 
 pub loop-i-preserved : goal.loop-i-preserved
 loop-i-preserved c = let e = c.run-t.ensures.1 in

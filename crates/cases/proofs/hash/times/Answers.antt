@@ -18,4 +18,4 @@ parts h = omega arith
 pub returns : goal.returns
 unfolding times
 returns c = let h = c.args.h in
-    rw (c.wrapping_add_u64.ensures, c.wrapping_add_u64-small.ensures) (joined (h * 2 ^ 40) (h % 4294967296 * 435) (h / 4294967296 * 435 * 2 ^ 32) ∙ ap (λ (x : ℕ). x % 2 ^ 64) (parts h))
+    rw (c.wrapping_add_u64.ensures.value, c.wrapping_add_u64-small.ensures.value) (joined (h * 2 ^ 40) (h % 4294967296 * 435) (h / 4294967296 * 435 * 2 ^ 32) ∙ ap (λ (x : ℕ). x % 2 ^ 64) (parts h))

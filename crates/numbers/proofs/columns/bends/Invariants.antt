@@ -3,7 +3,7 @@ use Prim.Native.Nat.{◌-◌, ◌≤◌}
 use Rattle.numbers.proofs.columns.bends.Given as goal
 
 abbrev pub invariant-loop-i : goal.invariant-loop-i
-invariant-loop-i l = i ≤ 406
+invariant-loop-i l = l.i ≤ 406
 
 abbrev pub decreases-loop-i : goal.decreases-loop-i
-decreases-loop-i l = 406 - i
+decreases-loop-i l = 406 - l.i
