@@ -8,16 +8,6 @@ use Rattle.cabinet.specs.Twins.{voice_of_twin, voice_to, engine_of}
 use Rattle.cabinet.proofs.TwinsLaws.{fill, filled}
 use Rattle.cabinet.proofs.twins.engine_of.Goals as goal
 
-<<<<<<< HEAD
-<<<<<<< HEAD
-pub loop-i-init : goal.loop-i-init
-loop-i-init c = let n : length c.args.t1.voices ≡ 32 = c.well_formed.0.1.1.0.1.0.1 in
-    (n, sym n, refl, omega arith)
-
-=======
->>>>>>> 8b2cde9dd9cdd5f639a267c654d8878892493632
-=======
->>>>>>> cf343775712bff8631ef09988eccf05f5a608fa9
 pub loop-i-preserved : goal.loop-i-preserved
 loop-i-preserved c = let a = c.args in
     let i = c.loop-i.i in (

@@ -1,0 +1,22 @@
+-- One voice a turn.
+use Prim.Native.Nat.{◌-◌}
+use mathlib.Core.Path.{◌≡◌, refl, sym}
+use native.Mathlib.Omega.{arith}
+use lib.ListN.{length, length-map, length-set}
+use Rattle.voice.specs.Changes.{blank}
+use Rattle.cabinet.specs.Twins.{voice_to, engine_to}
+use Rattle.cabinet.proofs.TwinsLaws.{fill, filled}
+use Rattle.cabinet.proofs.twins.engine_to.Goals as goal
+
+pub loop-i-preserved : goal.loop-i-preserved
+loop-i-preserved c = let a = c.args in
+    let i = c.loop-i.i in (
+      c.loop-i.invariant.0,
+      simp length-set c.loop-i.invariant.1,
+      fill voice_to a.e.voices c.loop-i.vs i blank c.voice_to.result (omega arith) c.loop-i.invariant.1 c.loop-i.invariant.2 c.voice_to.ensures,
+      omega arith,
+    )
+
+pub returns : goal.returns
+unfolding engine_to
+returns c = simp (filled voice_to c.args.e.voices c.loop-i.vs c.loop-i.i (omega arith) c.loop-i.invariant.1 c.loop-i.invariant.2)
