@@ -24,7 +24,7 @@ returns-in-At c = let sequence : List Entry = sequence_of c.args.count c.args.fi
     let late_is : c.tally-t.result.hour.late ≡ late_of c.args.division sequence = ap (λ (t : Tally). t.hour.late) tally-is ∙ all-late sequence c.args.division in
     let a = c.args in
     let e = joined-late a.file.now a.count a.division a.at (room_of a.out.now) _ (sym (late_is) ∙ c.in-At.is) in
-    rw e (c.refused.ensures, refl)
+    rw e (record { value = c.refused.ensures; output = refl })
 
 pub returns-in-At-flaw : goal.returns-in-At-flaw
 returns-in-At-flaw c = let sequence : List Entry = sequence_of c.args.count c.args.file.now c.args.at in
@@ -34,7 +34,7 @@ returns-in-At-flaw c = let sequence : List Entry = sequence_of c.args.count c.ar
     let a = c.args in
     let f = sym c.lanes-l.ensures.flaw ∙ c.in-At-flaw.is in
     let e = joined-flaw a.file.now a.count a.division a.at (room_of a.out.now) _ (sym (late_is) ∙ c.in-None.is) f in
-    rw e (c.refused-in-At-flaw.ensures, refl)
+    rw e (record { value = c.refused-in-At-flaw.ensures; output = refl })
 
 pub whole_size-size-requires : goal.whole_size-size-requires
 whole_size-size-requires c = let sequence : List Entry = sequence_of c.args.count c.args.file.now c.args.at in
@@ -56,7 +56,7 @@ returns-then-room-size c = let sequence : List Entry = sequence_of c.args.count 
     let z = size_is in
     let r = c.room.ensures in
     let long : room_of a.out.now < length (file) = omega (arith, z, r, c.if-room-size.true) in
-    rw (outcome (room_of a.out.now) ∙ fitted-long (room_of a.out.now) (file) long) (c.refused-then-room-size.ensures, refl)
+    rw (outcome (room_of a.out.now) ∙ fitted-long (room_of a.out.now) (file) long) (record { value = c.refused-then-room-size.ensures; output = refl })
 
 pub overflow_sub-size : goal.overflow_sub-size
 overflow_sub-size c = let sequence : List Entry = sequence_of c.args.count c.args.file.now c.args.at in
@@ -100,4 +100,4 @@ returns c = let sequence : List Entry = sequence_of c.args.count c.args.file.now
     let track : c.whole_size-size.result - 22 ≡ length (line_bytes line_start (sequence)) = omega (arith, same, n) in
     let done = laid-file a.out.now _ a.division (c.whole_size-size.result - 22) (sequence) track put in
     let answer : ◌≡◌ {A = Merged} (record { number = 0; place = 0; size = c.whole_size-size.result }) (record { number = 0; place = 0; size = length (file) }) = ap (λ (x : ℕ). record { number = 0; place = 0; size = x }) same in
-    rw (outcome (room_of a.out.now) ∙ fitted-in (room_of a.out.now) (file) small) (answer, done)
+    rw (outcome (room_of a.out.now) ∙ fitted-in (room_of a.out.now) (file) small) (record { value = answer; output = done })

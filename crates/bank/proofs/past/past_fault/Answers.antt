@@ -13,7 +13,7 @@ pub loop-h-init : goal.loop-h-init
 loop-h-init c = (below_none _ _ _, search rules)
 
 pub enum_known-found : goal.enum_known-found
-enum_known-found c = c.in-At.keys1
+enum_known-found c = c.in-At.in-At-own.keys1
 
 pub returns-in-At : goal.returns-in-At
 unfolding past_fault
@@ -23,7 +23,7 @@ returns-in-At c = let a = c.args in
     sym (zone-placed a.b.now a.m.instruments (zone_past a.b.now a.m a.ram a.rom) (zone_link_at a.b.now a.m.instruments) c.loop-h.h q c.loop-h.invariant.0 found (rw c.less-heads.ensures at c.loop-h-test.true))
 
 pub enum_told-1 : goal.enum_told-1
-enum_told-1 c = c.in_default.keys2
+enum_told-1 c = c.in_default.in_default-own.keys2
 
 pub loop-h-preserved : goal.loop-h-preserved
 loop-h-preserved c = let a = c.args in

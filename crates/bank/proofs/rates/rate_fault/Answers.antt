@@ -12,10 +12,10 @@ pub lowest_bad-requires : goal.lowest_bad-requires
 lowest_bad-requires c = tt
 
 pub enum_told-1 : goal.enum_told-1
-enum_told-1 c = c.in-Nothing.keys1
+enum_told-1 c = c.in-Nothing.in-Nothing-own.keys1
 
 pub enum_known-k : goal.enum_known-k
-enum_known-k c = c.in-At.keys2
+enum_known-k c = c.in-At.in-At-own.keys2
 
 -- the product alone
 within : (a k : ℕ) → a + 46 * k < 18446744073709551616 → 46 * k < 18446744073709551616

@@ -46,5 +46,5 @@ returns-in-123 c = let a = c.args in
 pub returns-in_default : goal.returns-in_default
 unfolding controlled
 returns-in_default c = let k = c.args.control in
-    let r = c.in_default.rest in
+    let r = c.in_default.in_default-own.rest in
     simp (ne_eqb k 0 r.0.0.0.0.0.1, ne_eqb k 7 r.0.0.0.0.1, ne_eqb k 11 r.0.0.0.1, ne_eqb k 64 r.0.0.1, ne_eqb k 120 r.0.1, ne_eqb k 123 r.1)

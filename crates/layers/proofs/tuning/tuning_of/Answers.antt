@@ -25,8 +25,8 @@ returns c = let pan = c.pan_of in
     let correction = c.correction_of-correction in
     let a = c.args in
     same c.class_of.ensures
-    (to_z-of_z {w = w32} {z = pitch.result} (sfits_of pitch.type-inv)
-    ∙ rw (to_z-of_z {w = w8} {z = correction.result} (sfits_of correction.type-inv)) at pitch.ensures
+    (to_z-of_z {w = w32} {z = pitch.result} (sfits_of pitch.type_inv)
+    ∙ rw (to_z-of_z {w = w8} {z = correction.result} (sfits_of correction.type_inv)) at pitch.ensures
     ∙ ap₂ (pitch_of (total_in a.own.now a.added.now) a.key) c.root_byte-root.ensures correction.ensures)
-    (to_z-of_z {w = w16} {z = pan.result} (sfits_of pan.type-inv) ∙ pan.ensures)
+    (to_z-of_z {w = w16} {z = pan.result} (sfits_of pan.type_inv) ∙ pan.ensures)
     (to_z-of_z {w = w32} {z = c.attenuation_of.result} (sfits_of c.attenuation_of.type_inv) ∙ c.attenuation_of.ensures)

@@ -4,5 +4,4 @@ use Rattle.merge.proofs.lines.put_head.Goals as goal
 
 pub returns : goal.returns
 unfolding two_bytes four_bytes
-returns c = let answer = c.put.ensures in
-    record { value = answer.0; output = answer.1 }
+returns c = record { value = c.put.ensures.value; output = c.put.ensures.output }

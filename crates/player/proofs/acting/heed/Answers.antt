@@ -37,7 +37,7 @@ pub returns-in_default : goal.returns-in_default
 unfolding heeded_as
 returns-in_default c = let a = c.args in
     let k = c.kind_of-kind.result in
-    let r = c.in_default.rest in
+    let r = c.in_default.in_default-own.rest in
     c.made.ensures
     ∙ (simp (ne_eqb k 8 r.0.0.0.0.1, ne_eqb k 9 r.0.0.0.1, ne_eqb k 11 r.0.0.1, ne_eqb k 12 r.0.1, ne_eqb k 14 r.1))
     ∙ ap (λ (k : ℕ). heeded_as k a.bank.now a.ram.now a.rom.now a.v a.e) c.kind_of-kind.ensures

@@ -30,6 +30,7 @@ use Rattle.voice.proofs.PaceLaws.{level_in_lem, pace-on, paced-value, by_le, who
 use Rattle.voice.proofs.RoundsLaws.{rings-turn, rings-length}
 use Rattle.voice.proofs.StretchLaws.{spent-by, spent-none}
 use Rattle.voice.proofs.SumsLaws.{small-none, small-two, add-after, add-beyond, add_at-length, add_at-none}
+use Rattle.voice.proofs.rounds.ring.Invariants.{Goes}
 use Rattle.voice.proofs.rounds.ring.Goals as goal
 
 -- neither of two tests
@@ -42,10 +43,6 @@ neither false b e = (refl, e)
 
 no : (j : ℕ) → j < 0 → ⊥
 no j h = omega arith
-
--- frames that may go so
-abbrev Goes : Voice → Stage → Way → ℕ → Type 0
-Goes v s y j = (place_on y v.place j < y.limit) × (value_in v (spent_by j s) < stop_in v s)
 
 -- one frame more of them
 more : (v : Voice) (s : Stage) (y : Way) (m j : ℕ) → ((i : ℕ) → i < m → Goes v s y i) → Goes v s y m → j < m + 1 → Goes v s y j

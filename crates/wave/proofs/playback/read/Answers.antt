@@ -28,5 +28,5 @@ overflow_cast-result c = let file = c.args.file.now in
     record { fits = omega (arith, most) }
 
 pub returns : goal.returns
-returns c = let answer = read_done c.args.file.now c.args.out.now c.fill.new.1.0 (sym c.is_recording.ensures ∙ not-false _ c.if-not-is_recording.false-raw) c.if-out-frames.false c.fill.ensures in
+returns c = let answer = read_done c.args.file.now c.args.out.now c.fill.new.out (sym c.is_recording.ensures ∙ not-false _ c.if-not-is_recording.false-raw) c.if-out-frames.false c.fill.ensures in
     record { value = answer.0; output = answer.1 }

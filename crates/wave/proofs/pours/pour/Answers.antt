@@ -19,5 +19,5 @@ fill-requires c = let enough = c.if-out-numbers.false in
 
 pub returns : goal.returns
 returns c = let enough = c.if-out-numbers.false in
-    let answer = pour-done c.args.numbers.now c.args.out.now c.fill.new.1.0 (sym c.is_broken.ensures ∙ c.if-is_broken.false) (omega (arith, enough)) c.fill.ensures in
+    let answer = pour-done c.args.numbers.now c.args.out.now c.fill.new.out (sym c.is_broken.ensures ∙ c.if-is_broken.false) (omega (arith, enough)) c.fill.ensures in
     record { value = answer.0; output = answer.1 }

@@ -23,13 +23,13 @@ fill-requires c = let xs = c.args.numbers.now in let out = c.args.out.now in
     let whole = sym c.is_broken.ensures ∙ c.if-is_broken.false in
     record {
       numbers_value = whole;
-      room = room-left xs out c.put.new.1.0 whole c.if-out-frames.false
+      room = room-left xs out c.put.new.out whole c.if-out-frames.false
           (c.put.ensures ∙ ap (λ (h : List ℕ). h ++ drop 44 out) c.bytes-head.ensures);
     }
 
 pub returns : goal.returns
 returns c = let xs = c.args.numbers.now in let out = c.args.out.now in
-    let answer = write_done xs out c.put.new.1.0 c.fill.new.1.0
+    let answer = write_done xs out c.put.new.out c.fill.new.out
     (sym c.is_broken.ensures ∙ c.if-is_broken.false) c.if-frames-gt1073741814.false c.if-out-frames.false
     (c.put.ensures ∙ ap (λ (h : List ℕ). h ++ drop 44 out) c.bytes-head.ensures)
     c.fill.ensures in
