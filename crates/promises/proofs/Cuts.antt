@@ -171,6 +171,7 @@ module _ (ram rom : List ℤ) where
   any-pieces : (xs : List Call) (n : ℕ) (ns : List ℕ) (e : Engine) (p : Pieces ram rom xs (n ∷ ns) e) → e.clock < 4294967296 → together (n ∷ ns) ≤ 4096 → (SlotPast ram rom e → ⊥)
       → Gives xs (n ∷ ns) e p (with_clock (played ram rom (together (n ∷ ns)) e) (ahead e (together (n ∷ ns)))) (output ram rom e (together (n ∷ ns)))
   unfolding together
+  any-pieces [] n ns e p h k clear = elim p [ ]
   any-pieces (x ∷ xs) n ns e (asks slot p) h k clear =
       let g = any-pieces xs n ns e p h k clear in
       let i = idle x xs (n ∷ ns) e _ _ p refl refl g in
@@ -207,6 +208,7 @@ any-cut to ram rom out e n ns xs h t ok total p =
 
 -- where a piece is done, no window ends past its memory
 clear_of : (ram rom : List ℤ) (xs : List Call) (n : ℕ) (ns : List ℕ) (e : Engine) (p : Pieces ram rom xs (n ∷ ns) e) → AllDone p → SlotPast ram rom e → ⊥
+clear_of ram rom [] n ns e p a = elim p [ ]
 clear_of ram rom (x ∷ xs) n ns e (asks slot p) a = clear_of ram rom xs n ns e p a
 clear_of ram rom (x ∷ xs) n ns e (refuses z r p) a = clear_of ram rom xs n ns e p a
 clear_of ram rom (x ∷ xs) n ns e (piece j out room p) a = ((render-numbers (ahead e n) ram rom out e).done.0 a.0).2

@@ -201,6 +201,7 @@ module _ (ram rom : List ℤ) where
 
   pieces : (xs : List Call) (n : ℕ) (ns : List ℕ) (e : Engine) (p : Pieces ram rom xs (n ∷ ns) e) → AllDone p → e.clock < 4294967296 → Some xs e
   unfolding On
+  pieces [] n ns e p a h = elim p [ ]
   pieces (y ∷ xs) n ns e (asks slot p) a h =
       let r = pieces xs n ns e p a h in
       record { many = r.many; gives = idle y xs e _ _ r.many refl refl r.gives }

@@ -1,6 +1,6 @@
 -- A song whose every strike has its note-off ends in silence.
 use Prim.Native.Nat.{ℕ, zero, suc, ◌+◌, ◌%◌, ◌<◌, ◌≤◌}
-use mathlib.Core.Bool.{Bool, true, false}
+use mathlib.Core.Bool.{Bool, true, false, cond}
 use mathlib.Core.List.{List, [], ◌∷◌, ◌++◌, append_assoc}
 use mathlib.Core.Path.{◌≡◌, refl, sym, ap, ◌∙◌, subst}
 use native.Mathlib.Nat.{le_trans, le_refl, add-le-add}
@@ -46,7 +46,7 @@ use Rattle.recitals.proofs.Pedals.{recital-pedal}
 struck-append : (c k : ℕ) (b : Bool) (xs ys : List Call) → struck_after c k b (xs ++ ys) ≡ struck_after c k (struck_after c k b xs) ys
 unfolding struck_after
 struck-append c k b [] ys = refl
-struck-append c k b (x ∷ xs) ys = struck-append c k _ xs ys
+struck-append c k b (x ∷ xs) ys = struck-append c k (cond (strikes c k x) true (cond (leaves c k x) false b)) xs ys
 
 calls-append : (bank : List ℕ) (ram rom : List ℤ) (us vs : List Event) → calls_for bank ram rom (us ++ vs) ≡ calls_for bank ram rom us ++ calls_for bank ram rom vs
 unfolding calls_for

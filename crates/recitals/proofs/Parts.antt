@@ -307,6 +307,7 @@ module _ (song bank : List ℕ) (ram rom : List ℤ) where
   any-parts : (xs : List Turn) (ns : List ℕ) (p : Player) (q : Parts song bank ram rom xs ns p) → p.engine.clock < 4294967296 → Clear ram rom p.engine → together ns ≤ 4096
       → PartsDone q × Gives xs p (together ns)
   unfolding together performed numbers run_turns numbers_turns applied_turns refused_turns
+  any-parts [] (n ∷ ns) p q h c k = elim q [ ]
   any-parts [] [] p no_part h c k = (tt, record { player = refl; numbered = refl; applied = refl; refused = refl })
   any-parts (x ∷ xs) ns p (stands y s f q) h c k =
       let g = any-parts xs ns p q h c k in

@@ -152,7 +152,7 @@ events-pedal bank ram rom d (v ∷ vs) e h m =
 pedal-append : (d b : ℕ) (us vs : List Event) → pedal_after d b (us ++ vs) ≡ pedal_after d (pedal_after d b us) vs
 unfolding pedal_after
 pedal-append d b [] vs = refl
-pedal-append d b (u ∷ us) vs = pedal-append d _ us vs
+pedal-append d b (u ∷ us) vs = pedal-append d (cond (eqb (kind_of u) 11 && eqb (channel_in u) d && eqb u.first 64) u.second b) us vs
 
 -- the events of a frame are events of the song
 at_each : (P : Event → Type 0) (n : ℕ) (vs : List Event) → Each P vs → Each P (events_at n vs)

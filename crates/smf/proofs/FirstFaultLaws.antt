@@ -322,7 +322,7 @@ each e (Wrong.format h) = unless e.format h
 each e (Wrong.tracks h) = unless e.tracks h
 each e (Wrong.no-division h) = unless e.some (λ g. g h)
 each e (Wrong.smpte h) = unless e.ticks (λ g. omega arith)
-each e (Wrong.no_Chunk at looked h) = e.body 9 at (cut at looked h)
+each e (Wrong.no_chunk at looked h) = e.body 9 at (cut at looked h)
 each e (Wrong.long-chunk at looked h k) = e.body 9 (at + 4) (long at looked h k)
 each e (Wrong.delta c r f) = e.body 9 c.at (stuck_at c (reached-way r) (no-delta f))
 each e (Wrong.event c ticks place r f g) = e.body 9 place (stuck_at c (reached-way r) (bad-event ticks place f g))
@@ -411,7 +411,7 @@ module _ (b : List ℕ) (good : Headed b) (at : ℕ) (track : Tracked b at) wher
 module _ (b : List ℕ) (good : Headed b) where
   -- a name that is cut off is the first
   cut-first : (x : ℕ) → Chunked b x → length b < x + 4 → First b 9 x
-  cut-first x looked h = record { wrong = Wrong.no_Chunk x looked h; before = λ n p w. each (behind good (λ n p v. only v)) w }
+  cut-first x looked h = record { wrong = Wrong.no_chunk x looked h; before = λ n p w. each (behind good (λ n p v. only v)) w }
     where
       only : {n p : ℕ} → Body b n p → Before 9 x n p
       only (cut y other k) = inr (chunk-same looked other (cut-stops b x h) (cut-stops b y k), omega arith)

@@ -81,6 +81,7 @@ part-is (negsuc n) (suc j) h =
 -- a number that is not below 0 is its magnitude
 upward : (z : ℤ) → T (non_neg z) → pos (nat_abs z) ≡ z
 upward (pos n) t = refl
+upward (negsuc _) t = elim t [ ]
 
 -- 500 thousandths and a pan are not below 0
 pub left_up : (q : ℤ) → Within q 500 → T (non_neg (pos 500 -ℤ q))

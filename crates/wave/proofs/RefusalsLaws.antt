@@ -48,6 +48,7 @@ has_other (x ∷ xs) h = by (λ (g : any_of is_other xs ≡ true). has_other xs 
     by rest false e g = here (no_output x e)
 
 pub other-has : (xs : List Float) → HasOther xs → any_of is_other xs ≡ true
+other-has [] x' = elim x' [ ]
 other-has (x ∷ xs) (here f) = by (is_output x) refl
   where
     by : (b : Bool) → is_output x ≡ b → (not b || any_of is_other xs) ≡ true

@@ -2,4 +2,4 @@
 use Rattle.bank.proofs.or_else.Goals as goal
 
 pub returns-in-At : goal.returns-in-At
-returns-in-At c = simp c.a-1.given.1
+returns-in-At c = simp c.in-At.is

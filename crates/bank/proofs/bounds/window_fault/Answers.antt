@@ -13,21 +13,21 @@ pub loop-h-init : goal.loop-h-init
 loop-h-init c = (below_none _ _ _, search rules)
 
 pub enum_known-found : goal.enum_known-found
-enum_known-found c = c.in-At.keys1
+enum_known-found c = c.in-At.in-At-own.keys1
 
 pub returns-in-At : goal.returns-in-At
 unfolding window_fault
 returns-in-At c = let a = c.args in
-    let q = c.found-1.given.0.0 in
-    let found = sym c.window_in-found.ensures ∙ c.found-1.given.1 in
+    let q = c.in-At.p in
+    let found = sym c.window_in-found.ensures ∙ c.in-At.is in
     sym (zone-placed a.b.now a.m.instruments (bad_window a.b.now a.m) (zone_link_at a.b.now a.m.instruments) c.loop-h.h q c.loop-h.invariant.0 found (rw c.less-heads.ensures at c.loop-h-test.true))
 
 pub enum_told-1 : goal.enum_told-1
-enum_told-1 c = c.in_default.keys2
+enum_told-1 c = c.in_default.in_default-own.keys2
 
 pub loop-h-preserved : goal.loop-h-preserved
 loop-h-preserved c = let a = c.args in
-    let none = sym c.window_in-found.ensures ∙ c.enum_told-1.given.1 in
+    let none = sym c.window_in-found.ensures ∙ c.in_default.is in
     (below_next a.b.now a.m.instruments (bad_window a.b.now a.m) c.loop-h.h c.loop-h.invariant.0 (placed-none (zone_link_at a.b.now a.m.instruments) _ none), search rules)
 
 pub returns : goal.returns

@@ -22,11 +22,11 @@ returns-then-bad_number c = let from = c.bag_of-from in
 
 pub loop-j-preserved : goal.loop-j-preserved
 loop-j-preserved c = let a = c.args in (
-      first-miss (bad_number a.b.now a.s a.h) c.bag_of-from.result c.loop-j.j c.loop-j.invariant.0 (sym c.bad_number.ensures ∙ c.if-bad_number.false),
-      search rules,
-      search rules,
-      search rules,
-    )
+  first-miss (bad_number a.b.now a.s a.h) c.bag_of-from.result c.loop-j.j c.loop-j.invariant.0 (sym c.bad_number.ensures ∙ c.if-bad_number.false),
+  search rules,
+  search rules,
+  search rules,
+)
 
 pub returns : goal.returns
 returns c = let e : c.loop-j.j ≡ c.zone_count-count.result = omega arith in

@@ -3,10 +3,10 @@ use borrow.Author.Tests.{lt-ltb, le-ltb}
 use Rattle.bank.proofs.rates.lower.Goals as goal
 
 pub returns-in-Nothing : goal.returns-in-Nothing
-returns-in-Nothing c = simp c.enum_told-1.given.1
+returns-in-Nothing c = simp c.in-Nothing.is
 
 pub returns-then-x-k : goal.returns-then-x-k
-returns-then-x-k c = simp (c.f-1.given.1, lt-ltb _ _ c.if-x-k.true)
+returns-then-x-k c = simp (c.in-At.is, lt-ltb _ _ c.if-x-k.true)
 
 pub returns-else-x-k : goal.returns-else-x-k
-returns-else-x-k c = simp (c.f-1.given.1, le-ltb _ _ c.if-x-k.false)
+returns-else-x-k c = simp (c.in-At.is, le-ltb _ _ c.if-x-k.false)

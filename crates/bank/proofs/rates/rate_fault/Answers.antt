@@ -12,35 +12,35 @@ pub lowest_bad-requires : goal.lowest_bad-requires
 lowest_bad-requires c = tt
 
 pub enum_told-1 : goal.enum_told-1
-enum_told-1 c = c.in-Nothing.keys1
+enum_told-1 c = c.in-Nothing.in-Nothing-own.keys1
 
 pub enum_known-k : goal.enum_known-k
-enum_known-k c = c.in-At.keys2
+enum_known-k c = c.in-At.in-At-own.keys2
 
 -- the product alone
 within : (a k : ℕ) → a + 46 * k < 18446744073709551616 → 46 * k < 18446744073709551616
 within a k h = omega arith
 
 pub overflow_mul-result : goal.overflow_mul-result
-overflow_mul-result c = let sample : ℕ = c.k-1.given.0.0 in
+overflow_mul-result c = let sample : ℕ = c.in-At.k in
     let room : (k : ℕ) → k < 0 + (c.args.m.instruments.nlinks - 1) → c.args.m.samples + 46 * k < 18446744073709551616 = λ k h. omega arith in
-    let found : first (bad_rate c.args.b.now c.args.m) 0 (c.args.m.instruments.nlinks - 1) ≡ At sample = sym c.lowest_bad.ensures ∙ c.k-1.given.1 in
+    let found : first (bad_rate c.args.b.now c.args.m) 0 (c.args.m.instruments.nlinks - 1) ≡ At sample = sym c.lowest_bad.ensures ∙ c.in-At.is in
     let low : c.args.m.samples + 46 * sample < 18446744073709551616 = room sample (first-is (bad_rate c.args.b.now c.args.m) 0 (c.args.m.instruments.nlinks - 1) sample found).high in
     record { fits = within c.args.m.samples (sample) (low) }
 
 pub overflow_add-result : goal.overflow_add-result
 overflow_add-result c = let room : (k : ℕ) → k < 0 + (c.args.m.instruments.nlinks - 1) → c.args.m.samples + 46 * k < 18446744073709551616 = λ k h. omega arith in
-    let sample : ℕ = c.k-1.given.0.0 in
-    let found : first (bad_rate c.args.b.now c.args.m) 0 (c.args.m.instruments.nlinks - 1) ≡ At sample = sym c.lowest_bad.ensures ∙ c.k-1.given.1 in
+    let sample : ℕ = c.in-At.k in
+    let found : first (bad_rate c.args.b.now c.args.m) 0 (c.args.m.instruments.nlinks - 1) ≡ At sample = sym c.lowest_bad.ensures ∙ c.in-At.is in
     let low : c.args.m.samples + 46 * sample < 18446744073709551616 = room sample (first-is (bad_rate c.args.b.now c.args.m) 0 (c.args.m.instruments.nlinks - 1) sample found).high in
     record { fits = low }
 
 pub returns-in-Nothing : goal.returns-in-Nothing
 unfolding rate_fault
-returns-in-Nothing c = rw (sym c.lowest_bad.ensures ∙ c.enum_told-1.given.1) refl
+returns-in-Nothing c = rw (sym c.lowest_bad.ensures ∙ c.in-Nothing.is) refl
 
 pub returns-in-At : goal.returns-in-At
 unfolding rate_fault
-returns-in-At c = let sample : ℕ = c.k-1.given.0.0 in
-    let found : first (bad_rate c.args.b.now c.args.m) 0 (c.args.m.instruments.nlinks - 1) ≡ At sample = sym c.lowest_bad.ensures ∙ c.k-1.given.1 in
+returns-in-At c = let sample : ℕ = c.in-At.k in
+    let found : first (bad_rate c.args.b.now c.args.m) 0 (c.args.m.instruments.nlinks - 1) ≡ At sample = sym c.lowest_bad.ensures ∙ c.in-At.is in
     rw (found) refl

@@ -22,8 +22,8 @@ loop-k-preserved c = let a = c.args in
     let y = get_or xs (2 * k + 1) (pos 0) in
     let one : to_z w32 (of_z w32 x) ≡ x = to_z-of_z {w = w32} {z = x} (record { sfits = c.l-1.given }) in
     let two : to_z w32 (of_z w32 y) ≡ y = to_z-of_z {w = w32} {z = y} (record { sfits = c.r-1.given }) in
-    let left : c.mix-f.result.left ≡ mixed x = c.mix-f.ensures.0 ∙ ap mixed one in
-    let right : c.mix-f.result.right ≡ mixed y = c.mix-f.ensures.1.0 ∙ ap mixed two in
+    let left : c.mix-f.result.left ≡ mixed x = c.mix-f.ensures.left ∙ ap mixed one in
+    let right : c.mix-f.result.right ≡ mixed y = c.mix-f.ensures.right ∙ ap mixed two in
     let next : 2 * k + 2 ≡ 2 * (k + 1) = omega arith in (
       ap (λ (o : List Float). set (set o (2 * k) c.mix-f.result.left) (2 * k + 1) c.mix-f.result.right) c.loop-k.invariant.0
           ∙ ap₂ (λ (p q : Float). set (set (mixed_to k xs ++ drop (2 * k) a.out.now) (2 * k) p) (2 * k + 1) q) left right

@@ -21,18 +21,18 @@ loop-i-init c = let a = c.args in
       store-none f e,
       sym (word_none f (slots_of e)),
       sym (add_none (slot_heard a.ram.now a.rom.now e a.n) (slots_of e) a.acc.now),
-      c.requires.1.1,
+      c.requires.sums.1,
       refl,
-      c.requires.1.0,
+      c.requires.sums.0,
       omega arith,
     )
 
 pub run_slot-t-requires : goal.run_slot-t-requires
-run_slot-t-requires c = let p = c.requires in
-    (p.0, (omega (arith, c.loop-i.invariant.5, c.loop-i.invariant.6), λ j. w_le (c.loop-i.invariant.4 j) (omega arith)))
+run_slot-t-requires c = let p = (c.requires.tables, c.requires.sums) in
+    record { tables = p.0; sums = (omega (arith, c.loop-i.invariant.5, c.loop-i.invariant.6), λ j. w_le (c.loop-i.invariant.4 j) (omega arith)) }
 
 pub overflow_add-word : goal.overflow_add-word
-overflow_add-word c = let one : c.run_slot-t.result ≡ slot_after c.args.ram.now c.args.rom.now c.args.e c.args.n (get_or (slots_of c.args.e) c.loop-i.i (free blank)) = c.run_slot-t.ensures.0 ∙ ap (slot_after c.args.ram.now c.args.rom.now c.args.e c.args.n) c.slot_of-s.ensures in
+overflow_add-word c = let one : c.run_slot-t.result ≡ slot_after c.args.ram.now c.args.rom.now c.args.e c.args.n (get_or (slots_of c.args.e) c.loop-i.i (free blank)) = c.run_slot-t.ensures.slot ∙ ap (slot_after c.args.ram.now c.args.rom.now c.args.e c.args.n) c.slot_of-s.ensures in
     let turn : c.loop-i.word + c.flag-word.result ≡ word_to (slot_after c.args.ram.now c.args.rom.now c.args.e c.args.n) (c.loop-i.i + 1) (slots_of c.args.e) = let a = c.args in
     flag-turn (slot_after c.args.ram.now c.args.rom.now c.args.e c.args.n) (slots_of a.e) c.loop-i.i c.loop-i.word c.flag-word.result c.run_slot-t.result
     (slot-stays a.ram.now a.rom.now a.e a.n) (omega (arith, c.loop-i.invariant.0)) c.loop-i.invariant.2 (one) c.flag-word.ensures in
@@ -40,7 +40,7 @@ overflow_add-word c = let one : c.run_slot-t.result ≡ slot_after c.args.ram.no
     omega (arith, turn, word_fits (slot_after a.ram.now a.rom.now a.e a.n) (slots_of a.e) (c.loop-i.i + 1) c.loop-i.invariant.0 (omega arith))
 
 pub loop-i-preserved : goal.loop-i-preserved
-loop-i-preserved c = let one : c.run_slot-t.result ≡ slot_after c.args.ram.now c.args.rom.now c.args.e c.args.n (get_or (slots_of c.args.e) c.loop-i.i (free blank)) = c.run_slot-t.ensures.0 ∙ ap (slot_after c.args.ram.now c.args.rom.now c.args.e c.args.n) c.slot_of-s.ensures in
+loop-i-preserved c = let one : c.run_slot-t.result ≡ slot_after c.args.ram.now c.args.rom.now c.args.e c.args.n (get_or (slots_of c.args.e) c.loop-i.i (free blank)) = c.run_slot-t.ensures.slot ∙ ap (slot_after c.args.ram.now c.args.rom.now c.args.e c.args.n) c.slot_of-s.ensures in
     let turn : c.loop-i.word + c.flag-word.result ≡ word_to (slot_after c.args.ram.now c.args.rom.now c.args.e c.args.n) (c.loop-i.i + 1) (slots_of c.args.e) = let a = c.args in
     flag-turn (slot_after c.args.ram.now c.args.rom.now c.args.e c.args.n) (slots_of a.e) c.loop-i.i c.loop-i.word c.flag-word.result c.run_slot-t.result
     (slot-stays a.ram.now a.rom.now a.e a.n) (omega (arith, c.loop-i.invariant.0)) c.loop-i.invariant.2 (one) c.flag-word.ensures in
@@ -48,7 +48,7 @@ loop-i-preserved c = let one : c.run_slot-t.result ≡ slot_after c.args.ram.now
     let e = a.e in
     let h = slot_heard a.ram.now a.rom.now e a.n in
     let s = c.slot_of-s.result in
-    let sum = c.run_slot-t.ensures.1.0 in (
+    let sum = c.run_slot-t.ensures.sums in (
       c.loop-i.invariant.0,
       store-turn (slot_after a.ram.now a.rom.now e a.n) (slots_of e) e c.loop-i.x c.loop-i.i c.run_slot-t.result (omega arith) c.loop-i.invariant.1 (one),
       turn,
@@ -56,7 +56,7 @@ loop-i-preserved c = let one : c.run_slot-t.result ≡ slot_after c.args.ram.now
           ∙ ap (λ (z : Slot). add_to (h z) c.loop-i.acc) c.slot_of-s.ensures
           ∙ ap (add_to (h (get_or (slots_of e) c.loop-i.i (free blank)))) c.loop-i.invariant.3
           ∙ sym (add_turn h (slots_of e) c.loop-i.i a.acc.now (omega (arith, c.loop-i.invariant.0))),
-      (λ j. rw sum (add_to-small (h s) c.loop-i.acc c.loop-i.i c.run_slot-t.ensures.1.1 c.loop-i.invariant.4 j)),
+      (λ j. rw sum (add_to-small (h s) c.loop-i.acc c.loop-i.i c.run_slot-t.ensures.small c.loop-i.invariant.4 j)),
       ap length sum ∙ add_to-length (h s) c.loop-i.acc ∙ c.loop-i.invariant.5,
       c.loop-i.invariant.6,
       omega arith,
@@ -68,7 +68,5 @@ returns c = let a = c.args in
     let e = a.e in
     let f = slot_after a.ram.now a.rom.now e a.n in
     let h = slot_heard a.ram.now a.rom.now e a.n in
-    let i : c.loop-i.i ≡ 32 = omega arith in (
-      c.with_word.ensures ∙ store-all f e c.loop-i.x c.loop-i.word c.loop-i.i c.loop-i.invariant.0 i c.loop-i.invariant.1 c.loop-i.invariant.2,
-      c.loop-i.invariant.3 ∙ ap (λ (ss : List Slot). add_all h ss a.acc.now) (take_all c.loop-i.i (slots_of e) (omega (arith, c.loop-i.invariant.0))),
-    )
+    let i : c.loop-i.i ≡ 32 = omega arith in
+    record { state = c.with_word.ensures ∙ store-all f e c.loop-i.x c.loop-i.word c.loop-i.i c.loop-i.invariant.0 i c.loop-i.invariant.1 c.loop-i.invariant.2; sums = c.loop-i.invariant.3 ∙ ap (λ (ss : List Slot). add_all h ss a.acc.now) (take_all c.loop-i.i (slots_of e) (omega (arith, c.loop-i.invariant.0))) }

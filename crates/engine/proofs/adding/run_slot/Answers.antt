@@ -16,14 +16,12 @@ returns-then-not-s c = let a = c.args in
     let h = not-true s.sounding c.if-not-s.true in
     let ch = channel_at a.e s.voice.channel in
     let w = window a.ram.now a.rom.now s.voice in
-    (sym (free-after ch w a.n s h), (sym (free-adds ch w a.n s h a.acc.now), free-small ch w a.n s h))
+    record { slot = sym (free-after ch w a.n s h); sums = sym (free-adds ch w a.n s h a.acc.now); small = free-small ch w a.n s h }
 
 pub returns : goal.returns
 returns c = let a = c.args in
     let s = a.s in
     let ch = c.channel_of-c.ensures in
     let w = c.window_of-w.ensures ∙ sym (window-part a.ram.now a.rom.now s.voice) in
-    let hd = ap₂ (λ (x : Channel) (y : List ℤ). heard x y a.n s) ch w in (
-      c.run.ensures.0 ∙ ap₂ (λ (x : Channel) (y : List ℤ). after x y a.n s) ch w,
-      (c.run.ensures.1 ∙ ap (λ (xs : List ℤ). add_to xs a.acc.now) hd, subst (Small 1) hd c.run.ensures.2),
-    )
+    let hd = ap₂ (λ (x : Channel) (y : List ℤ). heard x y a.n s) ch w in
+    record { slot = c.run.ensures.0 ∙ ap₂ (λ (x : Channel) (y : List ℤ). after x y a.n s) ch w; sums = c.run.ensures.1 ∙ ap (λ (xs : List ℤ). add_to xs a.acc.now) hd; small = subst (Small 1) hd c.run.ensures.2 }

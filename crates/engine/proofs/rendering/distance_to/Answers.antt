@@ -5,4 +5,4 @@ use Rattle.engine.proofs.rendering.distance_to.Goals as goal
 
 pub returns : goal.returns
 unfolding distance
-returns c = omega (arith, c.wrapping_sub_u32.ensures)
+returns c = omega (arith, c.wrapping_sub_u32.ensures.value)

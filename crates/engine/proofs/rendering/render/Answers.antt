@@ -12,7 +12,7 @@ unfolding render rendered
 returns-then-number-ne0 c = let a = c.args in
     let q = c.render_number-number.ensures in
     let z = sym (ap (λ (k : ℕ). eqb k 0) q) ∙ ne_eqb c.render_number-number.result 0 c.if-number-ne0.true in
-    (c.refuse.ensures ∙ ap (λ (k : ℕ). refused k a.e) q ∙ simp z, simp z)
+    record { answer = c.refuse.ensures ∙ ap (λ (k : ℕ). refused k a.e) q ∙ simp z; output = simp z }
 
 pub play-x-requires : goal.play-x-requires
 play-x-requires c = let a = c.args in
@@ -26,8 +26,6 @@ returns c = let low : (c.args.e.clock < 4294967296) × (c.args.to < 4294967296) 
     let a = c.args in
     let z = sym (ap (λ (k : ℕ). eqb k 0) c.render_number-number.ensures) ∙ eq-eqb c.render_number-number.result 0 c.if-number-ne0.false in
     let q = c.distance_to-n.ensures in
-    let t = clock-there a.e a.to c.distance_to-n.result c.wrapping_add_u32.result (low).0 (low).1 q c.wrapping_add_u32.ensures in
-    let x = c.play-x.ensures.0 ∙ ap (λ (k : ℕ). played a.ram.now a.rom.now k a.e) q in (
-      c.made.ensures ∙ ap₂ (λ (y : Engine) (k : ℕ). done 0 (with_clock y k)) x t ∙ simp z,
-      c.play-x.ensures.1 ∙ ap (λ (k : ℕ). output a.ram.now a.rom.now a.e k ++ drop (2 * k) a.out.now) q ∙ simp z,
-    )
+    let t = clock-there a.e a.to c.distance_to-n.result c.wrapping_add_u32.result (low).0 (low).1 q c.wrapping_add_u32.ensures.value in
+    let x = c.play-x.ensures.state ∙ ap (λ (k : ℕ). played a.ram.now a.rom.now k a.e) q in
+    record { answer = c.made.ensures ∙ ap₂ (λ (y : Engine) (k : ℕ). done 0 (with_clock y k)) x t ∙ simp z; output = c.play-x.ensures.output ∙ ap (λ (k : ℕ). output a.ram.now a.rom.now a.e k ++ drop (2 * k) a.out.now) q ∙ simp z }

@@ -11,14 +11,15 @@ use Rattle.engine.proofs.summing.add_up.Goals as goal
 pub run_all-requires : goal.run_all-requires
 run_all-requires c = let zeros = c.clear.ensures in
     let long = ap length zeros ∙ length-replicate (length c.args.acc.now) (pos 0) in
-    ((search rules, search rules), (omega (arith, long, c.requires), subst (Small 0) (sym zeros) (zeros-small (length c.args.acc.now))))
+    record { tables = (search rules, search rules); sums = (omega (arith, long, c.requires), subst (Small 0) (sym zeros) (zeros-small (length c.args.acc.now))) }
 
 pub returns : goal.returns
 returns c = let a = c.args in
-    let f = slot_heard a.ram.now a.rom.now a.e a.n in (
-      c.run_all.ensures.0,
-      c.run_all.ensures.1
+    let f = slot_heard a.ram.now a.rom.now a.e a.n in
+    record {
+      state = c.run_all.ensures.state;
+      output = c.run_all.ensures.sums
           ∙ ap (add_all f (slots_of a.e)) c.clear.ensures
           ∙ ap (λ (m : ℕ). add_all f (slots_of a.e) (replicate m (pos 0))) (sym c.requires)
-          ∙ all-summed a.ram.now a.rom.now a.e a.n,
-    )
+          ∙ all-summed a.ram.now a.rom.now a.e a.n;
+    }

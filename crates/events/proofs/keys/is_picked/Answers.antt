@@ -6,12 +6,12 @@ use Rattle.events.proofs.keys.is_picked.Goals as goal
 
 pub returns-in-Key : goal.returns-in-Key
 returns-in-Key c = let a = c.args in
-    c.is_held_key.ensures ∙ sym (ap (λ (w : Whom). picked a.channel w a.s) c.whom-1.given.1)
+    c.is_held_key.ensures ∙ sym (ap (λ (w : Whom). picked a.channel w a.s) c.in-Key.is)
 
 pub returns-in-Every : goal.returns-in-Every
 returns-in-Every c = let a = c.args in
-    c.is_held.ensures ∙ sym (ap (λ (w : Whom). picked a.channel w a.s) c.enum_told-1.given.1)
+    c.is_held.ensures ∙ sym (ap (λ (w : Whom). picked a.channel w a.s) c.in-Every.is)
 
 pub returns-in-Marked : goal.returns-in-Marked
 returns-in-Marked c = let a = c.args in
-    c.is_pedal_held.ensures ∙ sym (ap (λ (w : Whom). picked a.channel w a.s) c.enum_told-in-Marked-1.given.1)
+    c.is_pedal_held.ensures ∙ sym (ap (λ (w : Whom). picked a.channel w a.s) c.in-Marked.is)

@@ -12,17 +12,17 @@ use Rattle.events.proofs.starting.any_past.Goals as goal
 
 pub loop-i-init : goal.loop-i-init
 unfolding any_past
-loop-i-init c = (c.well_formed.1.1.0.1.0.1, sym (any_none (ends_past c.args.ram.now c.args.rom.now) c.args.t3), omega arith, omega arith)
+loop-i-init c = (c.well_formed.1.1.0.1.0.1, sym (any_none (ends_past c.args.ram.now c.args.rom.now) c.args.voices), omega arith, omega arith)
 
 pub loop-i-preserved : goal.loop-i-preserved
 unfolding any_past
 loop-i-preserved c = let a = c.args in (
-      c.loop-i.invariant.0,
-      c.or_past-found.ensures ∙ ap (λ (b : Bool). b || ends_past a.ram.now a.rom.now (get_or a.t3 c.loop-i.i blank)) c.loop-i.invariant.1
-          ∙ sym (any-turn (ends_past a.ram.now a.rom.now) a.t3 c.loop-i.i blank (omega (arith, c.loop-i.invariant.0))),
-      omega arith,
-      omega arith,
-    )
+  c.loop-i.invariant.0,
+  c.or_past-found.ensures ∙ ap (λ (b : Bool). b || ends_past a.ram.now a.rom.now (get_or a.t3 c.loop-i.i blank)) c.loop-i.invariant.1
+      ∙ sym (any-turn (ends_past a.ram.now a.rom.now) a.t3 c.loop-i.i blank (omega (arith, c.loop-i.invariant.0))),
+  omega arith,
+  omega arith,
+)
 
 pub returns : goal.returns
 returns c = let a = c.args in

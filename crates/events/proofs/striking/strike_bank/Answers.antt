@@ -27,7 +27,7 @@ parts_of-m-requires c = admitted-room c.args.bank.now (sym c.admitted.ensures �
 
 pub overflow_cast-h : goal.overflow_cast-h
 overflow_cast-h c = let heads : c.parts_of-m.result.presets.nheads < 4294967296 = omega arith in
-    omega (arith, heads, preset-low c.args.bank.now c.parts_of-m.result c.bank_number-number.result c.channel_of-c.result.program c.h-1.given.0.0 (sym c.preset_for.ensures ∙ c.h-1.given.1))
+    omega (arith, heads, preset-low c.args.bank.now c.parts_of-m.result c.bank_number-number.result c.channel_of-c.result.program c.in-At.h (sym c.preset_for.ensures ∙ c.in-At.is))
 
 pub returns-in-Nothing : goal.returns-in-Nothing
 returns-in-Nothing c = let fine : admitted c.args.bank.now ≡ true = sym c.admitted.ensures ∙ not-false c.admitted.result c.if-not-admitted.false-raw in
@@ -41,7 +41,7 @@ returns-in-Nothing c = let fine : admitted c.args.bank.now ≡ true = sym c.admi
     ∙ ap (λ (x : Channel). preset_for b (parts_of b) (channel_bank c.args.e c.args.channel) x.program) c.channel_of-c.ensures in
     let a = c.args in
     c.refuse-in-Nothing.ensures
-    ∙ sym (answer-none a.bank.now a.ram.now a.rom.now a.channel a.key a.velocity a.e (fine) (sym (found) ∙ c.enum_told-1.given.1))
+    ∙ sym (answer-none a.bank.now a.ram.now a.rom.now a.channel a.key a.velocity a.e (fine) (sym (found) ∙ c.in-Nothing.is))
 
 pub returns-in-At : goal.returns-in-At
 returns-in-At c = let fine : admitted c.args.bank.now ≡ true = sym c.admitted.ensures ∙ not-false c.admitted.result c.if-not-admitted.false-raw in
@@ -54,7 +54,7 @@ returns-in-At c = let fine : admitted c.args.bank.now ≡ true = sym c.admitted.
     ∙ ap (λ (x : ℕ). preset_for b (parts_of b) x c.channel_of-c.result.program) c.bank_number-number.ensures
     ∙ ap (λ (x : Channel). preset_for b (parts_of b) (channel_bank c.args.e c.args.channel) x.program) c.channel_of-c.ensures in
     let a = c.args in
-    let i = c.h-1.given.0.0 in
+    let i = c.in-At.h in
     c.strike_layers.ensures
     ∙ ap (λ (m : Parts). layers_answer a.ram.now a.rom.now a.channel (voices_of a.bank.now m i a.channel a.key a.velocity) a.e) c.parts_of-m.ensures
-    ∙ sym (answer-found a.bank.now a.ram.now a.rom.now a.channel a.key a.velocity a.e i (fine) (sym (found) ∙ c.h-1.given.1))
+    ∙ sym (answer-found a.bank.now a.ram.now a.rom.now a.channel a.key a.velocity a.e i (fine) (sym (found) ∙ c.in-At.is))

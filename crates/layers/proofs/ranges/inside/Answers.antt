@@ -6,8 +6,8 @@ use Rattle.layers.proofs.ranges.inside.Goals as goal
 
 pub returns-then-r-x : goal.returns-then-r-x
 unfolding inside between
-returns-then-r-x c = simp (le-leb _ _ c.if-r-x.taken)
+returns-then-r-x c = simp (le-leb _ _ c.if-r-x.true)
 
 pub returns : goal.returns
 unfolding inside between
-returns c = simp (lt-leb _ _ c.if-r-x.left)
+returns c = simp (lt-leb _ _ c.if-r-x.false)

@@ -26,12 +26,12 @@ returns-then-count-gt32 c = let a = c.args in
 
 pub loop-i-init : goal.loop-i-init
 loop-i-init c = let a = c.args in (
-      c.octaves-t.ensures,
-      ap (replicate 32) c.no_voice-none.ensures
-          ∙ filled_none (voice_of a.b.now a.m a.h a.channel a.key a.velocity) (layers_of a.b.now a.m a.key a.velocity a.h),
-      search rules,
-      omega (arith, c.if-count-gt32.false),
-    )
+  c.octaves-t.ensures,
+  ap (replicate 32) c.no_voice-none.ensures
+      ∙ filled_none (voice_of a.b.now a.m a.h a.channel a.key a.velocity) (layers_of a.b.now a.m a.key a.velocity a.h),
+  search rules,
+  omega (arith, c.if-count-gt32.false),
+)
 
 pub voice_by-v-requires : goal.voice_by-v-requires
 voice_by-v-requires c = c.loop-i.invariant.0

@@ -21,13 +21,13 @@ loop-x-smaller c = let b = c.args.b.now in
     let s = c.loop-x.invariant.1.seated in
     let g = sym (ap goes_on c.loop-x.invariant.2) ∙ sym c.goes_on.ensures ∙ c.loop-x-test.true in
     let f = (onward b c.loop-x.x s).further g in
-    rw c.advanced-x.ensures.0 (omega (arith, f))
+    rw c.advanced-x.ensures.value (omega (arith, f))
 
 pub loop-x-preserved : goal.loop-x-preserved
 loop-x-preserved c = let b = c.args.b.now in
     let s = c.loop-x.invariant.1.seated in
     let g = sym (ap goes_on c.loop-x.invariant.2) ∙ sym c.goes_on.ensures ∙ c.loop-x-test.true in
-    (c.loop-x.invariant.0 ∙ flaw-on b c.loop-x.x s g ∙ ap (flaw_from (turns b) b) (sym c.advanced-x.ensures.0), c.advanced-x.ensures.1, refl)
+    (c.loop-x.invariant.0 ∙ flaw-on b c.loop-x.x s g ∙ ap (flaw_from (turns b) b) (sym c.advanced-x.ensures.value), c.advanced-x.ensures.settled, refl)
 
 pub returns : goal.returns
 returns c = let b = c.args.b.now in

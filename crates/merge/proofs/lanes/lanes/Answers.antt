@@ -16,15 +16,8 @@ use Rattle.merge.specs.Internal.Entries.{Settled}
 use Rattle.merge.specs.Internal.Lanes.{no_lane, tick_of, Lined}
 use Rattle.merge.proofs.LanesLaws.{track-held, lanes-cut, lanes-flawed, lanes_on, ticks-none}
 use Rattle.merge.proofs.OrderLaws.{Way, ticks-set, settled-more}
+use Rattle.merge.proofs.lanes.lanes.Invariants.{Standing}
 use Rattle.merge.proofs.lanes.lanes.Goals as goal
-
--- k tracks stand there, and the others follow from a place on
-record Standing (b : List ℕ) (count from : ℕ) (ticks : List ℕ) (entries : List Entry) (at k : ℕ) : Type 0 where
-  few : k ≤ count
-  place : at ≤ length b
-  way : Way b k entries ticks
-  lanes : lanes_from count b from ≡ take k entries ++ lanes_from (count - k) b at
-  flaw : flaw_in count b from ≡ flaw_in (count - k) b at
 
 -- one more can be stored
 way-more : (b : List ℕ) (k : ℕ) (entries : List Entry) (ticks : List ℕ) (e : Entry) → k < 256 → Way b k entries ticks → Settled b e → Way b (k + 1) (set entries k e) (set ticks k e.tick)
@@ -114,13 +107,13 @@ track_from-h-requires c = (c.requires.0, c.loop-k.invariant.place)
 
 pub returns-in-Refused : goal.returns-in-Refused
 returns-in-Refused c = let a = c.args in
-    let t = sym c.track_from-h.ensures ∙ c.h-1.given.1 in
+    let t = sym c.track_from-h.ensures ∙ c.in-Refused.is in
     let r = cut a.b.now a.count a.from c.loop-k.ticks c.loop-k.entries c.loop-k.at c.loop-k.k c.loop-k.invariant (omega arith) _ _ t in
-    (r.0, (lined-way a.b.now _ c.loop-k.invariant.way, r.1))
+    record { result_value = r.0; lined = lined-way a.b.now _ c.loop-k.invariant.way; flaw = r.1 }
 
 pub settled-e-requires : goal.settled-e-requires
 settled-e-requires c = let a = c.args in
-    let t = sym c.track_from-h.ensures ∙ c.h-in-Track-1.given.1 in
+    let t = sym c.track_from-h.ensures ∙ c.in-Track.is in
     (c.requires.0, track-held (length a.b.now) a.b.now c.loop-k.at _ _ t, omega arith)
 
 pub offset_bounds-ticks-k : goal.offset_bounds-ticks-k
@@ -136,30 +129,30 @@ pub bounds-entries-k : goal.bounds-entries-k
 bounds-entries-k c = omega arith
 
 pub flaw-flaw-requires : goal.flaw-flaw-requires
-flaw-flaw-requires c = c.settled-e.ensures.1
+flaw-flaw-requires c = c.settled-e.ensures.settled
 
 pub returns-in-At : goal.returns-in-At
 returns-in-At c = let a = c.args in
     let p = c.requires in
-    let t = sym c.track_from-h.ensures ∙ c.h-in-Track-1.given.1 in
-    let u = c.settled-e.ensures in
+    let t = sym c.track_from-h.ensures ∙ c.in-Track.is in
+    let u = (c.settled-e.ensures.value, c.settled-e.ensures.settled) in
     let f = c.flaw-flaw.ensures in
-    let g = c.enum_told-1.given.1 in
+    let g = c.in-At.is in
     let r = flawed a.b.now a.count a.from c.loop-k.ticks c.loop-k.entries c.loop-k.at c.loop-k.k c.loop-k.invariant (omega arith) _ _ _ _ (omega arith) u.0 t (sym f ∙ g) in
-    (r.0, (lined-way a.b.now _ (way-more a.b.now c.loop-k.k c.loop-k.entries c.loop-k.ticks _ (omega arith) c.loop-k.invariant.way u.1), g ∙ r.1))
+    record { result_value = r.0; lined = lined-way a.b.now _ (way-more a.b.now c.loop-k.k c.loop-k.entries c.loop-k.ticks _ (omega arith) c.loop-k.invariant.way u.1); flaw = g ∙ r.1 }
 
 pub loop-k-smaller : goal.loop-k-smaller
 loop-k-smaller c = omega arith
 
 pub loop-k-preserved : goal.loop-k-preserved
 loop-k-preserved c = let a = c.args in
-    let t = sym c.track_from-h.ensures ∙ c.h-in-Track-1.given.1 in
-    let u = c.settled-e.ensures in
-    let f = sym c.flaw-flaw.ensures ∙ c.enum_told-in-None-1.given.1 in
+    let t = sym c.track_from-h.ensures ∙ c.in-Track.is in
+    let u = (c.settled-e.ensures.value, c.settled-e.ensures.settled) in
+    let f = sym c.flaw-flaw.ensures ∙ c.in-None.is in
     goes_on a.b.now a.count a.from c.loop-k.ticks c.loop-k.entries c.loop-k.at c.loop-k.k c.loop-k.invariant (omega arith) _ _ _ (omega arith) u.1 u.0 t f
 
 pub returns : goal.returns
 returns c = let a = c.args in
     let s = c.loop-k.invariant in
     let r = all_there a.b.now a.count a.from c.loop-k.ticks c.loop-k.entries c.loop-k.at c.loop-k.k s (omega arith) in
-    (r.0, (lined-way a.b.now _ s.way, r.1))
+    record { result_value = r.0; lined = lined-way a.b.now _ s.way; flaw = r.1 }

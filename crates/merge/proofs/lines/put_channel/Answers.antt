@@ -24,7 +24,7 @@ put_data-requires c = rw (runs _ _ _ _ c.if-status-running.true) at c.requires
 
 pub returns-then-status-running : goal.returns-then-status-running
 returns-then-status-running c = let a = c.args in
-    rw (runs a.running a.status a.first a.second c.if-status-running.true) c.put_data.ensures
+    rw (runs a.running a.status a.first a.second c.if-status-running.true) (record { value = c.put_data.ensures.value; output = c.put_data.ensures.output })
 
 pub put-p-requires : goal.put-p-requires
 put-p-requires c = let a = c.args in
@@ -34,13 +34,13 @@ put-p-requires c = let a = c.args in
 pub put_data-requires-2 : goal.put_data-requires-2
 put_data-requires-2 c = let a = c.args in
     let p = rw (spoken a.running a.status a.first a.second c.if-status-running.false) at c.requires in
-    let w = c.put-p.ensures in
+    let w = (c.put-p.ensures.value, c.put-p.ensures.output) in
     room-then a.out.now a.at (a.status ∷ []) (data_bytes a.status a.first a.second) p _ _ w.0 w.1
 
 pub returns : goal.returns
 returns c = let a = c.args in
     let s = spoken a.running a.status a.first a.second c.if-status-running.false in
     let p = rw s at c.requires in
-    let w = c.put-p.ensures in
-    let d = c.put_data-2.ensures in
+    let w = (c.put-p.ensures.value, c.put-p.ensures.output) in
+    let d = (c.put_data-2.ensures.value, c.put_data-2.ensures.output) in
     rw s (laid_then a.out.now a.at (a.status ∷ []) (data_bytes a.status a.first a.second) p _ _ w.0 w.1 _ _ d.0 d.1)

@@ -23,7 +23,7 @@ put-requires c = rw (short-data _ _ _ (sym c.is_short.ensures ∙ c.if-is_short.
 pub returns-then-is_short : goal.returns-then-is_short
 returns-then-is_short c = let a = c.args in
     let e = short-data a.status a.first a.second (sym c.is_short.ensures ∙ c.if-is_short.true) in
-    rw e c.put.ensures
+    rw e (record { value = c.put.ensures.value; output = c.put.ensures.output })
 
 pub put-requires-2 : goal.put-requires-2
 put-requires-2 c = rw (long-data _ _ _ (sym c.is_short.ensures ∙ c.if-is_short.false)) at c.requires
@@ -31,4 +31,4 @@ put-requires-2 c = rw (long-data _ _ _ (sym c.is_short.ensures ∙ c.if-is_short
 pub returns : goal.returns
 returns c = let a = c.args in
     let e = long-data a.status a.first a.second (sym c.is_short.ensures ∙ c.if-is_short.false) in
-    rw e c.put-2.ensures
+    rw e (record { value = c.put-2.ensures.value; output = c.put-2.ensures.output })

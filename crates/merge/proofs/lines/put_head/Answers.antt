@@ -4,4 +4,4 @@ use Rattle.merge.proofs.lines.put_head.Goals as goal
 
 pub returns : goal.returns
 unfolding two_bytes four_bytes
-returns c = c.put.ensures
+returns c = record { value = c.put.ensures.value; output = c.put.ensures.output }

@@ -7,18 +7,9 @@ use native.Mathlib.Omega.{arith}
 use borrow.Author.Tests.{ltb-true, ltb-false}
 use lib.Dec.{ltb}
 use Rattle.merge.specs.declared.Best.{Best}
-use Rattle.merge.specs.Entries.{no_tick}
 use Rattle.merge.specs.Internal.Lanes.{better_of, tick_at}
+use Rattle.merge.proofs.order.earliest.Invariants.{Seen}
 use Rattle.merge.proofs.order.earliest.Goals as goal
-
--- the best of the first i
-record Seen (ts : List ℕ) (n i : ℕ) (best : Best) : Type 0 where
-  in-lanes : best.lane ≤ n
-  some : best.tick ≤ no_tick
-  least : (k : ℕ) → k < i → best.tick ≤ tick_at ts k
-  first : best.lane < n → (k : ℕ) → k < best.lane → best.tick < tick_at ts k
-  found : best.lane < n → (best.lane < i) × (best.tick ≡ tick_at ts best.lane) × (best.tick < no_tick)
-  none : best.lane ≡ n → best.tick ≡ no_tick
 
 -- up to i it is so for i + 1
 upto : (ts : List ℕ) (t i : ℕ) → ((k : ℕ) → k < i → t ≤ tick_at ts k) → t ≤ tick_at ts i → (k : ℕ) → k < i + 1 → t ≤ tick_at ts k

@@ -11,17 +11,10 @@ use Rattle.merge.specs.declared.Tracks.{Tracks}
 use Rattle.merge.specs.Entries.{advanced_of}
 use Rattle.merge.specs.Internal.Entries.{Settled}
 use Rattle.merge.specs.Internal.Lanes.{lane_sequence, Earliest}
-use Rattle.merge.specs.Internal.Order.{hour_after, told_of, tally_start, tally_of}
-use Rattle.merge.proofs.OrderLaws.{Way, left_of, found-settled, found_first, found_none, way_on}
+use Rattle.merge.specs.Internal.Order.{hour_after, told_of, tally_of}
+use Rattle.merge.proofs.OrderLaws.{left_of, found-settled, found_first, found_none, way_on}
+use Rattle.merge.proofs.order.tally.Invariants.{Underway}
 use Rattle.merge.proofs.order.tally.Goals as goal
-
--- on the way: what is left, told behind what is told, gives what all of it gives
-record Underway (b : List ℕ) (l : Tracks) (limit : ℕ) (ticks : List ℕ) (entries : List Entry) (t : Tally) (j : ℕ) : Type 0 where
-  way : Way b l.count entries ticks
-  next : Earliest ticks l.count j
-  told : tally_of tally_start (lane_sequence b l) limit ≡ tally_of t (left_of b l.count entries) limit
-  sum : t.hour.sum ≤ limit + 1
-  size : t.size ≤ 4294967318
 
 -- one event is told
 told-one : (t : Tally) (e : Entry) (es : List Entry) (limit : ℕ) → tally_of t (e ∷ es) limit ≡ tally_of (told_of t e limit) es limit
@@ -111,11 +104,11 @@ earliest-j-requires-in-loop-j c = c.requires.room
 
 pub loop-j-smaller : goal.loop-j-smaller
 loop-j-smaller c = let a = c.args in
-    less a.b.now a.l (3600000000 * a.division) c.loop-j.ticks c.loop-j.entries c.loop-j.t c.loop-j.j c.loop-j.invariant c.loop-j-test.true _ c.advanced-next.ensures.0
+    less a.b.now a.l (3600000000 * a.division) c.loop-j.ticks c.loop-j.entries c.loop-j.t c.loop-j.j c.loop-j.invariant c.loop-j-test.true _ c.advanced-next.ensures.value
 
 pub loop-j-preserved : goal.loop-j-preserved
 loop-j-preserved c = let a = c.args in
-    let n = c.advanced-next.ensures in
+    let n = (c.advanced-next.ensures.value, c.advanced-next.ensures.settled) in
     again a.b.now a.l (3600000000 * a.division) c.loop-j.ticks c.loop-j.entries c.loop-j.t c.loop-j.j c.loop-j.invariant c.loop-j-test.true _ _ _ n.0 n.1 c.told-t.ensures c.earliest-j-in-loop-j.ensures
 
 pub returns : goal.returns

@@ -14,24 +14,15 @@ use Rattle.merge.specs.Entries.{advanced_of}
 use Rattle.merge.specs.Internal.Entries.{Settled}
 use Rattle.merge.specs.Internal.Lanes.{lane_sequence, Earliest}
 use Rattle.merge.specs.Internal.Lines.{laid_over, head_bytes, entry_bytes, line_after, closing_bytes, line_bytes, line_start}
-use Rattle.merge.proofs.OrderLaws.{Way, left_of, found-settled, found_first, found_none, way_on}
+use Rattle.merge.proofs.OrderLaws.{left_of, found-settled, found_first, found_none, way_on}
 use Rattle.merge.proofs.PagesLaws.{laid_none, laid-length, room-then, laid_then}
+use Rattle.merge.proofs.order.write.Invariants.{Underway}
 use Rattle.merge.proofs.order.write.Goals as goal
 
 -- the head has 22 bytes
 head-length : (division size : ℕ) → length (head_bytes division size) ≡ 22
 unfolding two_bytes four_bytes
 head-length division size = refl
-
--- on the way: some bytes of the file are put down, and what is left gives the others
-record Underway (b : List ℕ) (l : Tracks) (file out₀ : List ℕ) (start : ℕ) (out : List ℕ) (at : ℕ) (line : Line) (ticks : List ℕ) (entries : List Entry) (j : ℕ) : Type 0 where
-  way : Way b l.count entries ticks
-  next : Earliest ticks l.count j
-  put : List ℕ
-  there : at ≡ start + length put
-  laid : out ≡ laid_over out₀ start put
-  all : file ≡ put ++ line_bytes line (left_of b l.count entries)
-  room : start + length file ≤ length out₀
 
 -- one event, and none
 line-one : (line : Line) (e : Entry) (es : List Entry) → line_bytes line (e ∷ es) ≡ entry_bytes line e ++ line_bytes (line_after line e) es
@@ -122,29 +113,29 @@ rejoined out head file p first second n r q f s =
     (laid_then out 0 head file (omega (arith, l, n, r)) p first (omega (arith, n, q)) f (p + length file) second refl s).1
 
 pub put_head-at-requires : goal.put_head-at-requires
-put_head-at-requires c = omega (arith, c.requires.1)
+put_head-at-requires c = omega (arith, c.requires.room)
 
 pub line_start-line-requires : goal.line_start-line-requires
 line_start-line-requires c = tt
 
 pub earliest-j-requires : goal.earliest-j-requires
-earliest-j-requires c = c.requires.0.room
+earliest-j-requires c = c.requires.lined.room
 
 pub loop-j-init : goal.loop-j-init
 loop-j-init c = let a = c.args in
-    let p = c.requires.0 in
-    let w = c.put_head-at.ensures in
+    let p = c.requires.lined in
+    let w = (c.put_head-at.ensures.value, c.put_head-at.ensures.output) in
     let r = c.line_start-line.ensures in
     let n = head-length a.division a.size in
-    let o = ap length w.1 ∙ laid-length a.out.now 0 (head_bytes a.division a.size) (omega (arith, n, c.requires.1)) in
+    let o = ap length w.1 ∙ laid-length a.out.now 0 (head_bytes a.division a.size) (omega (arith, n, c.requires.room)) in
     record {
       way = record { room = p.room; whole = p.whole; own = p.ticks; settled = p.settled };
       next = c.earliest-j.ensures;
       put = [];
       there = omega arith;
-      laid = sym (laid_none c.put_head-at.new.0 c.put_head-at.result);
+      laid = sym (laid_none c.put_head-at.new.out c.put_head-at.result);
       all = rw r refl;
-      room = omega (arith, o, w.0, c.requires.1);
+      room = omega (arith, o, w.0, c.requires.room);
     }
 
 pub offset_bounds-entries-j : goal.offset_bounds-entries-j
@@ -177,16 +168,16 @@ pub bounds-entries-j-in-loop-j : goal.bounds-entries-j-in-loop-j
 bounds-entries-j-in-loop-j c = omega arith
 
 pub earliest-j-requires-in-loop-j : goal.earliest-j-requires-in-loop-j
-earliest-j-requires-in-loop-j c = c.requires.0.room
+earliest-j-requires-in-loop-j c = c.requires.lined.room
 
 pub loop-j-smaller : goal.loop-j-smaller
 loop-j-smaller c = let a = c.args in
-    less a.b.now a.l _ _ _ c.loop-j.out c.loop-j.at c.loop-j.line c.loop-j.ticks c.loop-j.entries c.loop-j.j c.loop-j.invariant c.loop-j-test.true _ c.advanced-next.ensures.0
+    less a.b.now a.l _ _ _ c.loop-j.out c.loop-j.at c.loop-j.line c.loop-j.ticks c.loop-j.entries c.loop-j.j c.loop-j.invariant c.loop-j-test.true _ c.advanced-next.ensures.value
 
 pub loop-j-preserved : goal.loop-j-preserved
 loop-j-preserved c = let a = c.args in
-    let n = c.advanced-next.ensures in
-    let w = c.put_entry-at.ensures in
+    let n = (c.advanced-next.ensures.value, c.advanced-next.ensures.settled) in
+    let w = (c.put_entry-at.ensures.value, c.put_entry-at.ensures.output) in
     again a.b.now a.l _ _ _ c.loop-j.out c.loop-j.at c.loop-j.line c.loop-j.ticks c.loop-j.entries c.loop-j.j c.loop-j.invariant c.loop-j-test.true _ _ _ _ _ n.0 n.1 c.line_after-line.ensures c.earliest-j-in-loop-j.ensures w.0 w.1
 
 pub put_end-requires : goal.put_end-requires
@@ -200,9 +191,10 @@ shape_of-out c = let a = c.args in
 
 pub returns : goal.returns
 returns c = let a = c.args in
-    let h = c.put_head-at.ensures in
-    let w = c.put_end.ensures in
+    let h = (c.put_head-at.ensures.value, c.put_head-at.ensures.output) in
+    let w = (c.put_end.ensures.value, c.put_end.ensures.output) in
     let n = head-length a.division a.size in
     let file = line_bytes line_start (lane_sequence a.b.now a.l) in
     let d = done a.b.now a.l file _ _ c.loop-j.out c.loop-j.at c.loop-j.line c.loop-j.ticks c.loop-j.entries c.loop-j.j c.loop-j.invariant c.loop-j-test.false _ _ w.0 w.1 in
-    rejoined a.out.now (head_bytes a.division a.size) file _ _ _ n (omega (arith, c.requires.1)) h.0 h.1 d
+    let answer = rejoined a.out.now (head_bytes a.division a.size) file _ _ _ n (omega (arith, c.requires.room)) h.0 h.1 d in
+    record { output = answer }

@@ -35,4 +35,4 @@ returns c = let l = c.loop-i in
     let a = c.args in
     let n = a.bytes.now in
     let all : l.i ≡ length n = omega arith in
-    (refl, l.invariant.0 ∙ ap (paste a.out.now a.at n) all ∙ laid-is a.out.now a.at n)
+    record { value = refl; output = l.invariant.0 ∙ ap (paste a.out.now a.at n) all ∙ laid-is a.out.now a.at n }

@@ -44,9 +44,9 @@ put_quantity-p-requires c = let i = c.loop-k.invariant in
 pub put_tempo-p-requires : goal.put_tempo-p-requires
 unfolding three_bytes
 put_tempo-p-requires c = let behind : (c.put_quantity-p.result ≡ c.args.at + length (bridge_bytes c.args.tempo c.loop-k.k ++ delta))
-    × (c.put_quantity-p.new.0 ≡ laid_over c.args.out.now c.args.at (bridge_bytes c.args.tempo c.loop-k.k ++ delta)) = let i = c.loop-k.invariant in
+    × (c.put_quantity-p.new.out ≡ laid_over c.args.out.now c.args.at (bridge_bytes c.args.tempo c.loop-k.k ++ delta)) = let i = c.loop-k.invariant in
     let a = c.args in
-    let q = c.put_quantity-p.ensures in
+    let q = (c.put_quantity-p.ensures.value, c.put_quantity-p.ensures.output) in
     let r = room-front a.out.now a.at a.tempo a.n c.loop-k.k c.loop-k-test.true c.requires in
     laid_then a.out.now a.at (bridge_bytes a.tempo c.loop-k.k) delta r _ _ i.1 i.0 _ _ q.0 q.1 in
     let a = c.args in
@@ -60,15 +60,15 @@ loop-k-smaller c = omega arith
 pub loop-k-preserved : goal.loop-k-preserved
 unfolding three_bytes
 loop-k-preserved c = let behind : (c.put_quantity-p.result ≡ c.args.at + length (bridge_bytes c.args.tempo c.loop-k.k ++ delta))
-    × (c.put_quantity-p.new.0 ≡ laid_over c.args.out.now c.args.at (bridge_bytes c.args.tempo c.loop-k.k ++ delta)) = let i = c.loop-k.invariant in
+    × (c.put_quantity-p.new.out ≡ laid_over c.args.out.now c.args.at (bridge_bytes c.args.tempo c.loop-k.k ++ delta)) = let i = c.loop-k.invariant in
     let a = c.args in
-    let q = c.put_quantity-p.ensures in
+    let q = (c.put_quantity-p.ensures.value, c.put_quantity-p.ensures.output) in
     let r = room-front a.out.now a.at a.tempo a.n c.loop-k.k c.loop-k-test.true c.requires in
     laid_then a.out.now a.at (bridge_bytes a.tempo c.loop-k.k) delta r _ _ i.1 i.0 _ _ q.0 q.1 in
     let a = c.args in
     let r = room_for a.out.now a.at a.tempo a.n c.loop-k.k c.loop-k-test.true c.requires in
     let w = behind in
-    let t = c.put_tempo-p.ensures in
+    let t = (c.put_tempo-p.ensures.value, c.put_tempo-p.ensures.output) in
     let both = laid_then a.out.now a.at (bridge_bytes a.tempo c.loop-k.k ++ delta) (change a.tempo) r _ _ w.0 w.1 _ _ t.0 t.1 in
     let e = one_more a.tempo c.loop-k.k in
     let x = rw e at both.1 in
@@ -79,4 +79,4 @@ pub returns : goal.returns
 returns c = let l = c.loop-k in
     let a = c.args in
     let all : l.k ≡ a.n = omega arith in
-    (l.invariant.1 ∙ ap (λ (k : ℕ). a.at + length (bridge_bytes a.tempo k)) all, l.invariant.0 ∙ ap (λ (k : ℕ). laid_over a.out.now a.at (bridge_bytes a.tempo k)) all)
+    record { value = l.invariant.1 ∙ ap (λ (k : ℕ). a.at + length (bridge_bytes a.tempo k)) all; output = l.invariant.0 ∙ ap (λ (k : ℕ). laid_over a.out.now a.at (bridge_bytes a.tempo k)) all }

@@ -8,7 +8,7 @@ put-requires c = let e = one_byte c.args.n c.if-n-lt128.true in
 
 pub returns-then-n-lt128 : goal.returns-then-n-lt128
 returns-then-n-lt128 c = let e = one_byte c.args.n c.if-n-lt128.true in
-    rw e c.put.ensures
+    rw e (record { value = c.put.ensures.value; output = c.put.ensures.output })
 
 pub put-requires-then-n-lt16384 : goal.put-requires-then-n-lt16384
 put-requires-then-n-lt16384 c = let e = two_bytes_lem c.args.n c.if-n-lt128.false c.if-n-lt16384.true in
@@ -16,7 +16,7 @@ put-requires-then-n-lt16384 c = let e = two_bytes_lem c.args.n c.if-n-lt128.fals
 
 pub returns-then-n-lt16384 : goal.returns-then-n-lt16384
 returns-then-n-lt16384 c = let e = two_bytes_lem c.args.n c.if-n-lt128.false c.if-n-lt16384.true in
-    rw e c.put-then-n-lt16384.ensures
+    rw e (record { value = c.put-then-n-lt16384.ensures.value; output = c.put-then-n-lt16384.ensures.output })
 
 pub put-requires-then-n-lt2097152 : goal.put-requires-then-n-lt2097152
 put-requires-then-n-lt2097152 c = let e = three-bytes c.args.n c.if-n-lt16384.false c.if-n-lt2097152.true in
@@ -24,7 +24,7 @@ put-requires-then-n-lt2097152 c = let e = three-bytes c.args.n c.if-n-lt16384.fa
 
 pub returns-then-n-lt2097152 : goal.returns-then-n-lt2097152
 returns-then-n-lt2097152 c = let e = three-bytes c.args.n c.if-n-lt16384.false c.if-n-lt2097152.true in
-    rw e c.put-then-n-lt2097152.ensures
+    rw e (record { value = c.put-then-n-lt2097152.ensures.value; output = c.put-then-n-lt2097152.ensures.output })
 
 pub put-requires-2 : goal.put-requires-2
 put-requires-2 c = let e = four_bytes_lem c.args.n c.if-n-lt2097152.false in
@@ -32,4 +32,4 @@ put-requires-2 c = let e = four_bytes_lem c.args.n c.if-n-lt2097152.false in
 
 pub returns : goal.returns
 returns c = let e = four_bytes_lem c.args.n c.if-n-lt2097152.false in
-    rw e c.put-2.ensures
+    rw e (record { value = c.put-2.ensures.value; output = c.put-2.ensures.output })

@@ -4,4 +4,4 @@ use Rattle.merge.proofs.pages.put_tempo.Goals as goal
 
 pub returns : goal.returns
 unfolding three_bytes
-returns c = c.put.ensures
+returns c = record { value = c.put.ensures.value; output = c.put.ensures.output }

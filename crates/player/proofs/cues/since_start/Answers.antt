@@ -5,4 +5,4 @@ use Rattle.player.proofs.cues.since_start.Goals as goal
 
 pub returns : goal.returns
 unfolding since
-returns c = omega (arith, c.wrapping_sub_u32.ensures)
+returns c = omega (arith, c.wrapping_sub_u32.ensures.value)

@@ -7,10 +7,8 @@ use Rattle.player.proofs.PlayingLaws.{written_none, part-put, ticked-some, forwa
 use Rattle.player.proofs.playing.go_on.Goals as goal
 
 pub returns-then-m-eq0 : goal.returns-then-m-eq0
-returns-then-m-eq0 c = let a = c.args in (
-      sym (forward-none a.ram.now a.rom.now a.x) ∙ ap (λ (n : ℕ). forward a.ram.now a.rom.now n a.x) (sym c.if-m-eq0.true),
-      written_none a.ram.now a.rom.now a.x.player.engine a.at a.m a.out.now c.if-m-eq0.true,
-    )
+returns-then-m-eq0 c = let a = c.args in
+    record { tally = sym (forward-none a.ram.now a.rom.now a.x) ∙ ap (λ (n : ℕ). forward a.ram.now a.rom.now n a.x) (sym c.if-m-eq0.true); output = written_none a.ram.now a.rom.now a.x.player.engine a.at a.m a.out.now c.if-m-eq0.true }
 
 pub play-y-requires : goal.play-y-requires
 play-y-requires c = let a = c.args in
@@ -19,8 +17,9 @@ play-y-requires c = let a = c.args in
 pub returns : goal.returns
 unfolding forward
 returns c = let a = c.args in
-    let e = a.x.player.engine in (
-      simp (c.with_engine.ensures, c.play-y.ensures.0, c.wrapping_add_u32.ensures, ticked-some a.ram.now a.rom.now a.m e c.if-m-eq0.false),
-      ap (put_mid a.at (length a.out.now - a.at) a.out.now) c.play-y.ensures.1
-          ∙ part-put a.at (2 * a.m) a.out.now (output a.ram.now a.rom.now e a.m) (omega (arith, c.requires.1)),
-    )
+    let e = a.x.player.engine in
+    record {
+      tally = simp (c.with_engine.ensures, c.play-y.ensures.state, c.wrapping_add_u32.ensures.value, ticked-some a.ram.now a.rom.now a.m e c.if-m-eq0.false);
+      output = ap (put_mid a.at (length a.out.now - a.at) a.out.now) c.play-y.ensures.output
+          ∙ part-put a.at (2 * a.m) a.out.now (output a.ram.now a.rom.now e a.m) (omega (arith, c.requires.1));
+    }

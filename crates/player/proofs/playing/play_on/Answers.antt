@@ -43,8 +43,8 @@ pub apply_if-x-requires : goal.apply_if-x-requires
 apply_if-x-requires c = let a = c.args in
     let i = c.loop-k.invariant.5 in
     let f = forward-counts a.ram.now a.rom.now c.gap-m.result c.loop-k.x in
-    let p = ap (λ (x : Tally). x.applied) c.go_on-x.ensures.0 in
-    let r = ap (λ (x : Tally). x.refused) c.go_on-x.ensures.0 in
+    let p = ap (λ (x : Tally). x.applied) c.go_on-x.ensures.tally in
+    let r = ap (λ (x : Tally). x.refused) c.go_on-x.ensures.tally in
     (omega (arith, p, f.0, i.0), omega (arith, p, r, f.0, f.1, i.1))
 
 pub loop-k-smaller : goal.loop-k-smaller
@@ -57,7 +57,7 @@ loop-k-smaller c = let state : (let a = c.args in
     c.apply_if-x.ensures
     ∙ ap₂ (λ (t : Bool) (y : Tally). cond t (applying a.file.now a.bank.now a.ram.now a.rom.now y) y)
     (left_behind c.loop-k.k c.gap-m.result a.n c.loop-k.invariant.0 ∙ ap (λ (m : ℕ). ltb m most) g)
-    (c.go_on-x.ensures.0 ∙ ap (λ (m : ℕ). forward a.ram.now a.rom.now m c.loop-k.x) g) in
+    (c.go_on-x.ensures.tally ∙ ap (λ (m : ℕ). forward a.ram.now a.rom.now m c.loop-k.x) g) in
     let a = c.args in
     let most = a.n - c.loop-k.k in
     let m = gap_of c.loop-k.x.player most in
@@ -77,7 +77,7 @@ loop-k-preserved c = let low-next : Bounded c.apply_if-x.result.player = record 
     c.apply_if-x.ensures
     ∙ ap₂ (λ (t : Bool) (y : Tally). cond t (applying a.file.now a.bank.now a.ram.now a.rom.now y) y)
     (left_behind c.loop-k.k c.gap-m.result a.n c.loop-k.invariant.0 ∙ ap (λ (m : ℕ). ltb m most) g)
-    (c.go_on-x.ensures.0 ∙ ap (λ (m : ℕ). forward a.ram.now a.rom.now m c.loop-k.x) g) in
+    (c.go_on-x.ensures.tally ∙ ap (λ (m : ℕ). forward a.ram.now a.rom.now m c.loop-k.x) g) in
     let a = c.args in
     let most = a.n - c.loop-k.k in
     let x = c.loop-k.x in
@@ -91,7 +91,7 @@ loop-k-preserved c = let low-next : Bounded c.apply_if-x.result.player = record 
     let few = gap-most x.player most in
     let rest : most - m ≡ a.n - (c.loop-k.k + d) = omega (arith, g, few) in
     let os = output a.ram.now a.rom.now e d in
-    let on = written_on c.loop-k.k d a.out.now c.loop-k.out _ os (omega (arith, i.0, i.1, c.requires.1)) (output-length a.ram.now a.rom.now e d) i.4 c.go_on-x.ensures.1 in
+    let on = written_on c.loop-k.k d a.out.now c.loop-k.out _ os (omega (arith, i.0, i.1, c.requires.1)) (output-length a.ram.now a.rom.now e d) i.4 c.go_on-x.ensures.output in
     let t = turned f b a.ram.now a.rom.now (ltb m most) m x in (
       omega (arith, g, few, i.0),
       search rules,
@@ -121,7 +121,5 @@ returns c = let a = c.args in
     let none : a.n - c.loop-k.k ≡ 0 = omega (arith, all) in
     let front = take (2 * c.loop-k.k) c.loop-k.out in
     let sung : numbers f b a.ram.now a.rom.now a.n (opened a.p) ≡ front =
-    ap (numbers f b a.ram.now a.rom.now a.n) (sym o) ∙ i.3 ∙ ap (λ (j : ℕ). front ++ numbers f b a.ram.now a.rom.now j c.loop-k.x) none ∙ append-nil front in (
-      sym (ap (performed f b a.ram.now a.rom.now a.n) (sym o) ∙ i.2 ∙ ap (λ (j : ℕ). performed f b a.ram.now a.rom.now j c.loop-k.x) none),
-      i.4 ∙ ap₂ (λ (xs : List Float) (j : ℕ). xs ++ drop (2 * j) a.out.now) (sym sung) all,
-    )
+    ap (numbers f b a.ram.now a.rom.now a.n) (sym o) ∙ i.3 ∙ ap (λ (j : ℕ). front ++ numbers f b a.ram.now a.rom.now j c.loop-k.x) none ∙ append-nil front in
+    record { tally = sym (ap (performed f b a.ram.now a.rom.now a.n) (sym o) ∙ i.2 ∙ ap (λ (j : ℕ). performed f b a.ram.now a.rom.now j c.loop-k.x) none); output = i.4 ∙ ap₂ (λ (xs : List Float) (j : ℕ). xs ++ drop (2 * j) a.out.now) (sym sung) all }

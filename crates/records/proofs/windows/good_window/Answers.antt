@@ -20,6 +20,6 @@ returns c = let to = c.loop_end_of-to in
     same c.good_places.ensures
     (to_z-of_z (sfits_of start.type_inv) ∙ start.ensures)
     (to_z-of_z (sfits_of end.type_inv) ∙ end.ensures)
-    (to_z-of_z (sfits_of from.ok) ∙ from.ensures)
-    (to_z-of_z (sfits_of to.ok) ∙ to.ensures)
+    (to_z-of_z (sfits_of from.type_inv) ∙ from.ensures)
+    (to_z-of_z (sfits_of to.type_inv) ∙ to.ensures)
     (c.loops.ensures ∙ ap loops c.mode_of.ensures)

@@ -8,21 +8,21 @@ use Rattle.records.proofs.zones.zone_at.Goals as goal
 
 pub overflow_sub-result : goal.overflow_sub-result
 overflow_sub-result c = let a = c.args in
-    let g = c.g-1.given.0.0 in
+    let g = c.in-At.g in
     let e : closing_of a.b.now a.s a.z ≡ At g = cc in
     let h = closing-is a.b.now a.s a.z g e in
     omega arith
 
 pub overflow_cast-result-in-At-2 : goal.overflow_cast-result-in-At-2
 overflow_cast-result-in-At-2 c = let a = c.args in
-    let g = c.g-1.given.0.0 in
+    let g = c.in-At.g in
     let e : closing_of a.b.now a.s a.z ≡ At g = cc in
     let h = closing-is a.b.now a.s a.z g e in
     omega arith
 
 pub amount-requires : goal.amount-requires
 amount-requires c = let a = c.args in
-    let g = c.g-1.given.0.0 in
+    let g = c.in-At.g in
     let e : closing_of a.b.now a.s a.z ≡ At g = cc in
     let h = closing-is a.b.now a.s a.z g e in
     omega arith
@@ -36,5 +36,5 @@ returns-in-Nothing c = let a = c.args in
 pub returns-in-At : goal.returns-in-At
 unfolding zone_at
 returns-in-At c = let a = c.args in
-    let e : closing_of a.b.now a.s a.z ≡ At c.g-1.given.0.0 = cc in
+    let e : closing_of a.b.now a.s a.z ≡ At c.in-At.g = cc in
     simp e (cc)

@@ -54,7 +54,7 @@ list_body-requires c = let a = c.args in
     let e = c.data_span-data.ensures in
     let h = bank-hit a.b.now a.end (λ z. c.if-bank-end.false (c.first-bank.ensures.0 ∙ z)) in
     let t = list-typed a.b.now a.end bank_type _ h.whole h.named in
-    (search rules, rw c.first-bank.ensures.0 t)
+    record { at_bound = search rules; typed = rw c.first-bank.ensures.0 t }
 
 pub chunk_body-requires : goal.chunk_body-requires
 chunk_body-requires c = let a = c.args in

@@ -15,14 +15,14 @@ returns-then-at-edge c = let s = c.args in
 pub returns-then-kind-gt127 : goal.returns-then-kind-gt127
 unfolding meta_at
 returns-then-kind-gt127 c = let q = c.quantity_at-q in
-    let e = sym q.ensures.0 ∙ c.q-1.given.1 in
+    let e = sym q.ensures.0 ∙ c.in-Good.is in
     let k = c.byte-kind in
     rw (e, meta_at, sym k.ensures, lt-ltb _ _ c.if-kind-gt127.true) refl
 
 pub returns-then-edge-behind : goal.returns-then-edge-behind
 unfolding meta_at
 returns-then-edge-behind c = let q = c.quantity_at-q in
-    let e = sym q.ensures.0 ∙ c.q-1.given.1 in
+    let e = sym q.ensures.0 ∙ c.in-Good.is in
     let k = c.byte-kind in
     rw (e, meta_at, sym k.ensures, le-ltb _ _ c.if-kind-gt127.false, lt-ltb _ _ c.if-edge-behind.true) refl
 
@@ -31,11 +31,11 @@ meta_of-requires c = omega arith
 
 pub returns-in-Bad : goal.returns-in-Bad
 unfolding meta_at
-returns-in-Bad c = rw (sym c.quantity_at-q.ensures.0 ∙ c.enum_told-1.given.1, meta_at) refl
+returns-in-Bad c = rw (sym c.quantity_at-q.ensures.0 ∙ c.in-Bad.is, meta_at) refl
 
 pub returns-else-edge-behind : goal.returns-else-edge-behind
 unfolding meta_at
 returns-else-edge-behind c = let q = c.quantity_at-q in
-    let e = sym q.ensures.0 ∙ c.q-1.given.1 in
+    let e = sym q.ensures.0 ∙ c.in-Good.is in
     let k = c.byte-kind in
     rw (e, meta_at, sym k.ensures, le-ltb _ _ c.if-kind-gt127.false, le-ltb _ _ c.if-edge-behind.false) c.meta_of.ensures

@@ -6,20 +6,20 @@ use Rattle.smf.proofs.track.acted_at.Goals as goal
 
 pub returns-in-Bad : goal.returns-in-Bad
 unfolding acted
-returns-in-Bad c = simp c.enum_told-1.given.1
+returns-in-Bad c = simp c.in-Bad.is
 
 pub returns-in-End : goal.returns-in-End
 unfolding acted
-returns-in-End c = simp c.enum_told-in-End-1.given.1
+returns-in-End c = simp c.in-End.is
 
 pub returns-in-Passed : goal.returns-in-Passed
 unfolding acted
-returns-in-Passed c = rw c.it-1.given.1 (ap Passed c.carried_to.ensures)
+returns-in-Passed c = rw c.in-Passed.is (ap Passed c.carried_to.ensures)
 
 pub returns-in-Tempo : goal.returns-in-Tempo
 unfolding acted
-returns-in-Tempo c = rw c.it-in-Tempo-1.given.1 (ap Passed c.carried_to-in-Tempo.ensures)
+returns-in-Tempo c = rw c.in-Tempo.is (ap Passed c.carried_to-in-Tempo.ensures)
 
 pub returns-in-Channel : goal.returns-in-Channel
 unfolding acted
-returns-in-Channel c = rw (c.it-in-Channel-1.given.1, c.carried_to-in-Channel.ensures) refl
+returns-in-Channel c = rw (c.in-Channel.is, c.carried_to-in-Channel.ensures) refl

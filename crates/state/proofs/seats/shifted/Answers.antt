@@ -15,10 +15,10 @@ use Rattle.state.proofs.SeatsLaws.{renewed-at}
 use Rattle.state.proofs.seats.shifted.Goals as goal
 
 pub returns-then-k-p : goal.returns-then-k-p
-returns-then-k-p c = let long : length (map as_slot c.args.t1) ≡ 32 = simp length-map c.well_formed.0.1.0.1 in
-    let at : (b : Bool) → ltb c.args.k (first_at c.args.i (map as_slot c.args.t1)) ≡ b
-    → get_or (renewed c.args.i (map as_slot c.args.t1)) c.args.k 0
-    ≡ cond b (get_or (map as_slot c.args.t1) c.args.k 0) (get_or (map as_slot c.args.t1 ++ (c.args.i ∷ [])) (c.args.k + 1) 0) = λ b t. let a = c.args in
+returns-then-k-p c = let long : length (map as_slot c.args.order) ≡ 32 = simp length-map c.well_formed.0.1.0.1 in
+    let at : (b : Bool) → ltb c.args.k (first_at c.args.i (map as_slot c.args.order)) ≡ b
+    → get_or (renewed c.args.i (map as_slot c.args.order)) c.args.k 0
+    ≡ cond b (get_or (map as_slot c.args.order) c.args.k 0) (get_or (map as_slot c.args.order ++ (c.args.i ∷ [])) (c.args.k + 1) 0) = λ b t. let a = c.args in
     let xs = map as_slot a.t1 in
     renewed-at a.i xs a.k (long) c.requires.0
     ∙ ap (λ (q : Bool). cond q (get_or xs a.k 0) (get_or (xs ++ (a.i ∷ [])) (a.k + 1) 0)) t in
@@ -28,10 +28,10 @@ returns-then-k-p c = let long : length (map as_slot c.args.t1) ≡ 32 = simp len
     sym (at true t ∙ map_at as_slot a.t1 a.k 0 refl)
 
 pub returns-then-k-eq31 : goal.returns-then-k-eq31
-returns-then-k-eq31 c = let long : length (map as_slot c.args.t1) ≡ 32 = simp length-map c.well_formed.0.1.0.1 in
-    let at : (b : Bool) → ltb c.args.k (first_at c.args.i (map as_slot c.args.t1)) ≡ b
-    → get_or (renewed c.args.i (map as_slot c.args.t1)) c.args.k 0
-    ≡ cond b (get_or (map as_slot c.args.t1) c.args.k 0) (get_or (map as_slot c.args.t1 ++ (c.args.i ∷ [])) (c.args.k + 1) 0) = λ b t. let a = c.args in
+returns-then-k-eq31 c = let long : length (map as_slot c.args.order) ≡ 32 = simp length-map c.well_formed.0.1.0.1 in
+    let at : (b : Bool) → ltb c.args.k (first_at c.args.i (map as_slot c.args.order)) ≡ b
+    → get_or (renewed c.args.i (map as_slot c.args.order)) c.args.k 0
+    ≡ cond b (get_or (map as_slot c.args.order) c.args.k 0) (get_or (map as_slot c.args.order ++ (c.args.i ∷ [])) (c.args.k + 1) 0) = λ b t. let a = c.args in
     let xs = map as_slot a.t1 in
     renewed-at a.i xs a.k (long) c.requires.0
     ∙ ap (λ (q : Bool). cond q (get_or xs a.k 0) (get_or (xs ++ (a.i ∷ [])) (a.k + 1) 0)) t in
@@ -42,10 +42,10 @@ returns-then-k-eq31 c = let long : length (map as_slot c.args.t1) ≡ 32 = simp 
     sym (at false t ∙ ap (λ (j : ℕ). get_or (xs ++ (a.i ∷ [])) j 0) k ∙ get_or_at xs a.i [] 0 32 (long))
 
 pub returns : goal.returns
-returns c = let long : length (map as_slot c.args.t1) ≡ 32 = simp length-map c.well_formed.0.1.0.1 in
-    let at : (b : Bool) → ltb c.args.k (first_at c.args.i (map as_slot c.args.t1)) ≡ b
-    → get_or (renewed c.args.i (map as_slot c.args.t1)) c.args.k 0
-    ≡ cond b (get_or (map as_slot c.args.t1) c.args.k 0) (get_or (map as_slot c.args.t1 ++ (c.args.i ∷ [])) (c.args.k + 1) 0) = λ b t. let a = c.args in
+returns c = let long : length (map as_slot c.args.order) ≡ 32 = simp length-map c.well_formed.0.1.0.1 in
+    let at : (b : Bool) → ltb c.args.k (first_at c.args.i (map as_slot c.args.order)) ≡ b
+    → get_or (renewed c.args.i (map as_slot c.args.order)) c.args.k 0
+    ≡ cond b (get_or (map as_slot c.args.order) c.args.k 0) (get_or (map as_slot c.args.order ++ (c.args.i ∷ [])) (c.args.k + 1) 0) = λ b t. let a = c.args in
     let xs = map as_slot a.t1 in
     renewed-at a.i xs a.k (long) c.requires.0
     ∙ ap (λ (q : Bool). cond q (get_or xs a.k 0) (get_or (xs ++ (a.i ∷ [])) (a.k + 1) 0)) t in

@@ -10,7 +10,7 @@ use Rattle.state.proofs.SlotLoopLaws.{paired_at}
 use Rattle.state.proofs.slots.slot_of.Goals as goal
 
 pub returns : goal.returns
-returns c = let e = c.args.t1 in
+returns c = let e = c.args.e in
     let n : length e.voices ≡ 32 = simp length-map at c.well_formed.0.1.1.0.1.0.1 in
     ap (slot (get_or e.voices c.args.i blank)) c.has.ensures ∙ sym (paired_at e.sounding e.voices c.args.i (omega arith))
   where

@@ -14,20 +14,20 @@ seen : {v : Voice} {m : ℕ} (s g : Stage) → s ≡ g → Calms v g m × RoomBy
 seen {v} {m} s g e h = subst (λ (x : Stage). Calms v x m × RoomBy m x) (sym e) h
 
 pub returns-in-Delay : goal.returns-in-Delay
-returns-in-Delay c = seen _ _ c.enum_told-1.given.1 (none-calm _ _ 0 refl, tt)
+returns-in-Delay c = seen _ _ c.in-Delay.is (none-calm _ _ 0 refl, tt)
 
 pub returns-in-Attack : goal.returns-in-Attack
-returns-in-Attack c = seen _ _ c.s-1.given.1 (none-calm _ _ _ c.calm_attack.ensures.0, c.calm_attack.ensures.1)
+returns-in-Attack c = seen _ _ c.in-Attack.is (none-calm _ _ _ c.calm_attack.ensures.0, c.calm_attack.ensures.1)
 
 pub returns-in-Hold : goal.returns-in-Hold
 returns-in-Hold c = let e = c.less.ensures in
-    seen _ _ c.s-in-Hold-1.given.1 (hold-calm _ _ _ (λ z. omega arith), omega arith)
+    seen _ _ c.in-Hold.is (hold-calm _ _ _ (λ z. omega arith), omega arith)
 
 pub returns-in-Decay : goal.returns-in-Decay
-returns-in-Decay c = seen _ _ c.s-in-Decay-1.given.1 (decay-calm _ _ _ c.calm_decay.ensures.2 c.calm_decay.ensures.0, c.calm_decay.ensures.1)
+returns-in-Decay c = seen _ _ c.in-Decay.is (decay-calm _ _ _ c.calm_decay.ensures.2 c.calm_decay.ensures.0, c.calm_decay.ensures.1)
 
 pub returns-in-Sustain : goal.returns-in-Sustain
-returns-in-Sustain c = seen _ _ c.enum_told-in-Sustain-1.given.1 (sustain-calm _ 4294967295, tt)
+returns-in-Sustain c = seen _ _ c.in-Sustain.is (sustain-calm _ 4294967295, tt)
 
 pub returns-in-Release : goal.returns-in-Release
-returns-in-Release c = seen _ _ c.s-in-Release-1.given.1 (release-calm _ _ _ _ c.calm_count.ensures.0, c.calm_count.ensures.1)
+returns-in-Release c = seen _ _ c.in-Release.is (release-calm _ _ _ _ c.calm_count.ensures.0, c.calm_count.ensures.1)

@@ -25,80 +25,71 @@ pub age_by-requires : goal.age_by-requires
 age_by-requires c = wait-room c.enter-e.result c.wait-m.result c.if-m-gt0.true (omega (arith, c.wait-m.ensures.0))
 
 pub returns-then-m-gt0 : goal.returns-then-m-gt0
-returns-then-m-gt0 c = let on : c.args.s ≡ sounds c.args.s.voice = ap (λ (b : Bool). mk b c.args.s.voice) c.requires.1.1.0 in
+returns-then-m-gt0 c = let on : c.args.s ≡ sounds c.args.s.voice = ap (λ (b : Bool). mk b c.args.s.voice) c.requires.sounding in
     let a = c.args in
     let w = a.w.now in
     let v = a.s.voice in
     let m = c.wait-m.result in
     let q = left-waits v c.enter-e.result m (omega (arith, c.wait-m.ensures.0)) in
     let enters = sym c.enter-e.ensures.0 in
-    let quiet : heard_at a.st a.l w m a.s ≡ silence m = ap (heard_at a.st a.l w m) (on) ∙ wait-sums a.st a.l w v c.enter-e.result enters m q in (
-      (c.if-m-gt0.true, omega (arith, c.wait-m.ensures.0)),
-      (
-        ap sounds (c.with_moved.ensures ∙ ap (λ (x : Stage). with_moved v x v.place v.marked) c.age_by.ensures)
-            ∙ sym (wait_slot a.st a.l w v c.enter-e.result enters m c.if-m-gt0.true q)
-            ∙ ap (after_at a.st a.l w m) (sym (on)),
-        (
-          sym (ap (λ (xs : List ℤ). add_at (2 * a.k) xs a.acc.now) quiet ∙ add-silence (2 * a.k) m a.acc.now),
-          subst (Small 1) (sym quiet) (silence-small m),
-        ),
-      ),
-    )
+    let quiet : heard_at a.st a.l w m a.s ≡ silence m = ap (heard_at a.st a.l w m) (on) ∙ wait-sums a.st a.l w v c.enter-e.result enters m q in
+    record {
+      count = (c.if-m-gt0.true, omega (arith, c.wait-m.ensures.0));
+      slot = ap sounds (c.with_moved.ensures ∙ ap (λ (x : Stage). with_moved v x v.place v.marked) c.age_by.ensures)
+          ∙ sym (wait_slot a.st a.l w v c.enter-e.result enters m c.if-m-gt0.true q)
+          ∙ ap (after_at a.st a.l w m) (sym (on));
+      sums = sym (ap (λ (xs : List ℤ). add_at (2 * a.k) xs a.acc.now) quiet ∙ add-silence (2 * a.k) m a.acc.now);
+      small = subst (Small 1) (sym quiet) (silence-small m);
+    }
 
 pub onward-r-requires : goal.onward-r-requires
-onward-r-requires c = let p = c.requires.1.1.1 in
-    (c.requires.0, (rw (w-back w64 c.requires.1.0 (lit< tt)) c.requires.1.0, (sym c.enter-e.ensures.0, (p.1, p.2))))
+onward-r-requires c = let p = c.requires.sums in
+    record { tables = c.requires.tables; loss = rw (w-back w64 c.requires.loss (lit< tt)) c.requires.loss; enters = sym c.enter-e.ensures.0; sums = (p.1, p.2) }
 
 pub one-requires : goal.one-requires
 unfolding heard_at
 one-requires c = let none : c.onward-r.result.frames ≡ 0 → c.onward-r.last.1.1.1.1.1.1.0 ≡ c.args.acc.now = λ e. let a = c.args in
-    rw (w-back w64 c.requires.1.0 (lit< tt)) at c.onward-r.ensures.1.1.0
+    rw (w-back w64 c.requires.loss (lit< tt)) at c.onward-r.ensures.sums
     ∙ ap (λ (m : ℕ). add_at (2 * a.k) (heard_at a.st a.l a.w.now m (sounds a.s.voice)) a.acc.now) e
     ∙ add_at-none (2 * a.k) a.acc.now in
-    let p = c.requires.1.1.1 in
-    (c.requires.0, (rw (w-back w64 c.requires.1.0 (lit< tt)) c.requires.1.0, rw (none c.if-r-eq0.true) (omega (arith, p.0, p.1), p.2)))
+    let p = c.requires.sums in
+    record { tables = c.requires.tables; loss = rw (w-back w64 c.requires.loss (lit< tt)) c.requires.loss; sums = rw (none c.if-r-eq0.true) (omega (arith, p.0, p.1), p.2) }
 
 pub returns-then-r-eq0 : goal.returns-then-r-eq0
 unfolding heard_at
 returns-then-r-eq0 c = let none : c.onward-r.result.frames ≡ 0 → c.onward-r.last.1.1.1.1.1.1.0 ≡ c.args.acc.now = λ e. let a = c.args in
-    rw (w-back w64 c.requires.1.0 (lit< tt)) at c.onward-r.ensures.1.1.0
+    rw (w-back w64 c.requires.loss (lit< tt)) at c.onward-r.ensures.sums
     ∙ ap (λ (m : ℕ). add_at (2 * a.k) (heard_at a.st a.l a.w.now m (sounds a.s.voice)) a.acc.now) e
     ∙ add_at-none (2 * a.k) a.acc.now in
-    let o = c.one.ensures in
+    let o = (c.one.ensures.count, (c.one.ensures.slot, (c.one.ensures.sums, c.one.ensures.small))) in
     let a = c.args in
-    let b = w-back w64 c.requires.1.0 (lit< tt) in
-    let f = o.0 in (
-      (omega (arith, f), omega (arith, f, c.requires.1.1.1.0)),
-      (
-        rw b at o.1.0 ∙ ap (λ (m : ℕ). after_at a.st a.l a.w.now m a.s) (sym f),
-        (
-          rw b at o.1.1.0
-              ∙ ap (λ (xs : List ℤ). add_at (2 * a.k) (heard_at a.st a.l a.w.now 1 a.s) xs) (none c.if-r-eq0.true)
-              ∙ ap (λ (m : ℕ). add_at (2 * a.k) (heard_at a.st a.l a.w.now m a.s) a.acc.now) (sym f),
-          subst (λ (m : ℕ). Small 1 (heard_at a.st a.l a.w.now m a.s)) (sym f) (rw b at o.1.1.1),
-        ),
-      ),
-    )
+    let b = w-back w64 c.requires.loss (lit< tt) in
+    let f = o.0 in
+    record {
+      count = (omega (arith, f), omega (arith, f, c.requires.sums.0));
+      slot = rw b at o.1.0 ∙ ap (λ (m : ℕ). after_at a.st a.l a.w.now m a.s) (sym f);
+      sums = rw b at o.1.1.0
+          ∙ ap (λ (xs : List ℤ). add_at (2 * a.k) (heard_at a.st a.l a.w.now 1 a.s) xs) (none c.if-r-eq0.true)
+          ∙ ap (λ (m : ℕ). add_at (2 * a.k) (heard_at a.st a.l a.w.now m a.s) a.acc.now) (sym f);
+      small = subst (λ (m : ℕ). Small 1 (heard_at a.st a.l a.w.now m a.s)) (sym f) (rw b at o.1.1.1);
+    }
 
 pub age_by-y-requires : goal.age_by-y-requires
-age_by-y-requires c = c.onward-r.ensures.0.2 (omega (arith, c.if-r-eq0.false))
+age_by-y-requires c = c.onward-r.ensures.count.2 (omega (arith, c.if-r-eq0.false))
 
 pub returns : goal.returns
-returns c = let on : c.args.s ≡ sounds c.args.s.voice = ap (λ (b : Bool). mk b c.args.s.voice) c.requires.1.1.0 in
+returns c = let on : c.args.s ≡ sounds c.args.s.voice = ap (λ (b : Bool). mk b c.args.s.voice) c.requires.sounding in
     let a = c.args in
     let w = a.w.now in
     let v = a.s.voice in
     let m = c.onward-r.result.frames in
-    let b = w-back w64 c.requires.1.0 (lit< tt) in
-    let some : 0 < m = omega (arith, c.if-r-eq0.false) in (
-      (some, c.onward-r.ensures.0.0),
-      (
-        ap sounds (c.with_moved-2.ensures ∙ ap (λ (x : Stage). with_moved v x c.onward-r.result.place v.marked) c.age_by-y.ensures)
-            ∙ sym (rw b at (c.onward-r.ensures.1.0 some))
-            ∙ ap (after_at a.st a.l w m) (sym (on)),
-        (
-          rw b at c.onward-r.ensures.1.1.0 ∙ ap (λ (x : Slot). add_at (2 * a.k) (heard_at a.st a.l w m x) a.acc.now) (sym (on)),
-          subst (λ (x : Slot). Small 1 (heard_at a.st a.l w m x)) (sym (on)) (rw b at c.onward-r.ensures.1.1.1),
-        ),
-      ),
-    )
+    let b = w-back w64 c.requires.loss (lit< tt) in
+    let some : 0 < m = omega (arith, c.if-r-eq0.false) in
+    record {
+      count = (some, c.onward-r.ensures.count.0);
+      slot = ap sounds (c.with_moved-2.ensures ∙ ap (λ (x : Stage). with_moved v x c.onward-r.result.place v.marked) c.age_by-y.ensures)
+          ∙ sym (rw b at (c.onward-r.ensures.slot some))
+          ∙ ap (after_at a.st a.l w m) (sym (on));
+      sums = rw b at c.onward-r.ensures.sums ∙ ap (λ (x : Slot). add_at (2 * a.k) (heard_at a.st a.l w m x) a.acc.now) (sym (on));
+      small = subst (λ (x : Slot). Small 1 (heard_at a.st a.l w m x)) (sym (on)) (rw b at c.onward-r.ensures.small);
+    }

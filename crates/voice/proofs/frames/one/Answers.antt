@@ -13,16 +13,13 @@ use Rattle.voice.proofs.frames.one.Goals as goal
 
 pub returns : goal.returns
 unfolding after_at heard_at
-returns c = let e = rw (w-back w64 c.requires.1.0 (lit< tt)) at c.frame_at-f.ensures.0 in
+returns c = let e = rw (w-back w64 c.requires.loss (lit< tt)) at c.frame_at-f.ensures.0 in
     let x = c.frame_at-f.ensures.1 in
-    let y = c.frame_at-f.ensures.2 in (
-      refl,
-      (
-        ap (λ (z : Framed). z.slot) e,
-        (
-          rw (w-back w32 x (lit< tt), w-back w32 y (lit< tt)) at c.add_pair.ensures
-              ∙ ap (λ (z : Framed). add_at (2 * c.args.k) (z.left ∷ z.right ∷ []) c.args.acc.now) e,
-          subst (λ (z : Framed). Small 1 (z.left ∷ z.right ∷ [])) e (small-two [] c.frame_at-f.result.left c.frame_at-f.result.right small-none x y),
-        ),
-      ),
-    )
+    let y = c.frame_at-f.ensures.2 in
+    record {
+      count = refl;
+      slot = ap (λ (z : Framed). z.slot) e;
+      sums = rw (w-back w32 x (lit< tt), w-back w32 y (lit< tt)) at c.add_pair.ensures
+          ∙ ap (λ (z : Framed). add_at (2 * c.args.k) (z.left ∷ z.right ∷ []) c.args.acc.now) e;
+      small = subst (λ (z : Framed). Small 1 (z.left ∷ z.right ∷ [])) e (small-two [] c.frame_at-f.result.left c.frame_at-f.result.right small-none x y);
+    }

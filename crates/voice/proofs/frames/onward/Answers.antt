@@ -39,22 +39,14 @@ roomy v s zero a h d r k z = absurd (not-suc-le-zero z)
 roomy v s (suc m) a h d r k z = room v s m a h d r (k m (omega arith))
 
 pub ring-requires : goal.ring-requires
-ring-requires c = let y = c.way_of-way.ensures.1 in
-    let b = w-back w64 c.requires.1.0 (lit< tt) in (
-      c.requires.0,
-      (
-        rw b c.requires.1.0,
-        (
-          (c.sides_of-sides.ensures.1, c.sides_of-sides.ensures.3),
-          ((y.0, y.1, y.2), (omega (arith, c.few.ensures.0, c.requires.1.1.1.0), c.requires.1.1.1.1)),
-        ),
-      ),
-    )
+ring-requires c = let y = c.way_of-way.ensures.size in
+    let b = w-back w64 c.requires.loss (lit< tt) in
+    record { tables = c.requires.tables; loss = rw b c.requires.loss; sides = (c.sides_of-sides.ensures.1, c.sides_of-sides.ensures.3); way = (y.0, y.1, y.2); sums = (omega (arith, c.few.ensures.0, c.requires.sums.0), c.requires.sums.1) }
 
 pub returns-then-count-eq0 : goal.returns-then-count-eq0
 returns-then-count-eq0 c = let counts : (c.args.v.attack < 4294967296) × (c.args.v.hold < 4294967296) × (c.args.v.decay < 4294967296) × (c.args.v.release < 4294967296) = (omega arith, omega arith, omega arith, omega arith) in
     let m : ℕ = c.ring.result.frames in
-    let rounded : Rounded c.args.st c.args.l c.args.w.now c.args.v c.args.s c.way_of-way.result c.way_of-way.ensures.0.0 m = c.ring.ensures.1.0.1 in
+    let rounded : Rounded c.args.st c.args.l c.args.w.now c.args.v c.args.s c.way_of-way.result c.way_of-way.ensures.leads.0 m = c.ring.ensures.place.1 in
     let pan : to_z w16 (of_z w16 c.args.v.pan) ≡ c.args.v.pan = to_z-of_z {w = w16} {z = c.args.v.pan} (sfits_of c.well_formed.0.1.1.1.1.1.1.1.1.1.1.1.1.1.1.1.1.1.0.1) in
     let left : c.sides_of-sides.result.left ≡ share (left_out c.args.v.pan) = rw pan at c.sides_of-sides.ensures.0 in
     let right : c.sides_of-sides.result.right ≡ share (right_out c.args.v.pan) = rw pan at c.sides_of-sides.ensures.2 in
@@ -62,71 +54,57 @@ returns-then-count-eq0 c = let counts : (c.args.v.attack < 4294967296) × (c.arg
     ≡ heard_at c.args.st c.args.l c.args.w.now m (sounds c.args.v) = let a = c.args in
     let y = c.way_of-way.result in
     ap₂ (λ (x z : ℕ). rings a.l x z a.w.now a.v a.s y m) (left) (right)
-    ∙ sym (rounds-sums a.st a.l a.w.now a.v a.s y c.way_of-way.ensures.0.0 c.requires.1.1.0 c.way_of-way.ensures.0.1 m rounded) in
+    ∙ sym (rounds-sums a.st a.l a.w.now a.v a.s y c.way_of-way.ensures.leads.0 c.requires.enters c.way_of-way.ensures.leads.1 m rounded) in
     let a = c.args in
     let y = c.way_of-way in
     let n = counts in
-    let b = w-back w64 c.requires.1.0 (lit< tt) in (
-      (
-        omega (arith, c.ring.ensures.0, c.few.ensures.0),
-        omega (arith, c.ring.ensures.0, c.few.ensures.1),
+    let b = w-back w64 c.requires.loss (lit< tt) in
+    record {
+      count = (
+        omega (arith, c.ring.ensures.count, c.few.ensures.0),
+        omega (arith, c.ring.ensures.count, c.few.ensures.1),
         λ z. roomy a.v a.s (m) n.0 n.1 n.2 n.3 (λ j h. (rounded j h).1) z,
-      ),
-      (
-        λ z.
-            rounds-slot a.st a.l a.w.now a.v a.s y.result y.ensures.0.0 c.requires.1.1.0 y.ensures.0.1 (m) z (rounded)
-            ∙ ap (λ (p : ℕ). sounds (with_moved a.v (spent_by (m) a.s) p a.v.marked)) (sym c.ring.ensures.1.0.0),
-        (
-          rw b at c.ring.ensures.1.1.0 ∙ ap (λ (xs : List ℤ). add_at (2 * a.k) xs a.acc.now) (rang),
-          subst (Small 1) (rang) (rw b at c.ring.ensures.1.1.1),
-        ),
-      ),
-    )
+      );
+      slot = λ z.
+          rounds-slot a.st a.l a.w.now a.v a.s y.result y.ensures.0.0 c.requires.enters y.ensures.0.1 (m) z (rounded)
+          ∙ ap (λ (p : ℕ). sounds (with_moved a.v (spent_by (m) a.s) p a.v.marked)) (sym c.ring.ensures.place.0);
+      sums = rw b at c.ring.ensures.sums ∙ ap (λ (xs : List ℤ). add_at (2 * a.k) xs a.acc.now) (rang);
+      small = subst (Small 1) (rang) (rw b at c.ring.ensures.small);
+    }
 
 pub glide-requires : goal.glide-requires
 glide-requires c = let h : 0 < c.ahead-count.result = omega (arith, c.if-count-eq0.false) in
-    let here = (c.ahead-count.ensures.1.1 h).1 in
-    let first = c.limit_of-limit.ensures.1.0 (omega (arith, here)) in (
-      (c.gain.ensures.1, c.sides_of-sides.ensures.1, c.sides_of-sides.ensures.3),
-      (
-        (c.limit_of-limit.ensures.1.1, λ p q. (c.limit_of-limit.ensures.0 p q).inside),
-        (
-          (first.1, first.0, here, c.ahead-count.ensures.0.1),
-          (omega (arith, c.ahead-count.ensures.0.0, c.requires.1.1.1.0), c.requires.1.1.1.1),
-        ),
-      ),
-    )
+    let here = (c.ahead-count.ensures.alive h).1 in
+    let first = c.limit_of-limit.ensures.begins (omega (arith, here)) in
+    record { level = (c.gain.ensures.1, c.sides_of-sides.ensures.1, c.sides_of-sides.ensures.3); window = (c.limit_of-limit.ensures.size, λ p q. (c.limit_of-limit.ensures.clear p q).inside); begins = (first.1, first.0, here, c.ahead-count.ensures.count.1); sums = (omega (arith, c.ahead-count.ensures.count.0, c.requires.sums.0), c.requires.sums.1) }
 
 pub returns : goal.returns
 returns c = let count : ℕ = c.glide.result.frames in
-    let some : 0 < c.ahead-count.result = omega (arith, c.if-count-eq0.left) in
+    let some : 0 < c.ahead-count.result = omega (arith, c.if-count-eq0.false) in
     let voice : Voice = c.args.v in
-    let alive : dead voice c.args.s ≡ false = (c.ahead-count.ensures.1.1 some).0 in
-    let calm : Calms voice c.args.s count = λ j h. c.ahead-count.ensures.1.0 j (omega (arith, c.glide.ensures.0.0)) in
-    let clear : (j : ℕ) → j < count → Clear c.args.w.now voice c.args.s c.args.st (voice.place + j * c.args.st) = λ j h. c.limit_of-limit.ensures.0 (voice.place + j * c.args.st) (c.glide.ensures.1.0.1 j h) in
+    let alive : dead voice c.args.s ≡ false = (c.ahead-count.ensures.alive some).0 in
+    let calm : Calms voice c.args.s count = λ j h. c.ahead-count.ensures.calm j (omega (arith, c.glide.ensures.count.0)) in
+    let clear : (j : ℕ) → j < count → Clear c.args.w.now voice c.args.s c.args.st (voice.place + j * c.args.st) = λ j h. c.limit_of-limit.ensures.clear (voice.place + j * c.args.st) (c.glide.ensures.place.1 j h) in
     let pan : to_z w16 (of_z w16 c.args.v.pan) ≡ c.args.v.pan = to_z-of_z {w = w16} {z = c.args.v.pan} (sfits_of c.well_formed.0.1.1.1.1.1.1.1.1.1.1.1.1.1.1.1.1.1.0.1) in
     let left : c.sides_of-sides.result.left ≡ share (left_out c.args.v.pan) = rw pan at c.sides_of-sides.ensures.0 in
     let right : c.sides_of-sides.result.right ≡ share (right_out c.args.v.pan) = rw pan at c.sides_of-sides.ensures.2 in
     let heard : plains c.gain.result c.sides_of-sides.result.left c.sides_of-sides.result.right c.args.w.now c.args.st voice.place count
     ≡ heard_at c.args.st c.args.l c.args.w.now count (sounds voice) = let a = c.args in
     let w = a.w.now in
-    let e = c.gain.ensures.0 ∙ ap gain_of (rw (w-back w64 c.requires.1.0 (lit< tt)) at c.total_of-a.ensures ∙ ap (whole_loss a.l) c.envelope_of.ensures.0) in
+    let e = c.gain.ensures.0 ∙ ap gain_of (rw (w-back w64 c.requires.loss (lit< tt)) at c.total_of-a.ensures ∙ ap (whole_loss a.l) c.envelope_of.ensures.0) in
     ap (λ (x : ℕ). plains x c.sides_of-sides.result.left c.sides_of-sides.result.right w a.st voice.place count) e
     ∙ ap₂ (λ (x z : ℕ). plains (gain_of (whole_loss a.l (envelope voice a.s))) x z w a.st voice.place count) (left) (right)
-    ∙ sym (stretch-sums a.st a.l w voice a.s alive c.requires.1.1.0 count calm clear) in
-    let a = c.args in (
-      (
-        omega (arith, c.glide.ensures.0.0, c.ahead-count.ensures.0.0),
-        omega (arith, c.glide.ensures.0.0, c.ahead-count.ensures.0.1),
-        λ z. room-le a.s c.ahead-count.result (count) c.glide.ensures.0.0 (c.ahead-count.ensures.1.1 (some)).2,
-      ),
-      (
-        λ z.
-            stretch-slot a.st a.l a.w.now a.v a.s (alive) c.requires.1.1.0 (count) z (calm) (clear)
-            ∙ ap (λ (p : ℕ). sounds (with_moved a.v (spent_by (count) a.s) p a.v.marked)) (sym c.glide.ensures.1.0.0),
-        (
-          c.glide.ensures.1.1.0 ∙ ap (λ (xs : List ℤ). add_at (2 * a.k) xs a.acc.now) (heard),
-          subst (Small 1) (heard) c.glide.ensures.1.1.1,
-        ),
-      ),
-    )
+    ∙ sym (stretch-sums a.st a.l w voice a.s alive c.requires.enters count calm clear) in
+    let a = c.args in
+    record {
+      count = (
+        omega (arith, c.glide.ensures.count.0, c.ahead-count.ensures.count.0),
+        omega (arith, c.glide.ensures.count.0, c.ahead-count.ensures.count.1),
+        λ z. room-le a.s c.ahead-count.result (count) c.glide.ensures.count.0 (c.ahead-count.ensures.alive (some)).2,
+      );
+      slot = λ z.
+          stretch-slot a.st a.l a.w.now a.v a.s (alive) c.requires.enters (count) z (calm) (clear)
+          ∙ ap (λ (p : ℕ). sounds (with_moved a.v (spent_by (count) a.s) p a.v.marked)) (sym c.glide.ensures.place.0);
+      sums = c.glide.ensures.sums ∙ ap (λ (xs : List ℤ). add_at (2 * a.k) xs a.acc.now) (heard);
+      small = subst (Small 1) (heard) c.glide.ensures.small;
+    }

@@ -9,12 +9,12 @@ use Rattle.voice.specs.Internal.Sums.{add_to, Small}
 use Rattle.voice.proofs.frames.run_at.Given as goal
 
 abbrev pub invariant-loop-k : goal.invariant-loop-k
-invariant-loop-k l = (l.s ≡ after_at l.st (to_z w64 l.l) l.w l.k l.initial.s)
-    × (l.acc ≡ add_to (heard_at l.st (to_z w64 l.l) l.w l.k l.initial.s) l.initial.acc)
+invariant-loop-k l = (l.s ≡ after_at l.st l.l l.w l.k l.initial.s)
+    × (l.acc ≡ add_to (heard_at l.st l.l l.w l.k l.initial.s) l.initial.acc)
     × (length l.acc ≡ length l.initial.acc)
     × (l.k ≤ l.n)
     × (2 * l.n ≤ length l.initial.acc)
-    × Small 1 (heard_at l.st (to_z w64 l.l) l.w l.k l.initial.s)
+    × Small 1 (heard_at l.st l.l l.w l.k l.initial.s)
 
 abbrev pub decreases-loop-k : goal.decreases-loop-k
 decreases-loop-k l = l.n - l.k

@@ -6,21 +6,21 @@ use Rattle.voice.specs.Internal.Pace.{cb_in}
 use Rattle.voice.proofs.pace.cb_in.Goals as goal
 
 pub returns-in-Delay : goal.returns-in-Delay
-returns-in-Delay c = let a = c.args in (sym (ap (λ (s : Stage). cb_in a.v s a.value) c.enum_told-1.given.1), omega arith)
+returns-in-Delay c = let a = c.args in (sym (ap (λ (s : Stage). cb_in a.v s a.value) c.in-Delay.is), omega arith)
 
 pub returns-in-Attack : goal.returns-in-Attack
-returns-in-Attack c = let a = c.args in (sym (ap (λ (s : Stage). cb_in a.v s a.value) c.enum_told-in-Attack-1.given.1), omega arith)
+returns-in-Attack c = let a = c.args in (sym (ap (λ (s : Stage). cb_in a.v s a.value) c.in-Attack.is), omega arith)
 
 pub returns-in-Hold : goal.returns-in-Hold
-returns-in-Hold c = let a = c.args in (sym (ap (λ (s : Stage). cb_in a.v s a.value) c.enum_told-in-Hold-1.given.1), omega arith)
+returns-in-Hold c = let a = c.args in (sym (ap (λ (s : Stage). cb_in a.v s a.value) c.in-Hold.is), omega arith)
 
 pub returns-in-Decay : goal.returns-in-Decay
-returns-in-Decay c = let a = c.args in (sym (ap (λ (s : Stage). cb_in a.v s a.value) c.enum_told-in-Decay-1.given.1), omega (arith, c.requires))
+returns-in-Decay c = let a = c.args in (sym (ap (λ (s : Stage). cb_in a.v s a.value) c.in-Decay.is), omega (arith, c.requires))
 
 pub returns-in-Sustain : goal.returns-in-Sustain
 returns-in-Sustain c = let a = c.args in
-    (c.wide.ensures ∙ sym (ap (λ (s : Stage). cb_in a.v s a.value) c.enum_told-in-Sustain-1.given.1), omega arith)
+    (c.wide.ensures ∙ sym (ap (λ (s : Stage). cb_in a.v s a.value) c.in-Sustain.is), omega arith)
 
 pub returns-in-Release : goal.returns-in-Release
 returns-in-Release c = let a = c.args in
-    (c.fallen.ensures.0 ∙ sym (ap (λ (s : Stage). cb_in a.v s a.value) c.s-1.given.1), c.fallen.ensures.1)
+    (c.fallen.ensures.0 ∙ sym (ap (λ (s : Stage). cb_in a.v s a.value) c.in-Release.is), c.fallen.ensures.1)

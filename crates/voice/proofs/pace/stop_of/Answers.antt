@@ -6,29 +6,29 @@ use Rattle.voice.specs.Internal.Pace.{stop_if, stop_in}
 use Rattle.voice.proofs.pace.stop_of.Goals as goal
 
 pub returns-in-Delay : goal.returns-in-Delay
-returns-in-Delay c = (sym (ap (stop_in c.args.v) c.enum_told-1.given.1), omega arith)
+returns-in-Delay c = (sym (ap (stop_in c.args.v) c.in-Delay.is), omega arith)
 
 pub returns-in-Attack : goal.returns-in-Attack
 returns-in-Attack c = let a = c.args in
-    (c.stop_if.ensures.0 ∙ sym (ap (stop_in a.v) c.enum_told-in-Attack-1.given.1), omega (arith, c.stop_if.ensures.1))
+    (c.stop_if.ensures.0 ∙ sym (ap (stop_in a.v) c.in-Attack.is), omega (arith, c.stop_if.ensures.1))
 
 pub returns-in-Hold : goal.returns-in-Hold
 returns-in-Hold c = let a = c.args in
-    (sym (ap (stop_in a.v) c.enum_told-in-Hold-1.given.1), omega arith)
+    (sym (ap (stop_in a.v) c.in-Hold.is), omega arith)
 
 pub returns-in-Decay : goal.returns-in-Decay
 returns-in-Decay c = let a = c.args in
     let e = c.least.ensures ∙ ap (λ (n : ℕ). min n 1000) c.wide.ensures in (
-      c.stop_if-in-Decay.ensures.0 ∙ ap (stop_if a.v.decay) e ∙ sym (ap (stop_in a.v) c.enum_told-in-Decay-1.given.1),
+      c.stop_if-in-Decay.ensures.0 ∙ ap (stop_if a.v.decay) e ∙ sym (ap (stop_in a.v) c.in-Decay.is),
       omega (arith, c.stop_if-in-Decay.ensures.1, c.least.ensures),
     )
 
 pub returns-in-Sustain : goal.returns-in-Sustain
 returns-in-Sustain c = let a = c.args in
-    (c.left_of.ensures ∙ sym (ap (stop_in a.v) c.enum_told-in-Sustain-1.given.1), omega (arith, c.left_of.ensures))
+    (c.left_of.ensures ∙ sym (ap (stop_in a.v) c.in-Sustain.is), omega (arith, c.left_of.ensures))
 
 pub returns-in-Release : goal.returns-in-Release
 returns-in-Release c = let a = c.args in (
-      c.stop_if-in-Release.ensures.0 ∙ ap (stop_if a.v.release) c.left_of-in-Release.ensures ∙ sym (ap (stop_in a.v) c.s-1.given.1),
-      omega (arith, c.stop_if-in-Release.ensures.1, c.left_of-in-Release.ensures),
-    )
+  c.stop_if-in-Release.ensures.0 ∙ ap (stop_if a.v.release) c.left_of-in-Release.ensures ∙ sym (ap (stop_in a.v) c.in-Release.is),
+  omega (arith, c.stop_if-in-Release.ensures.1, c.left_of-in-Release.ensures),
+)

@@ -7,26 +7,26 @@ use Rattle.voice.specs.declared.Shown.TheVariants as is
 use Rattle.voice.proofs.panel.show_stage.Goals as goal
 
 pub returns-in-Delay : goal.returns-in-Delay
-returns-in-Delay c = sym (ap (stage_shown c.args.v) c.enum_told-1.given.1)
+returns-in-Delay c = sym (ap (stage_shown c.args.v) c.in-Delay.is)
 
 pub returns-in-Attack : goal.returns-in-Attack
 returns-in-Attack c = let v = c.args.v in
-    ap is.Attack (c.level_unit.ensures.0 ∙ ap level_of c.level_at.ensures.0) ∙ sym (ap (stage_shown v) c.s-1.given.1)
+    ap is.Attack (c.level_unit.ensures.0 ∙ ap level_of c.level_at.ensures.0) ∙ sym (ap (stage_shown v) c.in-Attack.is)
 
 pub returns-in-Hold : goal.returns-in-Hold
-returns-in-Hold c = sym (ap (stage_shown c.args.v) c.enum_told-in-Hold-1.given.1)
+returns-in-Hold c = sym (ap (stage_shown c.args.v) c.in-Hold.is)
 
 pub returns-in-Decay : goal.returns-in-Decay
 returns-in-Decay c = let v = c.args.v in
     ap is.Decay (c.gain_unit.ensures ∙ ap (λ (a : ℕ). level_of (gain_of a)) (c.wide.ensures ∙ c.decay_at.ensures))
-    ∙ sym (ap (stage_shown v) c.s-in-Decay-1.given.1)
+    ∙ sym (ap (stage_shown v) c.in-Decay.is)
 
 pub returns-in-Sustain : goal.returns-in-Sustain
 returns-in-Sustain c = let v = c.args.v in
     ap is.Sustain (c.gain_unit-in-Sustain.ensures ∙ ap (λ (a : ℕ). level_of (gain_of a)) c.wide-in-Sustain.ensures)
-    ∙ sym (ap (stage_shown v) c.enum_told-in-Sustain-1.given.1)
+    ∙ sym (ap (stage_shown v) c.in-Sustain.is)
 
 pub returns-in-Release : goal.returns-in-Release
 returns-in-Release c = let v = c.args.v in
     ap is.Release (c.gain_unit-in-Release.ensures ∙ ap (λ (a : ℕ). level_of (gain_of a)) c.release_at.ensures.0)
-    ∙ sym (ap (stage_shown v) c.s-in-Release-1.given.1)
+    ∙ sym (ap (stage_shown v) c.in-Release.is)

@@ -31,7 +31,7 @@ overflow_cast-x3 c = rw (to_z-of_z c.ranges.x3) (w_fits w64 (w-of w16 c.ranges.x
 pub curved-x-requires : goal.curved-x-requires
 curved-x-requires c = let f = c.ranges in
     rw (to_z-of_z f.x0, to_z-of_z f.x1, to_z-of_z f.x2, to_z-of_z f.x3, back16 f.x0, back16 f.x1, back16 f.x2, back16 f.x3, w-back w64 (w-nat (le_of_lt c.requires)) (lit< tt))
-    ((w-of w16 f.x0, w-of w16 f.x1, w-of w16 f.x2, w-of w16 f.x3), w-nat (le_of_lt c.requires))
+    (record { points = (w-of w16 f.x0, w-of w16 f.x1, w-of w16 f.x2, w-of w16 f.x3); part = w-nat (le_of_lt c.requires) })
 
 pub returns : goal.returns
 returns c = let f = c.ranges in

@@ -5,13 +5,20 @@ use lib.ListN.{length}
 use mir.Syntax.{w64}
 use mir.Val.{to_z}
 use Rattle.curves.specs.Levels.{gain_of}
+use Rattle.voice.specs.declared.Stage.{Stage}
+use Rattle.voice.specs.declared.Voice.{Voice}
+use Rattle.voice.specs.declared.way.Way.{Way}
 use Rattle.voice.specs.Sound.{whole_loss}
 use Rattle.voice.specs.Stages.{spent_by}
-use Rattle.voice.specs.Internal.Pace.{PaceAt}
+use Rattle.voice.specs.Internal.Pace.{value_in, stop_in, PaceAt}
 use Rattle.voice.specs.Internal.Rounds.{rings}
 use Rattle.voice.specs.Internal.Sums.{add_at, Small}
 use Rattle.voice.specs.Internal.Way.{place_on}
 use Rattle.voice.proofs.rounds.ring.Given as goal
+
+-- frames that may go so
+abbrev pub Goes : Voice → Stage → Way → ℕ → Type 0
+Goes v s y j = (place_on y v.place j < y.limit) × (value_in v (spent_by j s) < stop_in v s)
 
 abbrev pub invariant-loop-m : goal.invariant-loop-m
 invariant-loop-m l = (l.m ≤ l.most)

@@ -5,24 +5,24 @@ use Rattle.voice.specs.Stages.{envelope}
 use Rattle.voice.proofs.stages.envelope_of.Goals as goal
 
 pub returns-in-Delay : goal.returns-in-Delay
-returns-in-Delay c = (sym (ap (envelope c.args.v) c.enum_told-1.given.1), omega arith)
+returns-in-Delay c = (sym (ap (envelope c.args.v) c.in-Delay.is), omega arith)
 
 pub returns-in-Attack : goal.returns-in-Attack
-returns-in-Attack c = (sym (ap (envelope c.args.v) c.enum_told-in-Attack-1.given.1), omega arith)
+returns-in-Attack c = (sym (ap (envelope c.args.v) c.in-Attack.is), omega arith)
 
 pub returns-in-Hold : goal.returns-in-Hold
-returns-in-Hold c = (sym (ap (envelope c.args.v) c.enum_told-in-Hold-1.given.1), omega arith)
+returns-in-Hold c = (sym (ap (envelope c.args.v) c.in-Hold.is), omega arith)
 
 pub returns-in-Decay : goal.returns-in-Decay
 returns-in-Decay c = let a = c.args in (
-  c.wide.ensures ∙ c.decay_at.ensures ∙ sym (ap (envelope a.v) c.s-1.given.1),
+  c.wide.ensures ∙ c.decay_at.ensures ∙ sym (ap (envelope a.v) c.in-Decay.is),
   omega arith,
 )
 
 pub returns-in-Sustain : goal.returns-in-Sustain
 returns-in-Sustain c = let a = c.args in
-    (c.wide-in-Sustain.ensures ∙ sym (ap (envelope a.v) c.enum_told-in-Sustain-1.given.1), omega arith)
+    (c.wide-in-Sustain.ensures ∙ sym (ap (envelope a.v) c.in-Sustain.is), omega arith)
 
 pub returns-in-Release : goal.returns-in-Release
 returns-in-Release c = let a = c.args in
-    (c.release_at.ensures.0 ∙ sym (ap (envelope a.v) c.s-in-Release-1.given.1), c.release_at.ensures.1)
+    (c.release_at.ensures.0 ∙ sym (ap (envelope a.v) c.in-Release.is), c.release_at.ensures.1)

@@ -5,21 +5,21 @@ use Rattle.voice.specs.Stages.{dead}
 use Rattle.voice.proofs.stages.is_dead.Goals as goal
 
 pub returns-in-Delay : goal.returns-in-Delay
-returns-in-Delay c = sym (ap (dead c.args.v) c.enum_told-1.given.1)
+returns-in-Delay c = sym (ap (dead c.args.v) c.in-Delay.is)
 
 pub returns-in-Attack : goal.returns-in-Attack
-returns-in-Attack c = sym (ap (dead c.args.v) c.enum_told-in-Attack-1.given.1)
+returns-in-Attack c = sym (ap (dead c.args.v) c.in-Attack.is)
 
 pub returns-in-Hold : goal.returns-in-Hold
-returns-in-Hold c = sym (ap (dead c.args.v) c.enum_told-in-Hold-1.given.1)
+returns-in-Hold c = sym (ap (dead c.args.v) c.in-Hold.is)
 
 pub returns-in-Decay : goal.returns-in-Decay
 returns-in-Decay c = let a = c.args in
-    ap (leb 1000) c.decay_at.ensures ∙ sym (ap (dead a.v) c.s-1.given.1)
+    ap (leb 1000) c.decay_at.ensures ∙ sym (ap (dead a.v) c.in-Decay.is)
 
 pub returns-in-Sustain : goal.returns-in-Sustain
-returns-in-Sustain c = sym (ap (dead c.args.v) c.enum_told-in-Sustain-1.given.1)
+returns-in-Sustain c = sym (ap (dead c.args.v) c.in-Sustain.is)
 
 pub returns-in-Release : goal.returns-in-Release
 returns-in-Release c = let a = c.args in
-    ap (leb 1000) c.release_at.ensures.0 ∙ sym (ap (dead a.v) c.s-in-Release-1.given.1)
+    ap (leb 1000) c.release_at.ensures.0 ∙ sym (ap (dead a.v) c.in-Release.is)

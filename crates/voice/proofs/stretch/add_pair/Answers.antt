@@ -17,7 +17,7 @@ overflow_add-a c = let ys : List ℤ = c.args.acc.now in
     let i : ℕ = 2 * c.args.k in
     let left : ℤ = c.args.left in
     let sum0 : (to_z w32 (of_z w32 (get_or ys i (pos 0))) +ℤ to_z w32 (of_z w32 left) ≡ get_or ys i (pos 0) +ℤ left)
-    × SFits w32 (get_or ys i (pos 0) +ℤ left) × (to_z w32 (of_z w32 (get_or ys i (pos 0) +ℤ left)) ≡ get_or ys i (pos 0) +ℤ left) = add-bits (get_or ys i (pos 0)) left (c.requires.0.1 i (omega arith)) c.requires.1.0 in
+    × SFits w32 (get_or ys i (pos 0) +ℤ left) × (to_z w32 (of_z w32 (get_or ys i (pos 0) +ℤ left)) ≡ get_or ys i (pos 0) +ℤ left) = add-bits (get_or ys i (pos 0)) left (c.requires.sums.1 i (omega arith)) c.requires.pair.0 in
     rw (sum0).0 (sum0).1
 
 pub overflow_add-b-2 : goal.overflow_add-b-2
@@ -25,10 +25,10 @@ overflow_add-b-2 c = let ys : List ℤ = c.args.acc.now in
     let i : ℕ = 2 * c.args.k in
     let left : ℤ = c.args.left in
     let sum0 : (to_z w32 (of_z w32 (get_or ys i (pos 0))) +ℤ to_z w32 (of_z w32 left) ≡ get_or ys i (pos 0) +ℤ left)
-    × SFits w32 (get_or ys i (pos 0) +ℤ left) × (to_z w32 (of_z w32 (get_or ys i (pos 0) +ℤ left)) ≡ get_or ys i (pos 0) +ℤ left) = add-bits (get_or ys i (pos 0)) left (c.requires.0.1 i (omega arith)) c.requires.1.0 in
+    × SFits w32 (get_or ys i (pos 0) +ℤ left) × (to_z w32 (of_z w32 (get_or ys i (pos 0) +ℤ left)) ≡ get_or ys i (pos 0) +ℤ left) = add-bits (get_or ys i (pos 0)) left (c.requires.sums.1 i (omega arith)) c.requires.pair.0 in
     let right : ℤ = c.args.right in
     let sum1 : (to_z w32 (of_z w32 (get_or ys (i + 1) (pos 0))) +ℤ to_z w32 (of_z w32 right) ≡ get_or ys (i + 1) (pos 0) +ℤ right)
-    × SFits w32 (get_or ys (i + 1) (pos 0) +ℤ right) × (to_z w32 (of_z w32 (get_or ys (i + 1) (pos 0) +ℤ right)) ≡ get_or ys (i + 1) (pos 0) +ℤ right) = add-bits (get_or ys (i + 1) (pos 0)) right (c.requires.0.1 (i + 1) (omega arith)) c.requires.1.1 in
+    × SFits w32 (get_or ys (i + 1) (pos 0) +ℤ right) × (to_z w32 (of_z w32 (get_or ys (i + 1) (pos 0) +ℤ right)) ≡ get_or ys (i + 1) (pos 0) +ℤ right) = add-bits (get_or ys (i + 1) (pos 0)) right (c.requires.sums.1 (i + 1) (omega arith)) c.requires.pair.1 in
     let read1 : get_or (set ys i (get_or ys i (pos 0) +ℤ left)) (i + 1) (pos 0) ≡ get_or ys (i + 1) (pos 0) = get_or-set_other ys i (i + 1) (get_or ys i (pos 0) +ℤ left) (pos 0) (λ e. omega arith) in
     rw ((sum0).0, (sum0).2, read1, (sum1).0) (sum1).1
 
@@ -38,8 +38,8 @@ returns c = let ys : List ℤ = c.args.acc.now in
     let left : ℤ = c.args.left in
     let right : ℤ = c.args.right in
     let sum0 : (to_z w32 (of_z w32 (get_or ys i (pos 0))) +ℤ to_z w32 (of_z w32 left) ≡ get_or ys i (pos 0) +ℤ left)
-    × SFits w32 (get_or ys i (pos 0) +ℤ left) × (to_z w32 (of_z w32 (get_or ys i (pos 0) +ℤ left)) ≡ get_or ys i (pos 0) +ℤ left) = add-bits (get_or ys i (pos 0)) left (c.requires.0.1 i (omega arith)) c.requires.1.0 in
+    × SFits w32 (get_or ys i (pos 0) +ℤ left) × (to_z w32 (of_z w32 (get_or ys i (pos 0) +ℤ left)) ≡ get_or ys i (pos 0) +ℤ left) = add-bits (get_or ys i (pos 0)) left (c.requires.sums.1 i (omega arith)) c.requires.pair.0 in
     let sum1 : (to_z w32 (of_z w32 (get_or ys (i + 1) (pos 0))) +ℤ to_z w32 (of_z w32 right) ≡ get_or ys (i + 1) (pos 0) +ℤ right)
-    × SFits w32 (get_or ys (i + 1) (pos 0) +ℤ right) × (to_z w32 (of_z w32 (get_or ys (i + 1) (pos 0) +ℤ right)) ≡ get_or ys (i + 1) (pos 0) +ℤ right) = add-bits (get_or ys (i + 1) (pos 0)) right (c.requires.0.1 (i + 1) (omega arith)) c.requires.1.1 in
+    × SFits w32 (get_or ys (i + 1) (pos 0) +ℤ right) × (to_z w32 (of_z w32 (get_or ys (i + 1) (pos 0) +ℤ right)) ≡ get_or ys (i + 1) (pos 0) +ℤ right) = add-bits (get_or ys (i + 1) (pos 0)) right (c.requires.sums.1 (i + 1) (omega arith)) c.requires.pair.1 in
     let read1 : get_or (set ys i (get_or ys i (pos 0) +ℤ left)) (i + 1) (pos 0) ≡ get_or ys (i + 1) (pos 0) = get_or-set_other ys i (i + 1) (get_or ys i (pos 0) +ℤ left) (pos 0) (λ e. omega arith) in
-    rw ((sum0).0, (sum0).2, read1, (sum1).0, (sum1).2) (pair-at (i) (i + 1) (left) (right) (ys) (add-one (i)) c.requires.0.0)
+    rw ((sum0).0, (sum0).2, read1, (sum1).0, (sum1).2) (pair-at (i) (i + 1) (left) (right) (ys) (add-one (i)) c.requires.sums.0)

@@ -11,6 +11,6 @@ returns-then-is_folding c = let v = c.args.v in
 
 pub returns : goal.returns
 returns c = let v = c.args.v in (
-      c.span_of.ensures.0 ∙ sym (ap (λ (f : Bool). cond f v.loopto (span v)) (sym c.is_folding.ensures ∙ c.if-is_folding.false)),
-      c.span_of.ensures.1,
-    )
+  c.span_of.ensures.0 ∙ sym (ap (λ (f : Bool). cond f v.loopto (span v)) (sym c.is_folding.ensures ∙ c.if-is_folding.false)),
+  c.span_of.ensures.1,
+)

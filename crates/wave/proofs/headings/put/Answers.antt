@@ -18,7 +18,7 @@ loop-i-preserved c = let xs = c.args.head.now in let d = c.args.out.now in let i
       omega arith,
       length-set c.loop-i.out i (get_or xs i 0) ∙ c.loop-i.invariant.1,
       ap (λ (o : List ℕ). set o i (get_or xs i 0)) c.loop-i.invariant.2
-          ∙ copy-turn xs d i 0 (omega (arith, inside, c.requires.0)) (omega (arith, inside, c.requires.1)),
+          ∙ copy-turn xs d i 0 (omega (arith, inside, c.requires.whole)) (omega (arith, inside, c.requires.room)),
     )
 
 pub shape_of-out : goal.shape_of-out
@@ -27,4 +27,4 @@ shape_of-out c = c.loop-i.invariant.1
 pub returns : goal.returns
 returns c = let xs = c.args.head.now in
     let i44 : c.loop-i.i ≡ 44 = omega arith in
-    c.loop-i.invariant.2 ∙ ap (λ (i : ℕ). take i xs ++ drop i c.args.out.now) i44 ∙ ap (λ (h : List ℕ). h ++ drop 44 c.args.out.now) (take_all 44 xs (le_of_eq c.requires.0))
+    c.loop-i.invariant.2 ∙ ap (λ (i : ℕ). take i xs ++ drop i c.args.out.now) i44 ∙ ap (λ (h : List ℕ). h ++ drop 44 c.args.out.now) (take_all 44 xs (le_of_eq c.requires.whole))

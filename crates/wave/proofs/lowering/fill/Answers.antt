@@ -19,7 +19,7 @@ loop-i-init c = let a = c.args in (omega arith, refl, sums_none a.g a.sums.now a
 pub bounds-out-i-in-loop-i : goal.bounds-out-i-in-loop-i
 bounds-out-i-in-loop-i c = let len : length c.loop-i.out ≡ length c.args.out.now = c.loop-i.invariant.1 in
     let inside : c.loop-i.i < length c.args.sums.now = omega arith in
-    lt-length-set c.loop-i.out (2 * c.loop-i.i) (c.word-w.result % 256) (omega (arith, len, inside, c.requires.1))
+    lt-length-set c.loop-i.out (2 * c.loop-i.i) (c.word-w.result % 256) (omega (arith, len, inside, c.requires.room))
 
 pub loop-i-preserved : goal.loop-i-preserved
 loop-i-preserved c = let xs = c.args.sums.now in
@@ -31,7 +31,7 @@ loop-i-preserved c = let xs = c.args.sums.now in
       omega arith,
       length-set (set c.loop-i.out (2 * i) (w % 256)) (2 * i + 1) (w / 256) ∙ length-set c.loop-i.out (2 * i) (w % 256) ∙ c.loop-i.invariant.1,
       ap (λ (o : List ℕ). set (set o (2 * i) (w % 256)) (2 * i + 1) (w / 256)) c.loop-i.invariant.2
-          ∙ sums-turn c.args.g xs d i w (omega arith) c.requires.1 (c.word-w.ensures ∙ ap (λ (z : ℤ). sum_word c.args.g z) one),
+          ∙ sums-turn c.args.g xs d i w (omega arith) c.requires.room (c.word-w.ensures ∙ ap (λ (z : ℤ). sum_word c.args.g z) one),
     )
 
 pub shape_of-out : goal.shape_of-out

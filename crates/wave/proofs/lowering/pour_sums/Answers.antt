@@ -13,7 +13,7 @@ returns-then-sums-eq1 c = let a = c.args in
     let zs = a.sums.now in
     let out = a.out.now in
     let r = sums-refused a.attenuation zs out 13 (sums-13 zs (length out) c.if-sums-eq1.true) refl in
-    (c.refuse.ensures ∙ r.0, r.1)
+    record { value = c.refuse.ensures ∙ r.0; output = r.1 }
 
 pub returns-then-out-sums : goal.returns-then-out-sums
 returns-then-out-sums c = let a = c.args in
@@ -21,11 +21,11 @@ returns-then-out-sums c = let a = c.args in
     let out = a.out.now in
     let few = c.if-out-sums.true in
     let r = sums-refused a.attenuation zs out 15 (sums-15 zs (length out) (not-odd (length zs) c.if-sums-eq1.false) (omega (arith, few))) refl in
-    (c.refuse-then-out-sums.ensures ∙ r.0, r.1)
+    record { value = c.refuse-then-out-sums.ensures ∙ r.0; output = r.1 }
 
 pub fill-requires : goal.fill-requires
 fill-requires c = let enough = c.if-out-sums.false in
-    (c.gain-g.ensures.1, omega (arith, enough))
+    record { g_bound = c.gain-g.ensures.1; room = omega (arith, enough) }
 
 pub frames_past-requires : goal.frames_past-requires
 frames_past-requires c = (not-odd (length c.args.sums.now) c.if-sums-eq1.false, c.gain-g.ensures.1)
@@ -36,11 +36,12 @@ returns c = let a = c.args in
     let out = a.out.now in
     let enough = c.if-out-sums.false in
     let zero = sums-0 zs (length out) (not-odd (length zs) c.if-sums-eq1.false) (omega (arith, enough)) in
-    let gain = c.gain-g.ensures.0 in (
-      ap₂ (λ (h l : ℕ). record { number = 0; held = h; loudest = l })
+    let gain = c.gain-g.ensures.0 in
+    record {
+      value = ap₂ (λ (h l : ℕ). record { number = 0; held = h; loudest = l })
           (c.least-held.ensures ∙ ap (λ (k : ℕ). min k 4294967295) (c.frames_past.ensures ∙ ap (λ (k : ℕ). frames_past k zs) gain)) c.loudest_of.ensures
-          ∙ sym (sums-answer a.attenuation zs (length out) zero),
-      c.fill.ensures
+          ∙ sym (sums-answer a.attenuation zs (length out) zero);
+      output = c.fill.ensures
           ∙ ap (λ (k : ℕ). poured_sums k zs ++ drop (2 * length zs) out) gain
-          ∙ sym (sums-written a.attenuation zs out zero),
-    )
+          ∙ sym (sums-written a.attenuation zs out zero);
+    }

@@ -8,7 +8,7 @@ use Rattle.wave.proofs.pcm.k_of_bits.Goals as goal
 
 pub returns-then-size-eq0 : goal.returns-then-size-eq0
 unfolding k_bits
-returns-then-size-eq0 c = (rw (eq-eqb _ _ c.if-size-eq0.true) refl, lit≤ tt)
+returns-then-size-eq0 c = record { value = rw (eq-eqb _ _ c.if-size-eq0.true) refl; bounded = lit≤ tt }
 
 pub overflow_sub-tail : goal.overflow_sub-tail
 overflow_sub-tail c = top_field c.args.size c.requires (ne_eqb _ _ c.if-size-eq0.false)
@@ -18,4 +18,4 @@ overflow_shr-result c = short-tail c.args.size c.requires (ne_eqb _ _ c.if-size-
 
 pub returns : goal.returns
 unfolding k_bits
-returns c = (rw (ne_eqb _ _ c.if-size-eq0.false) refl, rw (ne_eqb _ _ c.if-size-eq0.false) at (k-bits-le c.args.size c.requires))
+returns c = record { value = rw (ne_eqb _ _ c.if-size-eq0.false) refl; bounded = rw (ne_eqb _ _ c.if-size-eq0.false) at (k-bits-le c.args.size c.requires) }

@@ -14,5 +14,5 @@ k_of_bits-requires c = subst T (output-bits c.args.x c.well_formed.0.1) c.requir
 
 pub returns : goal.returns
 returns c = c.word_of.ensures
-    ∙ ap (word_of (leb 2147483648 (to_bits binary32 c.args.x))) c.k_of_bits.ensures.0
+    ∙ ap (word_of (leb 2147483648 (to_bits binary32 c.args.x))) c.k_of_bits.ensures.value
     ∙ pcm-bits c.args.x c.well_formed.0.1 (subst T (output-bits c.args.x c.well_formed.0.1) c.requires)

@@ -7,7 +7,8 @@ use Rattle.wave.proofs.PlaybackLaws.{read_done, read-other, read_short, taken-fr
 use Rattle.wave.proofs.playback.read.Goals as goal
 
 pub returns-then-not-is_recording : goal.returns-then-not-is_recording
-returns-then-not-is_recording c = read-other c.args.file.now c.args.out.now (sym c.is_recording.ensures ∙ not-true _ c.if-not-is_recording.true-raw)
+returns-then-not-is_recording c = let answer = read-other c.args.file.now c.args.out.now (sym c.is_recording.ensures ∙ not-true _ c.if-not-is_recording.true-raw) in
+    record { value = answer.0; output = answer.1 }
 
 pub overflow_sub-frames : goal.overflow_sub-frames
 overflow_sub-frames c = let such = sym c.is_recording.ensures ∙ not-false _ c.if-not-is_recording.false-raw in
@@ -15,10 +16,11 @@ overflow_sub-frames c = let such = sym c.is_recording.ensures ∙ not-false _ c.
     omega (arith, whole)
 
 pub returns-then-out-frames : goal.returns-then-out-frames
-returns-then-out-frames c = read_short c.args.file.now c.args.out.now (sym c.is_recording.ensures ∙ not-false _ c.if-not-is_recording.false-raw) c.if-out-frames.true
+returns-then-out-frames c = let answer = read_short c.args.file.now c.args.out.now (sym c.is_recording.ensures ∙ not-false _ c.if-not-is_recording.false-raw) c.if-out-frames.true in
+    record { value = answer.0; output = answer.1 }
 
 pub fill-requires : goal.fill-requires
-fill-requires c = (subst T (sym (not-false _ c.if-not-is_recording.false-raw) ∙ c.is_recording.ensures) tt, c.if-out-frames.false)
+fill-requires c = record { t = subst T (sym (not-false _ c.if-not-is_recording.false-raw) ∙ c.is_recording.ensures) tt; room = c.if-out-frames.false }
 
 pub overflow_cast-result : goal.overflow_cast-result
 overflow_cast-result c = let file = c.args.file.now in
@@ -26,4 +28,5 @@ overflow_cast-result c = let file = c.args.file.now in
     record { fits = omega (arith, most) }
 
 pub returns : goal.returns
-returns c = read_done c.args.file.now c.args.out.now c.fill.new.1.0 (sym c.is_recording.ensures ∙ not-false _ c.if-not-is_recording.false-raw) c.if-out-frames.false c.fill.ensures
+returns c = let answer = read_done c.args.file.now c.args.out.now c.fill.new.out (sym c.is_recording.ensures ∙ not-false _ c.if-not-is_recording.false-raw) c.if-out-frames.false c.fill.ensures in
+    record { value = answer.0; output = answer.1 }

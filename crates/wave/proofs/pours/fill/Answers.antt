@@ -17,12 +17,12 @@ loop-i-init c = (omega arith, refl, poured-none c.args.numbers.now c.args.from c
 pub pcm-word-requires : goal.pcm-word-requires
 pcm-word-requires c = let xs = c.args.numbers.now in
     let inside : c.loop-i.i < length xs = omega arith in
-    subst T (sym (output-at xs c.loop-i.i (clean_of xs c.requires.0) inside)) tt
+    subst T (sym (output-at xs c.loop-i.i (clean_of xs c.requires.numbers_value) inside)) tt
 
 pub bounds-out-from-in-loop-i : goal.bounds-out-from-in-loop-i
 bounds-out-from-in-loop-i c = let len : length c.loop-i.out ≡ length c.args.out.now = c.loop-i.invariant.1 in
     let inside : c.loop-i.i < length c.args.numbers.now = omega arith in
-    lt-length-set c.loop-i.out (c.args.from + 2 * c.loop-i.i) (c.pcm-word.result % 256) (omega (arith, len, inside, c.requires.1))
+    lt-length-set c.loop-i.out (c.args.from + 2 * c.loop-i.i) (c.pcm-word.result % 256) (omega (arith, len, inside, c.requires.room))
 
 pub loop-i-preserved : goal.loop-i-preserved
 loop-i-preserved c = let xs = c.args.numbers.now in let d = c.args.out.now in let i = c.loop-i.i in let at = c.args.from in
@@ -31,7 +31,7 @@ loop-i-preserved c = let xs = c.args.numbers.now in let d = c.args.out.now in le
       omega arith,
       length-set (set c.loop-i.out (at + 2 * i) (w % 256)) (at + 2 * i + 1) (w / 256) ∙ length-set c.loop-i.out (at + 2 * i) (w % 256) ∙ c.loop-i.invariant.1,
       ap (λ (o : List ℕ). set (set o (at + 2 * i) (w % 256)) (at + 2 * i + 1) (w / 256)) c.loop-i.invariant.2
-          ∙ pour-turn xs at d i w inside c.requires.1 c.pcm-word.ensures,
+          ∙ pour-turn xs at d i w inside c.requires.room c.pcm-word.ensures,
     )
 
 pub shape_of-out : goal.shape_of-out

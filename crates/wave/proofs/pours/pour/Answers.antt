@@ -5,16 +5,19 @@ use Rattle.wave.proofs.PoursLaws.{pour-broken, pour-done, pour-short}
 use Rattle.wave.proofs.pours.pour.Goals as goal
 
 pub returns-then-is_broken : goal.returns-then-is_broken
-returns-then-is_broken c = pour-broken c.args.numbers.now c.args.out.now (sym c.is_broken.ensures ∙ c.if-is_broken.true)
+returns-then-is_broken c = let answer = pour-broken c.args.numbers.now c.args.out.now (sym c.is_broken.ensures ∙ c.if-is_broken.true) in
+    record { value = answer.0; output = answer.1 }
 
 pub returns-then-out-numbers : goal.returns-then-out-numbers
 returns-then-out-numbers c = let few = c.if-out-numbers.true in
-    pour-short c.args.numbers.now c.args.out.now (sym c.is_broken.ensures ∙ c.if-is_broken.false) (omega (arith, few))
+    let answer = pour-short c.args.numbers.now c.args.out.now (sym c.is_broken.ensures ∙ c.if-is_broken.false) (omega (arith, few)) in
+    record { value = answer.0; output = answer.1 }
 
 pub fill-requires : goal.fill-requires
 fill-requires c = let enough = c.if-out-numbers.false in
-    (sym c.is_broken.ensures ∙ c.if-is_broken.false, omega (arith, enough))
+    record { numbers_value = sym c.is_broken.ensures ∙ c.if-is_broken.false; room = omega (arith, enough) }
 
 pub returns : goal.returns
 returns c = let enough = c.if-out-numbers.false in
-    pour-done c.args.numbers.now c.args.out.now c.fill.new.1.0 (sym c.is_broken.ensures ∙ c.if-is_broken.false) (omega (arith, enough)) c.fill.ensures
+    let answer = pour-done c.args.numbers.now c.args.out.now c.fill.new.out (sym c.is_broken.ensures ∙ c.if-is_broken.false) (omega (arith, enough)) c.fill.ensures in
+    record { value = answer.0; output = answer.1 }
