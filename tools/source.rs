@@ -34,6 +34,8 @@ pub struct Source {
     pub structs: Vec<(String, Vec<String>)>,
     pub paths: Vec<(bool, Vec<String>)>,
     pub uses: Vec<Use>,
+    /// all its words, in order
+    pub words: Vec<String>,
 }
 
 /// Reads a file of the repository, and ends with its name where that fails.
@@ -70,7 +72,7 @@ pub fn read_source(krate: &str, path: &Path) -> Source {
     let named = |pair: &&[String]| pair[0] == "struct" || pair[0] == "enum";
     let types = words.windows(2).filter(named).map(|pair| bare(&pair[1]).to_string()).collect();
     let structs = (0..words.len()).filter(|&at| words[at] == "struct").map(|at| fields(&words, at)).collect();
-    Source { krate: krate.to_string(), module, functions: functions(&words), types, structs, paths, uses }
+    Source { krate: krate.to_string(), module, functions: functions(&words), types, structs, paths, uses, words }
 }
 
 /// The `use` items of a text, each path of a group by itself, and whether they are `pub`. An item ends with its semicolon.
