@@ -23,7 +23,7 @@ use Rattle.player.specs.declared.Tally.{Tally}
 use Rattle.player.specs.Cues.{idle}
 use Rattle.player.specs.Playing.{opened, forward, prepared}
 use Rattle.promises.specs.Calls.{Call, run, voice_in, frames_run, history, seats}
-use Rattle.promises.specs.Night.{struck_after, NotHeld, AllReleased, longest_release}
+use Rattle.promises.specs.Night.{strikes, leaves, struck_after, NotHeld, AllReleased, longest_release}
 use Rattle.promises.specs.Pedal.{MarksUnderPedal}
 use Rattle.promises.proofs.Banks.{came}
 use Rattle.promises.proofs.EachSlot.{never}

@@ -9,7 +9,7 @@ use Rattle.cabinet.proofs.TwinsLaws.{fill, filled}
 use Rattle.cabinet.proofs.twins.engine_to.Goals as goal
 
 pub loop-i-init : goal.loop-i-init
-loop-i-init c = let n : length c.args.t1.voices ≡ 32 = simp length-map at c.well_formed.0.1.1.0.1.0.1 in
+loop-i-init c = let n : length c.args.t1.voices ≡ 32 = c.well_formed.0.1.1.0.1.0.1 in
     (n, sym n, refl, omega arith)
 
 pub loop-i-preserved : goal.loop-i-preserved

@@ -13,7 +13,7 @@ use Rattle.engine.proofs.rendering.lacks.Goals as goal
 pub loop-i-init : goal.loop-i-init
 unfolding lacking
 loop-i-init c = let a = c.args in (
-  paired-length a.e.sounding a.e.voices ∙ simp length-map at c.well_formed.0.1.1.0.1.0.1,
+  paired-length a.e.sounding a.e.voices ∙ c.well_formed.0.1.1.0.1.0.1,
   sym (any_none (lacking_in a.ram.now a.rom.now) (slots_of a.e)),
   omega arith,
 )

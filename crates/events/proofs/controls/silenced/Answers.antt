@@ -11,7 +11,7 @@ use Rattle.events.proofs.controls.silenced.Goals as goal
 
 pub loop-i-init : goal.loop-i-init
 loop-i-init c = let e = c.args.e in (
-  paired-length e.sounding e.voices ∙ simp length-map at c.well_formed.0.1.1.0.1.0.1,
+  paired-length e.sounding e.voices ∙ c.well_formed.0.1.1.0.1.0.1,
   sym (word_none (cut (of_channel c.args.channel)) (slots_of e)),
   omega arith,
 )

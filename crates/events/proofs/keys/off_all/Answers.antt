@@ -19,7 +19,7 @@ pub loop-i-init : goal.loop-i-init
 unfolding count_to
 loop-i-init c = let e = c.args.e in
     let f = let_off c.args.down (picked c.args.channel c.args.whom) in (
-      paired-length e.sounding e.voices ∙ simp length-map at c.well_formed.0.1.1.0.1.0.1,
+      paired-length e.sounding e.voices ∙ c.well_formed.0.1.1.0.1.0.1,
       store-none f e,
       sym (word_none f (slots_of e)),
       refl,

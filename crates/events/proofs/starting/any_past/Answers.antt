@@ -18,8 +18,8 @@ pub loop-i-preserved : goal.loop-i-preserved
 unfolding any_past
 loop-i-preserved c = let a = c.args in (
   c.loop-i.invariant.0,
-  c.or_past-found.ensures ∙ ap (λ (b : Bool). b || ends_past a.ram.now a.rom.now (get_or a.t3 c.loop-i.i blank)) c.loop-i.invariant.1
-      ∙ sym (any-turn (ends_past a.ram.now a.rom.now) a.t3 c.loop-i.i blank (omega (arith, c.loop-i.invariant.0))),
+  c.or_past-found.ensures ∙ ap (λ (b : Bool). b || ends_past a.ram.now a.rom.now (get_or a.voices c.loop-i.i blank)) c.loop-i.invariant.1
+      ∙ sym (any-turn (ends_past a.ram.now a.rom.now) a.voices c.loop-i.i blank (omega (arith, c.loop-i.invariant.0))),
   omega arith,
   omega arith,
 )
@@ -27,4 +27,4 @@ loop-i-preserved c = let a = c.args in (
 pub returns : goal.returns
 returns c = let a = c.args in
     let e : c.loop-i.i ≡ a.n = omega arith in
-    c.loop-i.invariant.1 ∙ ap (λ (k : ℕ). any_past a.ram.now a.rom.now (take k a.t3)) e
+    c.loop-i.invariant.1 ∙ ap (λ (k : ℕ). any_past a.ram.now a.rom.now (take k a.voices)) e

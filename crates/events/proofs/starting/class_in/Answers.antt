@@ -17,8 +17,8 @@ pub loop-i-preserved : goal.loop-i-preserved
 unfolding class_in
 loop-i-preserved c = let a = c.args in (
   c.loop-i.invariant.0,
-  c.or_class-found.ensures ∙ ap (λ (b : Bool). b || same_class a.class (get_or a.t2 c.loop-i.i blank)) c.loop-i.invariant.1
-      ∙ sym (any-turn (same_class a.class) a.t2 c.loop-i.i blank (omega (arith, c.loop-i.invariant.0))),
+  c.or_class-found.ensures ∙ ap (λ (b : Bool). b || same_class a.class (get_or a.voices c.loop-i.i blank)) c.loop-i.invariant.1
+      ∙ sym (any-turn (same_class a.class) a.voices c.loop-i.i blank (omega (arith, c.loop-i.invariant.0))),
   omega arith,
   omega arith,
 )

@@ -13,7 +13,7 @@ use Rattle.events.proofs.starting.clear_rivals.Goals as goal
 pub loop-i-init : goal.loop-i-init
 loop-i-init c = let a = c.args in
     let e = a.e in (
-      paired-length e.sounding e.voices ∙ simp length-map at c.well_formed.0.1.1.0.1.0.1,
+      paired-length e.sounding e.voices ∙ c.well_formed.0.1.1.0.1.0.1,
       sym (word_none (cut (rival a.channel (take a.n a.voices))) (slots_of e)),
       omega arith,
     )

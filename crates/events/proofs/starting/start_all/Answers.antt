@@ -15,8 +15,8 @@ loop-i-init c = (c.well_formed.1.0.1.0.1, sym (start_none c.args.voices (begin c
 pub loop-i-preserved : goal.loop-i-preserved
 loop-i-preserved c = let a = c.args in (
   c.loop-i.invariant.0,
-  c.start_one-b.ensures ∙ ap (start (get_or a.t2 c.loop-i.i blank)) c.loop-i.invariant.1
-      ∙ sym (start-turn a.t2 c.loop-i.i (begin a.e) (omega (arith, c.loop-i.invariant.0))),
+  c.start_one-b.ensures ∙ ap (start (get_or a.voices c.loop-i.i blank)) c.loop-i.invariant.1
+      ∙ sym (start-turn a.voices c.loop-i.i (begin a.e) (omega (arith, c.loop-i.invariant.0))),
   omega arith,
   omega arith,
 )
@@ -24,4 +24,4 @@ loop-i-preserved c = let a = c.args in (
 pub returns : goal.returns
 returns c = let a = c.args in
     let e : c.loop-i.i ≡ a.n = omega arith in
-    c.loop-i.invariant.1 ∙ ap (λ (k : ℕ). start_all (take k a.t2) (begin a.e)) e
+    c.loop-i.invariant.1 ∙ ap (λ (k : ℕ). start_all (take k a.voices) (begin a.e)) e

@@ -2,7 +2,6 @@
 use borrow.Author.Rules.{rules}
 use mathlib.Core.Bool.{false}
 use mathlib.Core.List.{List, ◌++◌, append-nil}
-use mathlib.Core.Logic.{⊎_elim}
 use mathlib.Core.Path.{refl, sym, ap, ap₂, ◌∙◌}
 use native.Mathlib.Omega.{arith}
 use Prim.Native.Nat.{ℕ, ◌+◌, ◌-◌}
@@ -14,6 +13,7 @@ use Rattle.layers.proofs.LayerSearchLaws.{padded, made, stopped, stored, counted
 use Rattle.layers.proofs.BarrenLaws.{none-known, noted-length, known-again, entered-chosen, passed-by, below-skip}
 use Rattle.layers.specs.declared.Pair.{Pair}
 use Rattle.layers.proofs.layer_search.search.Goals as goal
+use Rattle.layers.proofs.layer_search.search.Goals.{then-picked+else-found-eq33, else-picked, then-enters+else-loop-j-test, else-enters, else-search-test, then-search-test+then-enters+then-loop-j-test+then-picked+then-found-eq33}
 
 pub search-init : goal.search-init
 unfolding layers_below padded
@@ -37,15 +37,9 @@ loop-j-preserved c = let a = c.args in
     let asked = chosen_by b i a.key a.velocity k (low + j) _ _ _ c.picked.ensures c.zone_at-inner.ensures c.global_of-beside.ensures in
     let yes = under-yes b i a.key a.velocity z k low begins j in
     let no = under-no b i a.key a.velocity z k low begins j in (
-      ⊎_elim
-          (λ w. w.2 ∙ stored found (u j) (u (j + 1)) _ _ _ c.loop-j.invariant.0 c.loop-j.invariant.1 c.loop-j.invariant.2 (yes (asked ∙ w.0.taken)))
-          (λ w. w.1 ∙ c.loop-j.invariant.0 ∙ ap (λ (x : List Pair). padded (found ++ x)) (sym (no (asked ∙ w.0.left))))
-          c.if-picked.branch,
-      ⊎_elim
-          (λ w. w.3 ∙ counted found (u j) (u (j + 1)) _ _ c.loop-j.invariant.1 (yes (asked ∙ w.0.taken)))
-          (λ w. w.2 ∙ c.loop-j.invariant.1 ∙ ap (λ (x : List Pair). length (found ++ x)) (sym (no (asked ∙ w.0.left))))
-          c.if-picked.branch,
-      ⊎_elim (λ w. omega (arith, c.loop-j.invariant.2)) (λ w. omega (arith, c.loop-j.invariant.2)) c.if-picked.branch,
+      elim c.if-picked.branch [ then-picked+else-found-eq33 w ↦ w.pairs-is ∙ stored found (u j) (u (j + 1)) _ _ _ c.loop-j.invariant.0 c.loop-j.invariant.1 c.loop-j.invariant.2 (yes (asked ∙ w.if-picked.true)) | else-picked w ↦ w.pairs-is ∙ c.loop-j.invariant.0 ∙ ap (λ (x : List Pair). padded (found ++ x)) (sym (no (asked ∙ w.if-picked.false))) ],
+      elim c.if-picked.branch [ then-picked+else-found-eq33 w ↦ w.found-is ∙ counted found (u j) (u (j + 1)) _ _ c.loop-j.invariant.1 (yes (asked ∙ w.if-picked.true)) | else-picked w ↦ w.found-is ∙ c.loop-j.invariant.1 ∙ ap (λ (x : List Pair). length (found ++ x)) (sym (no (asked ∙ w.if-picked.false))) ],
+      elim c.if-picked.branch [ then-picked+else-found-eq33 w ↦ omega (arith, c.loop-j.invariant.2) | else-picked w ↦ omega (arith, c.loop-j.invariant.2) ],
       search rules,
     )
 
@@ -65,24 +59,18 @@ search-preserved c = let a = c.args in
     let no = passed-by b p a.key a.velocity a.h (from + n) zone _ barren _ c.enters.ensures is c.global_of-above.ensures in
     let turn = below-turn b p i a.key a.velocity a.h from begins n in
     let stay = below-skip b p i a.key a.velocity a.h from begins n zone is barren c.search.invariant.7 in (
-      ⊎_elim
-          (λ w. w.10 ∙ w.5.inv.0 ∙ ap padded (turn w.3.result zone (yes w.0.taken) is w.3.ensures w.5.j (omega (arith, w.6.left, w.5.inv.3))))
-          (λ w. w.1 ∙ c.search.invariant.0 ∙ ap padded (sym (stay (no w.0.left))))
-          c.if-enters.branch,
-      ⊎_elim
-          (λ w. w.12 ∙ w.5.inv.1 ∙ ap length (turn w.3.result zone (yes w.0.taken) is w.3.ensures w.5.j (omega (arith, w.6.left, w.5.inv.3))))
-          (λ w. w.3 ∙ c.search.invariant.1 ∙ ap length (sym (stay (no w.0.left))))
-          c.if-enters.branch,
-      ⊎_elim (λ w. omega (arith, w.12, w.5.inv.2)) (λ w. omega (arith, w.3, c.search.invariant.2)) c.if-enters.branch,
+      elim c.if-enters.branch [ then-enters+else-loop-j-test w ↦ w.pairs-is ∙ w.loop-j.invariant.0 ∙ ap padded (turn w.zone_count-many.result zone (yes w.if-enters.true) is w.zone_count-many.ensures w.loop-j.j (omega (arith, w.loop-j-test.false, w.loop-j.invariant.3))) | else-enters w ↦ w.pairs-is ∙ c.search.invariant.0 ∙ ap padded (sym (stay (no w.if-enters.false))) ],
+      elim c.if-enters.branch [ then-enters+else-loop-j-test w ↦ w.found-is ∙ w.loop-j.invariant.1 ∙ ap length (turn w.zone_count-many.result zone (yes w.if-enters.true) is w.zone_count-many.ensures w.loop-j.j (omega (arith, w.loop-j-test.false, w.loop-j.invariant.3))) | else-enters w ↦ w.found-is ∙ c.search.invariant.1 ∙ ap length (sym (stay (no w.if-enters.false))) ],
+      elim c.if-enters.branch [ then-enters+else-loop-j-test w ↦ omega (arith, w.found-is, w.loop-j.invariant.2) | else-enters w ↦ omega (arith, w.found-is, c.search.invariant.2) ],
       omega (arith, c.search-test.true),
       search rules,
       search rules,
-      ⊎_elim (λ w. noted-length barren _ _ _ 3072 (w.11 ∙ w.8.ensures) c.search.invariant.6) (λ w. ap length w.2 ∙ c.search.invariant.6) c.if-enters.branch,
-      ⊎_elim (λ w. known-again b i a.key a.velocity (from + n) zone.link barren _ found c.search.found w.5.found w.5.j c.search.invariant.7 c.search.invariant.1 w.5.inv.1 (omega (arith, w.6.left, w.5.inv.3, w.3.ensures)) (w.11 ∙ w.8.ensures)) (λ w. rw w.2 c.search.invariant.7) c.if-enters.branch,
+      elim c.if-enters.branch [ then-enters+else-loop-j-test w ↦ noted-length barren _ _ _ 3072 (w.barren-is ∙ w.note_barren.ensures) c.search.invariant.6 | else-enters w ↦ ap length w.barren-is ∙ c.search.invariant.6 ],
+      elim c.if-enters.branch [ then-enters+else-loop-j-test w ↦ known-again b i a.key a.velocity (from + n) zone.link barren _ found c.search.found w.loop-j.found w.loop-j.j c.search.invariant.7 c.search.invariant.1 w.loop-j.invariant.1 (omega (arith, w.loop-j-test.false, w.loop-j.invariant.3, w.zone_count-many.ensures)) (w.barren-is ∙ w.note_barren.ensures) | else-enters w ↦ rw w.barren-is c.search.invariant.7 ],
     )
 
 pub overflow_cast-result : goal.overflow_cast-result
-overflow_cast-result c = ⊎_elim (λ w. omega (arith, w.2, c.search.invariant.2)) (λ w. omega (arith, w.16, w.9.inv.2)) c.search-test.branch
+overflow_cast-result c = elim c.search-test.branch [ else-search-test w ↦ omega (arith, w.found-is, c.search.invariant.2) | then-search-test+then-enters+then-loop-j-test+then-picked+then-found-eq33 w ↦ omega (arith, w.found-is, w.loop-j.invariant.2) ]
 
 pub returns : goal.returns
 unfolding searched layers_of
@@ -97,15 +85,14 @@ returns c = let a = c.args in
     let front = in-front b p i a.key a.velocity a.h from begins n in
     let all = zone_count b p a.h in
     let counts = c.zone_count-count.ensures in
-    ⊎_elim
-    (λ w. ap₂ made (w.2 ∙ c.search.invariant.1) (w.1 ∙ c.search.invariant.0) ∙ sym (all_found (l n) (omega (arith, c.search.invariant.1, c.search.invariant.2))) ∙ ap (λ (x : ℕ). up_to33 (l x)) (omega (arith, w.0.left, c.search.invariant.3, counts)))
-    (λ w.
-    let k = w.1.result.link in
-    let j = w.9.j in
-    let u = under b i a.key a.velocity (from + n) k in
-    let outer = entered-chosen b p a.key a.velocity a.h (from + n) w.1.result _ c.search.barren _ w.3.ensures w.1.ensures c.global_of-above.ensures w.4.taken in
-    let inner = chosen_by b i a.key a.velocity k (w.6.result + j) _ _ _ w.12.ensures w.11.ensures w.8.ensures ∙ w.13.taken in
-    let next = under-yes b i a.key a.velocity (from + n) k w.6.result w.6.ensures j inner in
-    let rest = front w.7.result w.1.result outer w.1.ensures w.7.ensures j all (omega (arith, w.10.taken)) (omega (arith, w.0.taken, counts)) in
-    ap₂ made w.16 w.15 ∙ stopped (l n) (u j) (u (j + 1)) (l all) _ _ _ w.9.inv.0 w.9.inv.1 w.14.taken next rest)
-    c.search-test.branch
+    elim c.search-test.branch [
+      | else-search-test w ↦ ap₂ made (w.found-is ∙ c.search.invariant.1) (w.pairs-is ∙ c.search.invariant.0) ∙ sym (all_found (l n) (omega (arith, c.search.invariant.1, c.search.invariant.2))) ∙ ap (λ (x : ℕ). up_to33 (l x)) (omega (arith, w.search-test.false, c.search.invariant.3, counts))
+      | then-search-test+then-enters+then-loop-j-test+then-picked+then-found-eq33 w ↦ let k = w.zone_at-zone.result.link in
+          let j = w.loop-j.j in
+          let u = under b i a.key a.velocity (from + n) k in
+          let outer = entered-chosen b p a.key a.velocity a.h (from + n) w.zone_at-zone.result _ c.search.barren _ w.enters.ensures w.zone_at-zone.ensures c.global_of-above.ensures w.if-enters.true in
+          let inner = chosen_by b i a.key a.velocity k (w.bag_of-low.result + j) _ _ _ w.picked.ensures w.zone_at-inner.ensures w.global_of-beside.ensures ∙ w.if-picked.true in
+          let next = under-yes b i a.key a.velocity (from + n) k w.bag_of-low.result w.bag_of-low.ensures j inner in
+          let rest = front w.zone_count-many.result w.zone_at-zone.result outer w.zone_at-zone.ensures w.zone_count-many.ensures j all (omega (arith, w.loop-j-test.true)) (omega (arith, w.search-test.true, counts)) in
+          ap₂ made w.found-is w.pairs-is ∙ stopped (l n) (u j) (u (j + 1)) (l all) _ _ _ w.loop-j.invariant.0 w.loop-j.invariant.1 w.if-found-eq33.true next rest
+    ]

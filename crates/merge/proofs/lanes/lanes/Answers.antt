@@ -135,11 +135,10 @@ pub returns-in-At : goal.returns-in-At
 returns-in-At c = let a = c.args in
     let p = c.requires in
     let t = sym c.track_from-h.ensures ∙ c.in-Track.is in
-    let u = (c.settled-e.ensures.value, c.settled-e.ensures.settled) in
     let f = c.flaw-flaw.ensures in
     let g = c.in-At.is in
-    let r = flawed a.b.now a.count a.from c.loop-k.ticks c.loop-k.entries c.loop-k.at c.loop-k.k c.loop-k.invariant (omega arith) _ _ _ _ (omega arith) u.0 t (sym f ∙ g) in
-    record { result_value = r.0; lined = lined-way a.b.now _ (way-more a.b.now c.loop-k.k c.loop-k.entries c.loop-k.ticks _ (omega arith) c.loop-k.invariant.way u.1); flaw = g ∙ r.1 }
+    let r = flawed a.b.now a.count a.from c.loop-k.ticks c.loop-k.entries c.loop-k.at c.loop-k.k c.loop-k.invariant (omega arith) _ _ _ _ (omega arith) c.settled-e.ensures.value t (sym f ∙ g) in
+    record { result_value = r.0; lined = lined-way a.b.now _ (way-more a.b.now c.loop-k.k c.loop-k.entries c.loop-k.ticks _ (omega arith) c.loop-k.invariant.way c.settled-e.ensures.settled); flaw = g ∙ r.1 }
 
 pub loop-k-smaller : goal.loop-k-smaller
 loop-k-smaller c = omega arith
@@ -147,9 +146,8 @@ loop-k-smaller c = omega arith
 pub loop-k-preserved : goal.loop-k-preserved
 loop-k-preserved c = let a = c.args in
     let t = sym c.track_from-h.ensures ∙ c.in-Track.is in
-    let u = (c.settled-e.ensures.value, c.settled-e.ensures.settled) in
     let f = sym c.flaw-flaw.ensures ∙ c.in-None.is in
-    goes_on a.b.now a.count a.from c.loop-k.ticks c.loop-k.entries c.loop-k.at c.loop-k.k c.loop-k.invariant (omega arith) _ _ _ (omega arith) u.1 u.0 t f
+    goes_on a.b.now a.count a.from c.loop-k.ticks c.loop-k.entries c.loop-k.at c.loop-k.k c.loop-k.invariant (omega arith) _ _ _ (omega arith) c.settled-e.ensures.settled c.settled-e.ensures.value t f
 
 pub returns : goal.returns
 returns c = let a = c.args in

@@ -34,13 +34,11 @@ put-p-requires c = let a = c.args in
 pub put_data-requires-2 : goal.put_data-requires-2
 put_data-requires-2 c = let a = c.args in
     let p = rw (spoken a.running a.status a.first a.second c.if-status-running.false) at c.requires in
-    let w = (c.put-p.ensures.value, c.put-p.ensures.output) in
-    room-then a.out.now a.at (a.status ∷ []) (data_bytes a.status a.first a.second) p _ _ w.0 w.1
+    room-then a.out.now a.at (a.status ∷ []) (data_bytes a.status a.first a.second) p _ _ c.put-p.ensures.value c.put-p.ensures.output
 
 pub returns : goal.returns
 returns c = let a = c.args in
     let s = spoken a.running a.status a.first a.second c.if-status-running.false in
     let p = rw s at c.requires in
-    let w = (c.put-p.ensures.value, c.put-p.ensures.output) in
-    let d = (c.put_data-2.ensures.value, c.put_data-2.ensures.output) in
-    rw s (laid_then a.out.now a.at (a.status ∷ []) (data_bytes a.status a.first a.second) p _ _ w.0 w.1 _ _ d.0 d.1)
+    let answer = laid_then a.out.now a.at (a.status ∷ []) (data_bytes a.status a.first a.second) p _ _ c.put-p.ensures.value c.put-p.ensures.output _ _ c.put_data-2.ensures.value c.put_data-2.ensures.output in
+    rw s (record { value = answer.0; output = answer.1 })

@@ -13,13 +13,14 @@ put_gap-p-requires c = rw c.gap.ensures (omega (arith, c.requires, closing-lengt
 pub put-requires : goal.put-requires
 unfolding closing_bytes
 put-requires c = let a = c.args in
-    let w = rw c.gap.ensures at (c.put_gap-p.ensures.value, c.put_gap-p.ensures.output) in
-    room-then a.out.now a.at (gap_bytes a.l.tempo (a.l.end - a.l.tick)) (255 ∷ 47 ∷ 0 ∷ []) c.requires _ _ w.0 w.1
+    let w-value = rw c.gap.ensures at c.put_gap-p.ensures.value in
+    let w-output = rw c.gap.ensures at c.put_gap-p.ensures.output in
+    room-then a.out.now a.at (gap_bytes a.l.tempo (a.l.end - a.l.tick)) (255 ∷ 47 ∷ 0 ∷ []) c.requires _ _ w-value w-output
 
 pub returns : goal.returns
 unfolding closing_bytes
 returns c = let a = c.args in
-    let w = rw c.gap.ensures at (c.put_gap-p.ensures.value, c.put_gap-p.ensures.output) in
-    let d = (c.put.ensures.value, c.put.ensures.output) in
-    let answer = laid_then a.out.now a.at (gap_bytes a.l.tempo (a.l.end - a.l.tick)) (255 ∷ 47 ∷ 0 ∷ []) c.requires _ _ w.0 w.1 _ _ d.0 d.1 in
+    let w-value = rw c.gap.ensures at c.put_gap-p.ensures.value in
+    let w-output = rw c.gap.ensures at c.put_gap-p.ensures.output in
+    let answer = laid_then a.out.now a.at (gap_bytes a.l.tempo (a.l.end - a.l.tick)) (255 ∷ 47 ∷ 0 ∷ []) c.requires _ _ w-value w-output _ _ c.put.ensures.value c.put.ensures.output in
     record { value = answer.0; output = answer.1 }

@@ -20,22 +20,22 @@ pub put_tempo-requires : goal.put_tempo-requires
 unfolding three_bytes
 put_tempo-requires c = let a = c.args in
     let p = rw (entry-tempo a.l a.e _ _ c.in-Tempo.is) at c.requires in
-    let w = rw c.gap-ticks.ensures at (c.put_gap-p.ensures.value, c.put_gap-p.ensures.output) in
-    room-then a.out.now a.at (gap_bytes a.l.tempo (a.e.tick - a.l.tick)) (255 ∷ 81 ∷ 3 ∷ three_bytes c.in-Tempo.tempo) p _ _ w.0 w.1
+    let w-value = rw c.gap-ticks.ensures at c.put_gap-p.ensures.value in
+    let w-output = rw c.gap-ticks.ensures at c.put_gap-p.ensures.output in
+    room-then a.out.now a.at (gap_bytes a.l.tempo (a.e.tick - a.l.tick)) (255 ∷ 81 ∷ 3 ∷ three_bytes c.in-Tempo.tempo) p _ _ w-value w-output
 
 pub put_gap-p-requires-in-Channel : goal.put_gap-p-requires-in-Channel
 put_gap-p-requires-in-Channel c = let a = c.args in
-    let i = c.item-in-Channel-1.given.0 in
     let p = rw (entry-channel a.l a.e _ _ _ _ c.in-Channel.is) at c.requires in
-    rw c.gap-ticks.ensures (omega (arith, p, length-append (gap_bytes a.l.tempo (a.e.tick - a.l.tick)) (event_bytes true (running_after a.l.running (a.e.tick - a.l.tick)) (Mark.Channel 0 i.0 i.1.0 i.1.1.0))))
+    rw c.gap-ticks.ensures (omega (arith, p, length-append (gap_bytes a.l.tempo (a.e.tick - a.l.tick)) (event_bytes true (running_after a.l.running (a.e.tick - a.l.tick)) (Mark.Channel 0 c.in-Channel.status c.in-Channel.first c.in-Channel.second))))
 
 pub put_channel-requires : goal.put_channel-requires
 put_channel-requires c = let a = c.args in
-    let i = c.item-in-Channel-1.given.0 in
     let p = rw (entry-channel a.l a.e _ _ _ _ c.in-Channel.is) at c.requires in
-    let w = rw c.gap-ticks.ensures at (c.put_gap-p-in-Channel.ensures.value, c.put_gap-p-in-Channel.ensures.output) in
+    let w-value = rw c.gap-ticks.ensures at c.put_gap-p-in-Channel.ensures.value in
+    let w-output = rw c.gap-ticks.ensures at c.put_gap-p-in-Channel.ensures.output in
     let r = rw c.gap-ticks.ensures at c.running_after.ensures in
-    rw r (room-then a.out.now a.at (gap_bytes a.l.tempo (a.e.tick - a.l.tick)) (event_bytes true (running_after a.l.running (a.e.tick - a.l.tick)) (Mark.Channel 0 i.0 i.1.0 i.1.1.0)) p _ _ w.0 w.1)
+    rw r (room-then a.out.now a.at (gap_bytes a.l.tempo (a.e.tick - a.l.tick)) (event_bytes true (running_after a.l.running (a.e.tick - a.l.tick)) (Mark.Channel 0 c.in-Channel.status c.in-Channel.first c.in-Channel.second)) p _ _ w-value w-output)
 
 pub returns-in-Bad : goal.returns-in-Bad
 returns-in-Bad c = let a = c.args in
@@ -57,16 +57,19 @@ unfolding three_bytes
 returns-in-Tempo c = let a = c.args in
     let e = entry-tempo a.l a.e _ _ c.in-Tempo.is in
     let p = rw e at c.requires in
-    let w = rw c.gap-ticks.ensures at (c.put_gap-p.ensures.value, c.put_gap-p.ensures.output) in
-    let t = (c.put_tempo.ensures.value, c.put_tempo.ensures.output) in
-    rw e (laid_then a.out.now a.at (gap_bytes a.l.tempo (a.e.tick - a.l.tick)) (255 ∷ 81 ∷ 3 ∷ three_bytes c.in-Tempo.tempo) p _ _ w.0 w.1 _ _ t.0 t.1)
+    let w-value = rw c.gap-ticks.ensures at c.put_gap-p.ensures.value in
+    let w-output = rw c.gap-ticks.ensures at c.put_gap-p.ensures.output in
+    let answer = laid_then a.out.now a.at (gap_bytes a.l.tempo (a.e.tick - a.l.tick)) (255 ∷ 81 ∷ 3 ∷ three_bytes c.in-Tempo.tempo) p _ _ w-value w-output _ _ c.put_tempo.ensures.value c.put_tempo.ensures.output in
+    rw e (record { value = answer.0; output = answer.1 })
 
 pub returns-in-Channel : goal.returns-in-Channel
 returns-in-Channel c = let a = c.args in
-    let i = c.item-in-Channel-1.given.0 in
     let e = entry-channel a.l a.e _ _ _ _ c.in-Channel.is in
     let p = rw e at c.requires in
-    let w = rw c.gap-ticks.ensures at (c.put_gap-p-in-Channel.ensures.value, c.put_gap-p-in-Channel.ensures.output) in
+    let w-value = rw c.gap-ticks.ensures at c.put_gap-p-in-Channel.ensures.value in
+    let w-output = rw c.gap-ticks.ensures at c.put_gap-p-in-Channel.ensures.output in
     let r = rw c.gap-ticks.ensures at c.running_after.ensures in
-    let t = rw r at (c.put_channel.ensures.value, c.put_channel.ensures.output) in
-    rw e (laid_then a.out.now a.at (gap_bytes a.l.tempo (a.e.tick - a.l.tick)) (event_bytes true (running_after a.l.running (a.e.tick - a.l.tick)) (Mark.Channel 0 i.0 i.1.0 i.1.1.0)) p _ _ w.0 w.1 _ _ t.0 t.1)
+    let t-value = rw r at c.put_channel.ensures.value in
+    let t-output = rw r at c.put_channel.ensures.output in
+    let answer = laid_then a.out.now a.at (gap_bytes a.l.tempo (a.e.tick - a.l.tick)) (event_bytes true (running_after a.l.running (a.e.tick - a.l.tick)) (Mark.Channel 0 c.in-Channel.status c.in-Channel.first c.in-Channel.second)) p _ _ w-value w-output _ _ t-value t-output in
+    rw e (record { value = answer.0; output = answer.1 })

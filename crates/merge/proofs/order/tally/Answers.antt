@@ -108,8 +108,7 @@ loop-j-smaller c = let a = c.args in
 
 pub loop-j-preserved : goal.loop-j-preserved
 loop-j-preserved c = let a = c.args in
-    let n = (c.advanced-next.ensures.value, c.advanced-next.ensures.settled) in
-    again a.b.now a.l (3600000000 * a.division) c.loop-j.ticks c.loop-j.entries c.loop-j.t c.loop-j.j c.loop-j.invariant c.loop-j-test.true _ _ _ n.0 n.1 c.told-t.ensures c.earliest-j-in-loop-j.ensures
+    again a.b.now a.l (3600000000 * a.division) c.loop-j.ticks c.loop-j.entries c.loop-j.t c.loop-j.j c.loop-j.invariant c.loop-j-test.true _ _ _ c.advanced-next.ensures.value c.advanced-next.ensures.settled c.told-t.ensures c.earliest-j-in-loop-j.ensures
 
 pub returns : goal.returns
 returns c = let a = c.args in

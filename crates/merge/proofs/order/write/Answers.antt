@@ -124,10 +124,9 @@ earliest-j-requires c = c.requires.lined.room
 pub loop-j-init : goal.loop-j-init
 loop-j-init c = let a = c.args in
     let p = c.requires.lined in
-    let w = (c.put_head-at.ensures.value, c.put_head-at.ensures.output) in
     let r = c.line_start-line.ensures in
     let n = head-length a.division a.size in
-    let o = ap length w.1 ∙ laid-length a.out.now 0 (head_bytes a.division a.size) (omega (arith, n, c.requires.room)) in
+    let o = ap length c.put_head-at.ensures.output ∙ laid-length a.out.now 0 (head_bytes a.division a.size) (omega (arith, n, c.requires.room)) in
     record {
       way = record { room = p.room; whole = p.whole; own = p.ticks; settled = p.settled };
       next = c.earliest-j.ensures;
@@ -135,7 +134,7 @@ loop-j-init c = let a = c.args in
       there = omega arith;
       laid = sym (laid_none c.put_head-at.new.out c.put_head-at.result);
       all = rw r refl;
-      room = omega (arith, o, w.0, c.requires.room);
+      room = omega (arith, o, c.put_head-at.ensures.value, c.requires.room);
     }
 
 pub offset_bounds-entries-j : goal.offset_bounds-entries-j
@@ -176,9 +175,7 @@ loop-j-smaller c = let a = c.args in
 
 pub loop-j-preserved : goal.loop-j-preserved
 loop-j-preserved c = let a = c.args in
-    let n = (c.advanced-next.ensures.value, c.advanced-next.ensures.settled) in
-    let w = (c.put_entry-at.ensures.value, c.put_entry-at.ensures.output) in
-    again a.b.now a.l _ _ _ c.loop-j.out c.loop-j.at c.loop-j.line c.loop-j.ticks c.loop-j.entries c.loop-j.j c.loop-j.invariant c.loop-j-test.true _ _ _ _ _ n.0 n.1 c.line_after-line.ensures c.earliest-j-in-loop-j.ensures w.0 w.1
+    again a.b.now a.l _ _ _ c.loop-j.out c.loop-j.at c.loop-j.line c.loop-j.ticks c.loop-j.entries c.loop-j.j c.loop-j.invariant c.loop-j-test.true _ _ _ _ _ c.advanced-next.ensures.value c.advanced-next.ensures.settled c.line_after-line.ensures c.earliest-j-in-loop-j.ensures c.put_entry-at.ensures.value c.put_entry-at.ensures.output
 
 pub put_end-requires : goal.put_end-requires
 put_end-requires c = let a = c.args in
@@ -191,10 +188,8 @@ shape_of-out c = let a = c.args in
 
 pub returns : goal.returns
 returns c = let a = c.args in
-    let h = (c.put_head-at.ensures.value, c.put_head-at.ensures.output) in
-    let w = (c.put_end.ensures.value, c.put_end.ensures.output) in
     let n = head-length a.division a.size in
     let file = line_bytes line_start (lane_sequence a.b.now a.l) in
-    let d = done a.b.now a.l file _ _ c.loop-j.out c.loop-j.at c.loop-j.line c.loop-j.ticks c.loop-j.entries c.loop-j.j c.loop-j.invariant c.loop-j-test.false _ _ w.0 w.1 in
-    let answer = rejoined a.out.now (head_bytes a.division a.size) file _ _ _ n (omega (arith, c.requires.room)) h.0 h.1 d in
+    let d = done a.b.now a.l file _ _ c.loop-j.out c.loop-j.at c.loop-j.line c.loop-j.ticks c.loop-j.entries c.loop-j.j c.loop-j.invariant c.loop-j-test.false _ _ c.put_end.ensures.value c.put_end.ensures.output in
+    let answer = rejoined a.out.now (head_bytes a.division a.size) file _ _ _ n (omega (arith, c.requires.room)) c.put_head-at.ensures.value c.put_head-at.ensures.output d in
     record { output = answer }

@@ -46,9 +46,8 @@ unfolding three_bytes
 put_tempo-p-requires c = let behind : (c.put_quantity-p.result ≡ c.args.at + length (bridge_bytes c.args.tempo c.loop-k.k ++ delta))
     × (c.put_quantity-p.new.out ≡ laid_over c.args.out.now c.args.at (bridge_bytes c.args.tempo c.loop-k.k ++ delta)) = let i = c.loop-k.invariant in
     let a = c.args in
-    let q = (c.put_quantity-p.ensures.value, c.put_quantity-p.ensures.output) in
     let r = room-front a.out.now a.at a.tempo a.n c.loop-k.k c.loop-k-test.true c.requires in
-    laid_then a.out.now a.at (bridge_bytes a.tempo c.loop-k.k) delta r _ _ i.1 i.0 _ _ q.0 q.1 in
+    laid_then a.out.now a.at (bridge_bytes a.tempo c.loop-k.k) delta r _ _ i.1 i.0 _ _ c.put_quantity-p.ensures.value c.put_quantity-p.ensures.output in
     let a = c.args in
     let r = room_for a.out.now a.at a.tempo a.n c.loop-k.k c.loop-k-test.true c.requires in
     let w = behind in
@@ -62,14 +61,12 @@ unfolding three_bytes
 loop-k-preserved c = let behind : (c.put_quantity-p.result ≡ c.args.at + length (bridge_bytes c.args.tempo c.loop-k.k ++ delta))
     × (c.put_quantity-p.new.out ≡ laid_over c.args.out.now c.args.at (bridge_bytes c.args.tempo c.loop-k.k ++ delta)) = let i = c.loop-k.invariant in
     let a = c.args in
-    let q = (c.put_quantity-p.ensures.value, c.put_quantity-p.ensures.output) in
     let r = room-front a.out.now a.at a.tempo a.n c.loop-k.k c.loop-k-test.true c.requires in
-    laid_then a.out.now a.at (bridge_bytes a.tempo c.loop-k.k) delta r _ _ i.1 i.0 _ _ q.0 q.1 in
+    laid_then a.out.now a.at (bridge_bytes a.tempo c.loop-k.k) delta r _ _ i.1 i.0 _ _ c.put_quantity-p.ensures.value c.put_quantity-p.ensures.output in
     let a = c.args in
     let r = room_for a.out.now a.at a.tempo a.n c.loop-k.k c.loop-k-test.true c.requires in
     let w = behind in
-    let t = (c.put_tempo-p.ensures.value, c.put_tempo-p.ensures.output) in
-    let both = laid_then a.out.now a.at (bridge_bytes a.tempo c.loop-k.k ++ delta) (change a.tempo) r _ _ w.0 w.1 _ _ t.0 t.1 in
+    let both = laid_then a.out.now a.at (bridge_bytes a.tempo c.loop-k.k ++ delta) (change a.tempo) r _ _ w.0 w.1 _ _ c.put_tempo-p.ensures.value c.put_tempo-p.ensures.output in
     let e = one_more a.tempo c.loop-k.k in
     let x = rw e at both.1 in
     let y = rw e at both.0 in

@@ -16,13 +16,16 @@ put_bridges-p-requires c = let a = c.args in
 pub put_quantity-requires : goal.put_quantity-requires
 unfolding gap_bytes
 put_quantity-requires c = let a = c.args in
-    let w = rw c.bridges.ensures.0 at (c.put_bridges-p.ensures.value, c.put_bridges-p.ensures.output) in
-    (rw c.rest.ensures.0 (room-then a.out.now a.at (bridge_bytes a.tempo (bridges_of a.ticks)) (quantity_bytes (rest_of a.ticks)) c.requires _ _ w.0 w.1), c.rest.ensures.1)
+    let w-value = rw c.bridges.ensures.0 at c.put_bridges-p.ensures.value in
+    let w-output = rw c.bridges.ensures.0 at c.put_bridges-p.ensures.output in
+    (rw c.rest.ensures.0 (room-then a.out.now a.at (bridge_bytes a.tempo (bridges_of a.ticks)) (quantity_bytes (rest_of a.ticks)) c.requires _ _ w-value w-output), c.rest.ensures.1)
 
 pub returns : goal.returns
 unfolding gap_bytes
 returns c = let a = c.args in
-    let w = rw c.bridges.ensures.0 at (c.put_bridges-p.ensures.value, c.put_bridges-p.ensures.output) in
-    let q = rw c.rest.ensures.0 at (c.put_quantity.ensures.value, c.put_quantity.ensures.output) in
-    let answer = laid_then a.out.now a.at (bridge_bytes a.tempo (bridges_of a.ticks)) (quantity_bytes (rest_of a.ticks)) c.requires _ _ w.0 w.1 _ _ q.0 q.1 in
+    let w-value = rw c.bridges.ensures.0 at c.put_bridges-p.ensures.value in
+    let w-output = rw c.bridges.ensures.0 at c.put_bridges-p.ensures.output in
+    let q-value = rw c.rest.ensures.0 at c.put_quantity.ensures.value in
+    let q-output = rw c.rest.ensures.0 at c.put_quantity.ensures.output in
+    let answer = laid_then a.out.now a.at (bridge_bytes a.tempo (bridges_of a.ticks)) (quantity_bytes (rest_of a.ticks)) c.requires _ _ w-value w-output _ _ q-value q-output in
     record { value = answer.0; output = answer.1 }

@@ -12,7 +12,7 @@ use Rattle.player.proofs.asking.held_in.Goals as goal
 pub loop-i-init : goal.loop-i-init
 unfolding count_to
 loop-i-init c = let e = c.args.e in
-    (paired-length e.sounding e.voices ∙ simp length-map at c.well_formed.0.1.1.0.1.0.1, refl, omega arith)
+    (paired-length e.sounding e.voices ∙ c.well_formed.0.1.1.0.1.0.1, refl, omega arith)
 
 pub overflow_add-count : goal.overflow_add-count
 overflow_add-count c = let counted : c.loop-i.count + c.one_if_held-count.result

@@ -8,6 +8,6 @@ use Rattle.state.proofs.board.voice_count.Goals as goal
 
 pub returns : goal.returns
 returns c = let e = c.args.e in
-    let n : length e.voices ≡ 32 = simp length-map at c.well_formed.0.1.1.0.1.0.1 in
+    let n : length e.voices ≡ 32 = c.well_formed.0.1.1.0.1.0.1 in
     let p : 2 ^ length e.voices ≡ 4294967296 = ap (λ (k : ℕ). 2 ^ k) n in
     c.count.ensures.0 ∙ ones-voices e (omega arith)

@@ -14,19 +14,19 @@ loop-k-init c = (c.well_formed.0.1.0.1, omega arith, omega arith)
 
 pub returns-then-order-k : goal.returns-then-order-k
 returns-then-order-k c = let a = c.args in
-    let xs = map as_slot a.t1 in
+    let xs = map as_slot a.order in
     let n : length xs ≡ 32 = simp length-map c.loop-k.invariant.0 in
-    sym (first-here a.i xs c.loop-k.k (omega arith) c.loop-k.invariant.1 (map_at as_slot a.t1 c.loop-k.k 0 refl ∙ c.if-order-k.true))
+    sym (first-here a.i xs c.loop-k.k (omega arith) c.loop-k.invariant.1 (map_at as_slot a.order c.loop-k.k 0 refl ∙ c.if-order-k.true))
 
 pub loop-k-preserved : goal.loop-k-preserved
 loop-k-preserved c = let a = c.args in
-    let xs = map as_slot a.t1 in
+    let xs = map as_slot a.order in
     let n : length xs ≡ 32 = simp length-map c.loop-k.invariant.0 in
-    let on = first_on a.i xs c.loop-k.k (omega arith) c.loop-k.invariant.1 (λ e. c.if-order-k.false (sym (map_at as_slot a.t1 c.loop-k.k 0 refl) ∙ e)) in
+    let on = first_on a.i xs c.loop-k.k (omega arith) c.loop-k.invariant.1 (λ e. c.if-order-k.false (sym (map_at as_slot a.order c.loop-k.k 0 refl) ∙ e)) in
     (c.loop-k.invariant.0, omega (arith, on), omega arith)
 
 pub returns : goal.returns
 returns c = let a = c.args in
-    let xs = map as_slot a.t1 in
+    let xs = map as_slot a.order in
     let n : length xs ≡ 32 = simp length-map c.loop-k.invariant.0 in
     omega (arith, c.loop-k.invariant.1, first-le a.i xs)

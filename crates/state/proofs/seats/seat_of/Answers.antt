@@ -13,7 +13,7 @@ use Rattle.state.proofs.seats.seat_of.Goals as goal
 pub returns-then-i-lt32 : goal.returns-then-i-lt32
 unfolding seat
 returns-then-i-lt32 c = let lowest : c.lowest_clear-i.result ≡ lowest_free (slots_of c.args.e) = let e = c.args.e in
-    let n : length e.voices ≡ 32 = simp length-map at c.well_formed.0.1.1.0.1.0.1 in
+    let n : length e.voices ≡ 32 = c.well_formed.0.1.1.0.1.0.1 in
     c.lowest_clear-i.ensures ∙ ap (λ (k : ℕ). lowest_clear k e.sounding) (sym n) ∙ sym (lowest-free e.sounding e.voices) in
     let e = c.args.e in
     let low = lowest in
@@ -22,7 +22,7 @@ returns-then-i-lt32 c = let lowest : c.lowest_clear-i.result ≡ lowest_free (sl
 pub returns : goal.returns
 unfolding seat
 returns c = let lowest : c.lowest_clear-i.result ≡ lowest_free (slots_of c.args.e) = let e = c.args.e in
-    let n : length e.voices ≡ 32 = simp length-map at c.well_formed.0.1.1.0.1.0.1 in
+    let n : length e.voices ≡ 32 = c.well_formed.0.1.1.0.1.0.1 in
     c.lowest_clear-i.ensures ∙ ap (λ (k : ℕ). lowest_clear k e.sounding) (sym n) ∙ sym (lowest-free e.sounding e.voices) in
     let e = c.args.e in
     let low = lowest in

@@ -19,24 +19,24 @@ returns-then-k-p c = let long : length (map as_slot c.args.order) ≡ 32 = simp 
     let at : (b : Bool) → ltb c.args.k (first_at c.args.i (map as_slot c.args.order)) ≡ b
     → get_or (renewed c.args.i (map as_slot c.args.order)) c.args.k 0
     ≡ cond b (get_or (map as_slot c.args.order) c.args.k 0) (get_or (map as_slot c.args.order ++ (c.args.i ∷ [])) (c.args.k + 1) 0) = λ b t. let a = c.args in
-    let xs = map as_slot a.t1 in
+    let xs = map as_slot a.order in
     renewed-at a.i xs a.k (long) c.requires.0
     ∙ ap (λ (q : Bool). cond q (get_or xs a.k 0) (get_or (xs ++ (a.i ∷ [])) (a.k + 1) 0)) t in
     let a = c.args in
-    let xs = map as_slot a.t1 in
+    let xs = map as_slot a.order in
     let t = lt-ltb a.k (first_at a.i xs) (omega (arith, c.requires.1)) in
-    sym (at true t ∙ map_at as_slot a.t1 a.k 0 refl)
+    sym (at true t ∙ map_at as_slot a.order a.k 0 refl)
 
 pub returns-then-k-eq31 : goal.returns-then-k-eq31
 returns-then-k-eq31 c = let long : length (map as_slot c.args.order) ≡ 32 = simp length-map c.well_formed.0.1.0.1 in
     let at : (b : Bool) → ltb c.args.k (first_at c.args.i (map as_slot c.args.order)) ≡ b
     → get_or (renewed c.args.i (map as_slot c.args.order)) c.args.k 0
     ≡ cond b (get_or (map as_slot c.args.order) c.args.k 0) (get_or (map as_slot c.args.order ++ (c.args.i ∷ [])) (c.args.k + 1) 0) = λ b t. let a = c.args in
-    let xs = map as_slot a.t1 in
+    let xs = map as_slot a.order in
     renewed-at a.i xs a.k (long) c.requires.0
     ∙ ap (λ (q : Bool). cond q (get_or xs a.k 0) (get_or (xs ++ (a.i ∷ [])) (a.k + 1) 0)) t in
     let a = c.args in
-    let xs = map as_slot a.t1 in
+    let xs = map as_slot a.order in
     let t = le-ltb a.k (first_at a.i xs) (omega (arith, c.requires.1)) in
     let k : a.k + 1 ≡ 32 = omega arith in
     sym (at false t ∙ ap (λ (j : ℕ). get_or (xs ++ (a.i ∷ [])) j 0) k ∙ get_or_at xs a.i [] 0 32 (long))
@@ -46,10 +46,10 @@ returns c = let long : length (map as_slot c.args.order) ≡ 32 = simp length-ma
     let at : (b : Bool) → ltb c.args.k (first_at c.args.i (map as_slot c.args.order)) ≡ b
     → get_or (renewed c.args.i (map as_slot c.args.order)) c.args.k 0
     ≡ cond b (get_or (map as_slot c.args.order) c.args.k 0) (get_or (map as_slot c.args.order ++ (c.args.i ∷ [])) (c.args.k + 1) 0) = λ b t. let a = c.args in
-    let xs = map as_slot a.t1 in
+    let xs = map as_slot a.order in
     renewed-at a.i xs a.k (long) c.requires.0
     ∙ ap (λ (q : Bool). cond q (get_or xs a.k 0) (get_or (xs ++ (a.i ∷ [])) (a.k + 1) 0)) t in
     let a = c.args in
-    let xs = map as_slot a.t1 in
+    let xs = map as_slot a.order in
     let t = le-ltb a.k (first_at a.i xs) (omega (arith, c.requires.1)) in
-    sym (at false t ∙ get_or-append xs (a.i ∷ []) 0 (a.k + 1) (omega (arith, long)) ∙ map_at as_slot a.t1 (a.k + 1) 0 refl)
+    sym (at false t ∙ get_or-append xs (a.i ∷ []) 0 (a.k + 1) (omega (arith, long)) ∙ map_at as_slot a.order (a.k + 1) 0 refl)

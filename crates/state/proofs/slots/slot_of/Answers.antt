@@ -2,6 +2,7 @@
 use mathlib.Core.Path.{◌≡◌, sym, ap, ◌∙◌}
 use native.Mathlib.Omega.{arith}
 use mathlib.Core.Bool.{Bool}
+use borrow.Author.Rules.{rules}
 use lib.ListN.{length, get_or, length-map}
 use Rattle.voice.specs.declared.Slot.{Slot}
 use Rattle.voice.specs.declared.Voice.{Voice}
@@ -11,7 +12,7 @@ use Rattle.state.proofs.slots.slot_of.Goals as goal
 
 pub returns : goal.returns
 returns c = let e = c.args.e in
-    let n : length e.voices ≡ 32 = simp length-map at c.well_formed.0.1.1.0.1.0.1 in
+    let n : length e.voices ≡ 32 = search rules in
     ap (slot (get_or e.voices c.args.i blank)) c.has.ensures ∙ sym (paired_at e.sounding e.voices c.args.i (omega arith))
   where
     slot : Voice → Bool → Slot

@@ -46,32 +46,29 @@ pub onward-r-requires : goal.onward-r-requires
 onward-r-requires c = let p = c.requires.sums in
     record { tables = c.requires.tables; loss = rw (w-back w64 c.requires.loss (lit< tt)) c.requires.loss; enters = sym c.enter-e.ensures.0; sums = (p.1, p.2) }
 
-pub one-requires : goal.one-requires
+-- frames of which none went add nothing
+nothing-added : (st : ℕ) (l : ℤ) (w : List ℤ) (k : ℕ) (v : Voice) (acc after : List ℤ) (m : ℕ) → after ≡ add_at (2 * k) (heard_at st l w m (sounds v)) acc → m ≡ 0 → after ≡ acc
 unfolding heard_at
-one-requires c = let none : c.onward-r.result.frames ≡ 0 → c.onward-r.last.1.1.1.1.1.1.0 ≡ c.args.acc.now = λ e. let a = c.args in
-    rw (w-back w64 c.requires.loss (lit< tt)) at c.onward-r.ensures.sums
-    ∙ ap (λ (m : ℕ). add_at (2 * a.k) (heard_at a.st a.l a.w.now m (sounds a.s.voice)) a.acc.now) e
-    ∙ add_at-none (2 * a.k) a.acc.now in
+nothing-added st l w k v acc after m s e =
+    s ∙ ap (λ (n : ℕ). add_at (2 * k) (heard_at st l w n (sounds v)) acc) e ∙ add_at-none (2 * k) acc
+
+pub one-requires : goal.one-requires
+one-requires c = let none = nothing-added c.args.st c.args.l c.args.w.now c.args.k c.args.s.voice c.args.acc.now c.onward-r.new.acc c.onward-r.result.frames (rw (w-back w64 c.requires.loss (lit< tt)) at c.onward-r.ensures.sums) in
     let p = c.requires.sums in
     record { tables = c.requires.tables; loss = rw (w-back w64 c.requires.loss (lit< tt)) c.requires.loss; sums = rw (none c.if-r-eq0.true) (omega (arith, p.0, p.1), p.2) }
 
 pub returns-then-r-eq0 : goal.returns-then-r-eq0
-unfolding heard_at
-returns-then-r-eq0 c = let none : c.onward-r.result.frames ≡ 0 → c.onward-r.last.1.1.1.1.1.1.0 ≡ c.args.acc.now = λ e. let a = c.args in
-    rw (w-back w64 c.requires.loss (lit< tt)) at c.onward-r.ensures.sums
-    ∙ ap (λ (m : ℕ). add_at (2 * a.k) (heard_at a.st a.l a.w.now m (sounds a.s.voice)) a.acc.now) e
-    ∙ add_at-none (2 * a.k) a.acc.now in
-    let o = (c.one.ensures.count, (c.one.ensures.slot, (c.one.ensures.sums, c.one.ensures.small))) in
+returns-then-r-eq0 c = let none = nothing-added c.args.st c.args.l c.args.w.now c.args.k c.args.s.voice c.args.acc.now c.onward-r.new.acc c.onward-r.result.frames (rw (w-back w64 c.requires.loss (lit< tt)) at c.onward-r.ensures.sums) in
     let a = c.args in
     let b = w-back w64 c.requires.loss (lit< tt) in
-    let f = o.0 in
+    let f = c.one.ensures.count in
     record {
       count = (omega (arith, f), omega (arith, f, c.requires.sums.0));
-      slot = rw b at o.1.0 ∙ ap (λ (m : ℕ). after_at a.st a.l a.w.now m a.s) (sym f);
-      sums = rw b at o.1.1.0
+      slot = rw b at c.one.ensures.slot ∙ ap (λ (m : ℕ). after_at a.st a.l a.w.now m a.s) (sym f);
+      sums = rw b at c.one.ensures.sums
           ∙ ap (λ (xs : List ℤ). add_at (2 * a.k) (heard_at a.st a.l a.w.now 1 a.s) xs) (none c.if-r-eq0.true)
           ∙ ap (λ (m : ℕ). add_at (2 * a.k) (heard_at a.st a.l a.w.now m a.s) a.acc.now) (sym f);
-      small = subst (λ (m : ℕ). Small 1 (heard_at a.st a.l a.w.now m a.s)) (sym f) (rw b at o.1.1.1);
+      small = subst (λ (m : ℕ). Small 1 (heard_at a.st a.l a.w.now m a.s)) (sym f) (rw b at c.one.ensures.small);
     }
 
 pub age_by-y-requires : goal.age_by-y-requires

@@ -66,7 +66,7 @@ returns-then-count-eq0 c = let counts : (c.args.v.attack < 4294967296) × (c.arg
         λ z. roomy a.v a.s (m) n.0 n.1 n.2 n.3 (λ j h. (rounded j h).1) z,
       );
       slot = λ z.
-          rounds-slot a.st a.l a.w.now a.v a.s y.result y.ensures.0.0 c.requires.enters y.ensures.0.1 (m) z (rounded)
+          rounds-slot a.st a.l a.w.now a.v a.s y.result y.ensures.leads.0 c.requires.enters y.ensures.leads.1 (m) z (rounded)
           ∙ ap (λ (p : ℕ). sounds (with_moved a.v (spent_by (m) a.s) p a.v.marked)) (sym c.ring.ensures.place.0);
       sums = rw b at c.ring.ensures.sums ∙ ap (λ (xs : List ℤ). add_at (2 * a.k) xs a.acc.now) (rang);
       small = subst (Small 1) (rang) (rw b at c.ring.ensures.small);

@@ -39,15 +39,14 @@ returns-then-not-s c = let a = c.args in
     )
 
 pub go-f-requires : goal.go-f-requires
-go-f-requires c = let p = (c.requires.tables, (c.requires.loss, c.requires.sums)) in
-    let a = c.args in
+go-f-requires c = let a = c.args in
     let z = to_z w64 (of_z w64 a.l) in
     let xs = heard_at a.st z a.w.now c.loop-k.k a.s0 in
     let x : length xs ≡ 2 * c.loop-k.k = heard-length a.st z a.w.now c.loop-k.k a.s0 in
     let t = c.loop-k-test.true in
     record {
-      tables = p.0;
-      loss = rw (w-back w64 p.1.0 (lit< tt)) p.1.0;
+      tables = c.requires.tables;
+      loss = rw (w-back w64 c.requires.loss (lit< tt)) c.requires.loss;
       sounding = not-false c.loop-k.s.sounding c.if-not-s.false;
       sums = (
         omega (arith, t),
@@ -55,7 +54,7 @@ go-f-requires c = let p = (c.requires.tables, (c.requires.loss, c.requires.sums)
         λ j h.
             subst (λ (y : ℤ). Within y (31 * loudest))
             (sym (ap (λ (q : List ℤ). get_or q j (pos 0)) c.loop-k.invariant.1 ∙ to-beyond xs a.acc.now j (omega (arith, x))))
-            (p.1.1.1 j),
+            (c.requires.sums.1 j),
       );
     }
 

@@ -12,21 +12,21 @@ seen v c s g e h = subst (λ (x : Stage). PaceAt v x c) (sym e) h
 
 pub returns-in-Delay : goal.returns-in-Delay
 unfolding some
-returns-in-Delay c = seen _ _ _ _ c.in-Delay.is c.paced.ensures
+returns-in-Delay c = seen c.args.v _ c.args.s _ c.in-Delay.is c.paced.ensures
 
 pub returns-in-Attack : goal.returns-in-Attack
-returns-in-Attack c = seen _ _ _ _ c.in-Attack.is c.paced-in-Attack.ensures
+returns-in-Attack c = seen c.args.v _ c.args.s _ c.in-Attack.is c.paced-in-Attack.ensures
 
 pub returns-in-Hold : goal.returns-in-Hold
 unfolding some
-returns-in-Hold c = seen _ _ _ _ c.in-Hold.is c.paced-in-Hold.ensures
+returns-in-Hold c = seen c.args.v _ c.args.s _ c.in-Hold.is c.paced-in-Hold.ensures
 
 pub returns-in-Decay : goal.returns-in-Decay
-returns-in-Decay c = seen _ _ _ _ c.in-Decay.is c.paced-in-Decay.ensures
+returns-in-Decay c = seen c.args.v _ c.args.s _ c.in-Decay.is c.paced-in-Decay.ensures
 
 pub returns-in-Sustain : goal.returns-in-Sustain
 unfolding some
-returns-in-Sustain c = seen _ _ _ _ c.in-Sustain.is c.paced-in-Sustain.ensures
+returns-in-Sustain c = seen c.args.v _ c.args.s _ c.in-Sustain.is c.paced-in-Sustain.ensures
 
 pub returns-in-Release : goal.returns-in-Release
-returns-in-Release c = seen _ _ _ _ c.in-Release.is c.paced-in-Release.ensures
+returns-in-Release c = seen c.args.v _ c.args.s _ c.in-Release.is c.paced-in-Release.ensures

@@ -25,12 +25,12 @@ invariant-loop-m l = (l.m ≤ l.most)
     × (l.p ≡ place_on l.y l.v.place l.m)
     × ((j : ℕ) → j < l.m → Goes l.v l.s l.y j)
     × PaceAt l.v (spent_by l.m l.s) l.c
-    × (l.known ≡ gain_of (whole_loss (to_z w64 l.l) l.cb))
+    × (l.known ≡ gain_of (whole_loss l.l l.cb))
     × (l.known ≤ 16777216)
-    × (l.acc ≡ add_at (2 * l.k) (rings (to_z w64 l.l) l.sides.left l.sides.right l.w l.v l.s l.y l.m) l.initial.acc)
+    × (l.acc ≡ add_at (2 * l.k) (rings l.l l.sides.left l.sides.right l.w l.v l.s l.y l.m) l.initial.acc)
     × (length l.acc ≡ length l.initial.acc)
     × (2 * (l.k + l.most) ≤ length l.initial.acc)
-    × Small 1 (rings (to_z w64 l.l) l.sides.left l.sides.right l.w l.v l.s l.y l.m)
+    × Small 1 (rings l.l l.sides.left l.sides.right l.w l.v l.s l.y l.m)
 
 abbrev pub decreases-loop-m : goal.decreases-loop-m
 decreases-loop-m l = l.most - l.m
