@@ -11,9 +11,7 @@
 // - a name in "Exceptions" that is no exception;
 // - a contract that crates/promises/specs/Determined.antt restates (`contract of`) in other words than the source, and a
 //   function that a host may call and whose contract it does not restate. Those of crate cabinet are left out: each is the
-//   contract of one of the others, over the state that C keeps;
-// - a function that crate cabinet_c exports and that has not the very head and clauses of cabinet's function of its name, and a
-//   function that cabinet's root passes on and cabinet_c does not export.
+//   contract of one of the others, over the state that C keeps (and tools/header holds what C calls to them).
 // the tools share these, and each asks for a part of them
 #[allow(dead_code)]
 mod antt;
@@ -452,53 +450,12 @@ fn restated(tree: &Tree, complaints: &mut Vec<String>) -> usize {
     named.len()
 }
 
-// ---- What cabinet_c exports
-
-/// The clauses of a function in order, each with whether it requires, and with the definitions that its words stand for.
-fn clauses(tree: &Tree, source: &Source, function: &Function) -> Vec<(bool, Part)> {
-    let read = |clause: &source::Clause| {
-        let lookup = Box::new(tree.names_in_source(source));
-        let bound = function.parameters.iter().map(|name| (name.clone(), name.clone())).collect();
-        (clause.requires, Reading { tree, lookup, bound, lent: &function.lent }.words(&clause.words))
-    };
-    function.contract.iter().map(read).collect()
-}
-
-/// All complaints about the functions that crate cabinet_c exports, and the number of these.
-fn exported(tree: &Tree, complaints: &mut Vec<String>) -> usize {
-    let of = |krate: &'static str| tree.sources.iter().filter(move |source| source.krate == krate);
-    let all = |krate| of(krate).flat_map(|source| source.functions.iter().map(move |function| (source, function)));
-    let mut named = BTreeSet::new();
-    for (source, function) in all("cabinet_c") {
-        let label = format!("crates/cabinet_c/src/{}.rt: {}", source.module, function.name);
-        let own: Vec<_> = all("cabinet").filter(|(_, own)| own.name == function.name).collect();
-        named.insert(function.name.as_str());
-        let [(own_source, own)] = own[..] else {
-            complaints.push(format!("{label}: cabinet has {} functions of that name", own.len()));
-            continue;
-        };
-        let same = own.head == function.head && own.answer == function.answer;
-        if !same || clauses(tree, own_source, own) != clauses(tree, source, function) {
-            complaints.push(format!("{label}: it has another head or other clauses than cabinet's"));
-        }
-    }
-    let passed = tree.host_functions(&mut Vec::new()).into_iter().filter(|(source, _)| source.krate == "cabinet");
-    for (_, function) in passed.filter(|(_, function)| !named.contains(function.name.as_str())) {
-        complaints.push(format!("cabinet_c does not export cabinet's {}", function.name));
-    }
-    named.len()
-}
-
 fn main() -> ExitCode {
     let tree = Tree::load();
     let mut complaints = Vec::new();
     let public = public_functions(&tree, &mut complaints);
     let restated = restated(&tree, &mut complaints);
-    let exported = exported(&tree, &mut complaints);
     complaints.iter().for_each(|complaint| println!("contracts: {complaint}"));
-    println!(
-        "contracts: {public} public functions, {restated} restated contracts, {exported} exported, {} complaints",
-        complaints.len()
-    );
-    ExitCode::from(u8::from(!complaints.is_empty() || public == 0 || restated == 0 || exported == 0))
+    println!("contracts: {public} public functions, {restated} restated contracts, {} complaints", complaints.len());
+    ExitCode::from(u8::from(!complaints.is_empty() || public == 0 || restated == 0))
 }

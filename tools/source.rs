@@ -10,12 +10,11 @@ pub struct Clause {
     pub words: Vec<String>,
 }
 
-/// A function of the source, with the words of its parameters (and no comma behind the last), their names, those of them that are lent, those lent to be written, the words
+/// A function of the source, with the names of its parameters, those of them that are lent, those lent to be written, the words
 /// of its answer's type, the types of its head, its contract, and the words of its body.
 pub struct Function {
     pub name: String,
     pub public: bool,
-    pub head: Vec<String>,
     pub parameters: Vec<String>,
     pub lent: Vec<String>,
     pub written: Vec<String>,
@@ -187,7 +186,6 @@ fn function(words: &[String], at: usize) -> Function {
     Function {
         name: bare(&words[at + 1]).to_string(),
         public: at > 0 && words[at - 1] == "pub",
-        head: head.strip_suffix(&[",".to_string(), ")".to_string()]).map_or(head.to_vec(), |list| [list, &[")".to_string()]].concat()),
         parameters: head.iter().filter_map(named).collect(),
         lent,
         written,
