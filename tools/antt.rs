@@ -36,13 +36,13 @@ pub struct Definition {
 impl Definition {
     /// Whether it is a statement: a type, or a function to types.
     pub fn is_type(&self) -> bool {
-        let signature = tokens(&self.pieces[0]);
+        let signature = words(&self.pieces[0]);
         self.kind != Kind::Clauses || signature.len() > 1 && signature[signature.len() - 2] == "Type"
     }
 
     /// Whether it is a sentence: a type by itself, of nothing.
     pub fn is_sentence(&self) -> bool {
-        let signature = tokens(&self.pieces[0]);
+        let signature = words(&self.pieces[0]);
         let behind = signature.iter().position(|word| *word == self.name).map_or(0, |at| at + 1);
         self.kind == Kind::Clauses && matches!(&signature[behind..], [colon, kind, _] if colon == ":" && kind == "Type")
     }
@@ -91,6 +91,33 @@ fn push_name(name: &str, found: &mut Vec<String>) {
     }
 }
 
+/// A text of the definitions as names and signs; what is projected from a value, as `.engine` in `p.engine.clock`, is a word of its own.
+pub fn words(text: &str) -> Vec<String> {
+    apart(&tokens(text))
+}
+
+/// Words, each projection of them apart. A name of a module, as `Item.Bad`, `is.Sustain` or `EventsKeys.off`, stays whole: of what stands in
+/// front of its dots and behind them something begins with a capital. So does a number.
+pub fn apart(words: &[String]) -> Vec<String> {
+    let small = |part: &str| part.starts_with(|c: char| c.is_lowercase() || c.is_ascii_digit() || c == '_' || c == '«');
+    let projects = |word: &String| {
+        let mut parts = word.split('.');
+        let front = parts.next().unwrap_or("");
+        word.contains('.') && (front.is_empty() || small(front) && !front.starts_with(|c: char| c.is_ascii_digit())) && parts.all(small)
+    };
+    let mut found = Vec::new();
+    for word in words {
+        if !projects(word) {
+            found.push(word.clone());
+            continue;
+        }
+        for (at, part) in word.split('.').enumerate().filter(|(_, part)| !part.is_empty()) {
+            found.push(if at == 0 { part.to_string() } else { format!(".{part}") });
+        }
+    }
+    found
+}
+
 /// A `use` line of a file of definitions, or a `ghost use` line of a source; nothing for any other line.
 pub fn use_line(line: &str) -> Option<Use> {
     let heads = ["use ", "pub use ", "unfoldable pub use ", "ghost use "];
@@ -108,7 +135,7 @@ pub fn use_line(line: &str) -> Option<Use> {
 
 /// The kind and name of the definition that a line begins, if it begins one.
 fn begins(line: &str) -> Option<(Kind, String)> {
-    let words = tokens(line);
+    let words = words(line);
     let words: Vec<&str> = words.iter().map(String::as_str).collect();
     let behind = words.iter().position(|word| !["pub", "abbrev", "unfoldable"].contains(word))?;
     match words[behind..] {
@@ -184,7 +211,7 @@ impl Reader {
         }
         last.pieces.push(text.to_string());
         if last.kind == Kind::Data {
-            last.constructors.extend(tokens(text).first().cloned());
+            last.constructors.extend(words(text).first().cloned());
         }
     }
 }
@@ -195,9 +222,9 @@ pub type Lookup<'a> = &'a dyn Fn(&str) -> Option<Target>;
 /// What a definition cites, itself perhaps too. A bound name hides a definition of its spelling.
 pub fn cites(definition: &Definition, lookup: Lookup) -> Vec<Target> {
     let mut walk = Walk::new(lookup, &[]);
-    walk.text(&tokens(&definition.outer));
+    walk.text(&words(&definition.outer));
     let mut bound = walk.bound.clone();
-    let head = tokens(&definition.pieces[0]);
+    let head = words(&definition.pieces[0]);
     let name = head.iter().position(|token| *token == definition.name).unwrap_or(0);
     walk.text(&head[name + 1..]);
     if definition.kind != Kind::Clauses {
@@ -205,7 +232,7 @@ pub fn cites(definition: &Definition, lookup: Lookup) -> Vec<Target> {
     }
     for piece in &definition.pieces[1..] {
         walk.bound = bound.clone();
-        let words = tokens(piece);
+        let words = words(piece);
         match definition.kind {
             Kind::Clauses => walk.clause(&words),
             _ => {

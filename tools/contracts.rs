@@ -11,7 +11,7 @@
 // - a name in "Exceptions" that is no exception;
 // - a contract that crates/promises/specs/Determined.antt restates (`contract of`) in other words than the source, and a
 //   function that a host may call and whose contract it does not restate. Those of crate cabinet are left out: each is the
-//   contract of one of the others, over the state that C keeps.
+//   contract of one of the others, over the state that C keeps (and tools/header holds what C calls to them).
 // the tools share these, and each asks for a part of them
 #[allow(dead_code)]
 mod antt;
@@ -20,7 +20,7 @@ mod source;
 #[allow(dead_code)]
 mod tree;
 
-use antt::{tokens, Definition, Place, Target};
+use antt::{words, Definition, Place, Target};
 use source::{behind, read, Function, Source};
 use std::collections::{BTreeSet, HashMap};
 use std::process::ExitCode;
@@ -50,34 +50,36 @@ fn shown(parts: &[Part]) -> String {
 
 // ---- Contracts as parts
 
-/// How the names of a text are read: those that are bound, each by another name, and else what the file brings in.
+/// How the names of a text are read: those that are bound, each by another name, and else what the file brings in. `lent` are
+/// the names, of those in the text, of what is lent.
 struct Reading<'a> {
     tree: &'a Tree,
     lookup: Box<dyn Fn(&str) -> Option<Target> + 'a>,
     bound: HashMap<String, String>,
+    lent: &'a [String],
 }
 
 impl Reading<'_> {
-    /// The words of a text. `now (b .entry)`, a lent buffer as it came in, is b; `now (b .exit)` is b'.
+    /// The words of a text. `b.now` and `b.old`, a lent buffer as it came in, is b, `b.new` is b'; `b.entry` is what was handed in, loans and all.
     fn words(&self, text: &[String]) -> Part {
-        let mut words: Part = text.iter().map(|word| self.word(word)).collect();
-        let bound = |word: &str| self.bound.values().any(|name| name == word.trim_end_matches('\''));
+        let mut words: Part = Vec::new();
         let mut at = 0;
-        while at < words.len() {
-            let texts: Vec<&str> = words[at..].iter().take(4).map(|word| word.text.as_str()).collect();
-            let (taken, name) = match texts[..] {
-                ["(", name, ".entry", ")"] if bound(name) => (4, name.to_string()),
-                ["(", name, ".exit", ")"] if bound(name) => (4, format!("{name}'")),
-                ["(", name, ")", ..] if bound(name) => (3, name.to_string()),
-                ["now", name, ..] if bound(name) && name != "answer" => (2, name.to_string()),
+        while at < text.len() {
+            let word = self.word(&text[at]);
+            let given = self.bound.get(&text[at]).is_some_and(|name| name != "answer");
+            let lent = given && self.lent.contains(&text[at]);
+            let held = text.get(at + 1).map_or("", String::as_str);
+            at += 1;
+            words.push(match held {
+                ".now" | ".old" if lent => word,
+                ".entry" if given => word,
+                ".new" if lent => Word { text: word.text + "'", place: None },
                 _ => {
-                    at += 1;
+                    words.push(word);
                     continue;
                 }
-            };
-            words.splice(at..at + taken, [Word { text: name, place: None }]);
-            // what stands in front may be rewritten now
-            at = at.saturating_sub(2);
+            });
+            at += 1;
         }
         words
     }
@@ -96,13 +98,15 @@ impl Reading<'_> {
         }
     }
 
-    /// The parts of `λ NAME. TEXT`, with the name read as `answer`. With an arrow outside of brackets it is one part.
+    /// The parts of a clause, with `result` read as `answer`, or of `λ NAME. TEXT`, with the name read so. With an arrow outside of
+    /// brackets it is one part.
     fn parts(&mut self, text: &[String]) -> Option<Vec<Part>> {
-        let [lambda, name, dot, text @ ..] = text else { return None };
-        if lambda != "λ" || dot != "." {
-            return None;
-        }
-        self.bound.insert(name.clone(), "answer".to_string());
+        let (name, text) = match text {
+            [lambda, name, dot, text @ ..] if lambda == "λ" && dot == "." => (name.as_str(), text),
+            [lambda, ..] if lambda == "λ" => return None,
+            _ => ("result", text),
+        };
+        self.bound.insert(name.to_string(), "answer".to_string());
         let words = self.words(text);
         let cuts = if outside(&words, "→").is_empty() { outside(&words, "×") } else { Vec::new() };
         let mut parts = Vec::new();
@@ -140,9 +144,8 @@ fn ensured(tree: &Tree, source: &Source, function: &Function, names: &[String]) 
     for clause in function.contract.iter().filter(|clause| !clause.requires) {
         let lookup = Box::new(tree.names_in_source(source));
         let bound = function.parameters.iter().cloned().zip(names.iter().cloned()).collect();
-        let mut text = clause.words[1..clause.words.len() - 1].to_vec();
-        text.retain(|word| word != "⌜" && word != "⌝");
-        parts.extend(Reading { tree, lookup, bound }.parts(&text)?);
+        let text = clause.words.get(1..clause.words.len() - 1)?;
+        parts.extend(Reading { tree, lookup, bound, lent: &function.lent }.parts(text)?);
     }
     Some(parts)
 }
@@ -298,7 +301,7 @@ fn restated_by(definition: &Definition) -> Vec<Restated> {
 /// The names that the front of a statement binds, and its contract from `λ` on; nothing where it is not of the form
 /// `Name = (a : A) (b c : B) → Settles Type (λ r. ..)`.
 fn statement(definition: &Definition) -> Option<(Vec<String>, Vec<String>)> {
-    let words = tokens(definition.pieces.get(1)?);
+    let words = words(definition.pieces.get(1)?);
     let settles = words.iter().position(|word| word.starts_with("Settles"))?;
     let lambda = words.iter().position(|word| word == "λ")?;
     if words[lambda - 1] != "(" || behind(&words, lambda - 1) != words.len() {
@@ -337,11 +340,12 @@ fn restated_parts(
         }
     }
     let bound = this.arguments.iter().chain(&names).map(|name| (name.clone(), name.clone())).collect();
-    let parts = Reading { tree, lookup: Box::new(tree.names_in_specs(file)), bound }.parts(&text).unwrap_or_default();
+    let lookup = Box::new(tree.names_in_specs(file));
+    let parts = Reading { tree, lookup, bound, lent: &[] }.parts(&text).unwrap_or_default();
     if this.call.is_empty() {
         return Ok(parts.into_iter().map(|part| with_output(part, this, function)).collect());
     }
-    // `o .answer ≡ does x e` and `o .output ≡ written x e`, each by the clause for this call
+    // `o.answer ≡ does x e` and `o.output ≡ written x e`, each by the clause for this call
     let mut found = Vec::new();
     for part in parts {
         let [_, field, sign, Word { place: Some(place), .. }, _, state] = &part[..] else {
@@ -365,7 +369,7 @@ fn restated_parts(
     Ok(found)
 }
 
-/// A part of a restated contract of a function that is lent a buffer to write: `o .answer` is its answer, and `o .output`
+/// A part of a restated contract of a function that is lent a buffer to write: `o.answer` is its answer, and `o.output`
 /// what the buffer holds at the exit.
 fn with_output(mut part: Part, this: &Restated, function: &Function) -> Part {
     let texts: Vec<&str> = part.iter().take(2).map(|word| word.text.as_str()).collect();
@@ -383,13 +387,14 @@ fn with_output(mut part: Part, this: &Restated, function: &Function) -> Part {
 
 /// The right side of the clause of a definition for a call, `definition (Call a b) e = ..`, with the call's own arguments.
 fn clause_for(tree: &Tree, place: Place, call: &[String], state: &str) -> Option<Part> {
-    let clauses = tree.definition(place).pieces.iter().map(|piece| tokens(piece));
+    let clauses = tree.definition(place).pieces.iter().map(|piece| words(piece));
     let clause = clauses.into_iter().find(|words| words.get(2) == Some(&call[0]))?;
     let equals = clause.iter().position(|word| word == "=")?;
     let names: Vec<String> = clause[3..equals].iter().filter(|word| *word != ")").cloned().collect();
     let arguments = call[1..].iter().cloned().chain([state.to_string()]);
     let bound = names.into_iter().zip(arguments).collect();
-    Some(Reading { tree, lookup: Box::new(tree.names_in_specs(place.0)), bound }.words(&clause[equals + 1..]))
+    let lookup = Box::new(tree.names_in_specs(place.0));
+    Some(Reading { tree, lookup, bound, lent: &[] }.words(&clause[equals + 1..]))
 }
 
 /// What is wrong with a restated contract.

@@ -1,10 +1,12 @@
 // Looks whether a function in crates/*/src may call itself, directly or through others. The language has recursion (with a
-// measure), and no function pointers, so that the names in front of brackets are all the calls that there are.
+// measure). No source here has a closure, a function pointer, a trait or an impl, and none hands a function of its own to one of
+// the kit's, so that the names in front of brackets are all the calls that there are.
 //
 //     rustc --edition 2021 -o target/recursion tools/recursion.rs && target/recursion
 //
 // prints the number of functions and how long the longest chains of calls are. The status is 1, with a line for each complaint, where
-// calls lead round in a circle, and where a call leads to no function that this tool can find.
+// calls lead round in a circle, where a call leads to no function that this tool can find, and where a function might be called
+// without its name.
 // the tools share these, and each asks for a part of them
 #[allow(dead_code)]
 mod antt;
@@ -23,6 +25,9 @@ const OF_THE_KIT: [&str; 15] =
     ["std", "io", "libc", "u8", "u16", "u32", "u64", "usize", "i8", "i16", "i32", "i64", "isize", "f32", "f64"];
 /// Words that may stand in front of a bracket and call nothing.
 const KEYWORDS: [&str; 8] = ["if", "while", "match", "return", "in", "as", "else", "mut"];
+
+/// Words by which a function may be called without its name.
+const INDIRECT: [&str; 9] = ["impl", "trait", "dyn", "Fn", "FnMut", "FnOnce", "move", "macro_rules", "macro_rules!"];
 
 /// A function by its place among all.
 type Id = usize;
@@ -65,6 +70,27 @@ impl Calls<'_> {
         at.map(Some).ok_or_else(|| format!("{}: a call of {name} leads nowhere", self.label(id)))
     }
 
+    /// Functions of the repository that one hands to a function of the kit, by their names; its own parameters are none.
+    fn handed_on(&self, id: Id) -> Vec<String> {
+        let (source, function) = self.all[id];
+        let body = &function.body;
+        let is_of_kit = |at: &usize| body[at + 1] == "(" && is_call(&body[*at]) && matches!(self.found(id, &body[*at]), Ok(None));
+        let is_bound = |name: &String| {
+            let bound = body.windows(2).any(|pair| (pair[0] == "let" || pair[0] == "mut" || pair[0] == "for") && pair[1] == *name);
+            bound || function.parameters.contains(name)
+        };
+        let mut found = Vec::new();
+        for call in (0..body.len().saturating_sub(1)).filter(is_of_kit) {
+            for at in call + 2..source::behind(body, call + 1) - 1 {
+                let named = body[at + 1] != "(" && is_call(&body[at]) && !is_bound(&body[at]);
+                if named && matches!(self.found(id, &body[at]), Ok(Some(_))) {
+                    found.push(format!("{}: {} is handed to {}", source.krate, body[at], body[call]));
+                }
+            }
+        }
+        found
+    }
+
     /// The function that a path leads to.
     fn followed(&self, source: &Source, path: &[String]) -> Option<&Function> {
         self.tree.follow(&source.krate, path)?.first().map(|(_, function)| *function)
@@ -76,6 +102,19 @@ fn is_call(word: &str) -> bool {
     let last = word.rsplit([':', '.']).next().unwrap_or(word);
     let named = word.chars().all(|c| c.is_alphanumeric() || "_:.".contains(c));
     named && last.starts_with(|c: char| c.is_lowercase() || c == '_') && !KEYWORDS.contains(&word)
+}
+
+/// What in a file may call a function without its name: a word, a pointer's type, or a closure, which begins where no `or` can stand.
+fn indirect(source: &Source) -> Vec<String> {
+    let label = |what: &str| format!("crates/{}/src/{}.rt: {what}", source.krate, source.module);
+    let word = source.words.iter().filter(|word| INDIRECT.contains(&word.as_str())).map(|word| label(word));
+    let starts = ["(", ",", "=", "{", "[", ";", "=>", "return"];
+    let pair = source.words.windows(2).filter_map(|pair| match (pair[0].as_str(), pair[1].as_str()) {
+        ("fn", "(") => Some(label("a function pointer")),
+        (before, bar) if bar.starts_with('|') && starts.contains(&before) => Some(label("a closure")),
+        _ => None,
+    });
+    word.chain(pair).collect()
 }
 
 /// Goes through the calls, each function once.
@@ -128,6 +167,8 @@ fn main() -> ExitCode {
     let mut walk = Walk { calls, longest: HashMap::new(), open: Vec::new(), complaints: Vec::new() };
     let mut longest = |ids: &[Id]| ids.iter().map(|id| walk.chain(*id)).max_by_key(Vec::len).unwrap_or_default();
     let (chain, host_chain) = (longest(&ids), longest(&host_ids));
+    walk.complaints.extend(ids.iter().flat_map(|id| walk.calls.handed_on(*id)).collect::<Vec<_>>());
+    walk.complaints.extend(tree.sources.iter().flat_map(indirect));
     walk.complaints.iter().for_each(|complaint| println!("recursion: {complaint}"));
     let ends = |chain: &[Id]| match chain {
         [first, .., last] => format!("{} ({} to {})", chain.len(), walk.calls.label(*first), walk.calls.label(*last)),

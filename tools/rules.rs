@@ -1,5 +1,5 @@
 // Looks whether each citation of docs/RULES.md names a definition. A citation is a name in backticks with its file behind it in
-// brackets: `gainOf` (curves/Levels) is the definition `gainOf` in crates/curves/specs/Levels.antt. A line may end between the two.
+// brackets: `gain_of` (curves/Levels) is the definition `gain_of` in crates/curves/specs/Levels.antt. A line may end between the two.
 //
 //     rustc --edition 2021 -o target/rules tools/rules.rs && target/rules
 //

@@ -4,18 +4,19 @@ use crate::antt::{self, Use};
 use std::fs;
 use std::path::{Path, PathBuf};
 
-/// A clause of a contract, with its braces: a `requires` or an `ensures`.
+/// A clause of a contract, with its braces and without its name: a `requires` or an `ensures`.
 pub struct Clause {
     pub requires: bool,
     pub words: Vec<String>,
 }
 
-/// A function of the source, with the names of its parameters, those of them that are lent to be written, the words of
-/// its answer's type, the types of its head, its contract, and the words of its body.
+/// A function of the source, with the names of its parameters, those of them that are lent, those lent to be written, the words
+/// of its answer's type, the types of its head, its contract, and the words of its body.
 pub struct Function {
     pub name: String,
     pub public: bool,
     pub parameters: Vec<String>,
+    pub lent: Vec<String>,
     pub written: Vec<String>,
     pub answer: Vec<String>,
     pub types: Vec<String>,
@@ -33,6 +34,8 @@ pub struct Source {
     pub structs: Vec<(String, Vec<String>)>,
     pub paths: Vec<(bool, Vec<String>)>,
     pub uses: Vec<Use>,
+    /// all its words, in order
+    pub words: Vec<String>,
 }
 
 /// Reads a file of the repository, and ends with its name where that fails.
@@ -63,18 +66,48 @@ pub fn files(folder: &str, ending: &str) -> Vec<PathBuf> {
 pub fn read_source(krate: &str, path: &Path) -> Source {
     let text = without_literals(&antt::without_comments(&read(path)));
     let module = path.file_stem().unwrap_or_default().to_string_lossy().to_string();
-    let uses = text.lines().filter_map(antt::use_line).filter(|line| line.path.starts_with("Rattle·")).collect();
-    let path_of = |line: &str| line.trim_end_matches(';').split("::").map(str::to_string).collect();
-    let brought = |line: &str| match line.strip_prefix("pub use ") {
-        Some(rest) => Some((true, path_of(rest))),
-        None => line.strip_prefix("use ").map(|rest| (false, path_of(rest))),
-    };
-    let paths = text.lines().filter_map(brought).collect();
+    let uses = text.lines().filter_map(antt::use_line).filter(|line| line.path.starts_with("Rattle.")).collect();
+    let paths = use_items(&text);
     let words = antt::tokens(&text);
     let named = |pair: &&[String]| pair[0] == "struct" || pair[0] == "enum";
     let types = words.windows(2).filter(named).map(|pair| bare(&pair[1]).to_string()).collect();
     let structs = (0..words.len()).filter(|&at| words[at] == "struct").map(|at| fields(&words, at)).collect();
-    Source { krate: krate.to_string(), module, functions: functions(&words), types, structs, paths, uses }
+    Source { krate: krate.to_string(), module, functions: functions(&words), types, structs, paths, uses, words }
+}
+
+/// The `use` items of a text, each path of a group by itself, and whether they are `pub`. An item ends with its semicolon.
+fn use_items(text: &str) -> Vec<(bool, Vec<String>)> {
+    let mut found = Vec::new();
+    let mut lines = text.lines();
+    while let Some(line) = lines.next() {
+        let public = line.starts_with("pub use ");
+        let Some(item) = line.strip_prefix("pub use ").or(line.strip_prefix("use ")) else { continue };
+        let mut item = item.to_string();
+        while !item.contains(';') {
+            let Some(more) = lines.next() else { break };
+            item += more.trim();
+        }
+        let item = item.split(';').next().unwrap_or("");
+        found.extend(paths_of(item).into_iter().map(|path| (public, path)));
+    }
+    found
+}
+
+/// The paths of an item, as `a::b` and `a::c::d` of `a::{b, c::d}`.
+fn paths_of(item: &str) -> Vec<Vec<String>> {
+    let item = item.trim();
+    let Some((front, group)) = item.split_once('{') else {
+        return vec![item.split("::").map(|part| part.trim().to_string()).filter(|part| !part.is_empty()).collect()];
+    };
+    let front = paths_of(front.trim_end().trim_end_matches("::")).concat();
+    let group = &group[..group.rfind('}').unwrap_or(group.len())];
+    let mut depth = 0;
+    let parts = group.split(|c: char| {
+        depth += i32::from(c == '{') - i32::from(c == '}');
+        depth == 0 && c == ','
+    });
+    let behind = parts.filter(|part| !part.trim().is_empty()).flat_map(paths_of);
+    behind.map(|path| front.iter().cloned().chain(path).collect()).collect()
 }
 
 /// The name of the struct whose `struct` stands at a place, and its fields.
@@ -134,6 +167,7 @@ fn function(words: &[String], at: usize) -> Function {
     let mut end = behind(words, open);
     let head = &words[open..end];
     let named = |word: &String| word.strip_suffix(':').map(str::to_string);
+    let lent = head.windows(2).filter(|pair| pair[1].starts_with('&')).filter_map(|pair| named(&pair[0])).collect();
     let written = head.windows(2).filter(|pair| pair[1] == "&mut").filter_map(|pair| named(&pair[0])).collect();
     let (mut answer, mut contract) = (Vec::new(), Vec::new());
     while end < words.len() && words[end] != "{" {
@@ -145,7 +179,7 @@ fn function(words: &[String], at: usize) -> Function {
             continue;
         };
         let close = behind(words, end + brace);
-        contract.push(Clause { requires: words[end] == "requires", words: words[end + brace..close].to_vec() });
+        contract.push(Clause { requires: words[end] == "requires", words: antt::apart(&words[end + brace..close]) });
         end = close;
     }
     let types = head.iter().chain(&answer).map(|word| bare(word)).filter(|word| word.starts_with(char::is_uppercase));
@@ -153,6 +187,7 @@ fn function(words: &[String], at: usize) -> Function {
         name: bare(&words[at + 1]).to_string(),
         public: at > 0 && words[at - 1] == "pub",
         parameters: head.iter().filter_map(named).collect(),
+        lent,
         written,
         types: types.map(str::to_string).collect(),
         answer,

@@ -98,15 +98,24 @@ fn velocities() -> Vec<u64> {
     (1..=127).map(entry).collect()
 }
 
+/// The most letters of a line of the source.
+const WIDTH: usize = 99;
 const COMMAND: &str = "rustc -O -o target/tables tools/tables.rs && target/tables .";
 
-/// A constant of the source, an entry to a line.
+/// A constant of the source, in lines as full as the layout of the sources has them.
 fn constant(name: &str, width: &str, entries: &[u64]) -> String {
     let mut text = format!("pub const {name}: [{width}; {}] = [\n", entries.len());
+    let mut line = String::new();
     for n in entries {
-        writeln!(text, "    {n},").unwrap();
+        let entry = format!(" {n},");
+        if line.len() + entry.len() > WIDTH - 3 {
+            writeln!(text, "   {line}").unwrap();
+            line.clear();
+        }
+        line += &entry;
     }
-    text + "];\n"
+    writeln!(text, "   {line}\n];").unwrap();
+    text
 }
 
 /// A file of the source: its head, and its constants.
@@ -116,7 +125,7 @@ fn source(rule: &str, constants: &[String]) -> String {
 
 /// The lists of the definitions, in parts small enough to be tested by one computation each.
 fn lists(rule: &str, name: &str, size: usize, entries: &[u64]) -> String {
-    let mut text = format!("-- {rule}\n-- Made by: {COMMAND}\nuse mathlib.Core.List.{{List, [], _∷_}}\nuse Prim.Native.Nat.{{ℕ}}\n");
+    let mut text = format!("-- {rule}\n-- Made by: {COMMAND}\nuse Rattle.std.specs.Prelude.{{List, [], ◌∷◌, ℕ}}\n");
     for (k, part) in entries.chunks(size).enumerate() {
         let rows: Vec<String> = part.chunks(10).map(|row| row.iter().map(|n| format!("{n} ∷ ")).collect()).collect();
         writeln!(text, "\nabbrev pub {name}{k} : List ℕ\n{name}{k} =\n    {}[]", rows.join("\n    ")).unwrap();

@@ -26,6 +26,8 @@ impl Specs {
 /// All crates, read and linked.
 pub struct Tree {
     pub crates: Vec<String>,
+    /// the libraries of the kit that crates.txt names, and those that it never does
+    pub of_kit: Vec<String>,
     pub specs: Vec<Specs>,
     pub sources: Vec<Source>,
     /// the definitions that laws and proofs cite, and those that the ones of crate promises do
@@ -58,7 +60,7 @@ pub fn crates() -> Vec<String> {
     let lines = text.lines().map(|line| line.split('#').next().unwrap_or(""));
     let mut left: Vec<(&str, Vec<&str>)> = lines
         .filter_map(|line| line.split_once(':'))
-        .map(|(name, on)| (name.trim(), on.split_whitespace().collect()))
+        .filter_map(|(name, on)| Some((name.split_whitespace().next()?, on.split_whitespace().collect())))
         .collect();
     let mut ordered = Vec::new();
     while !left.is_empty() {
@@ -67,6 +69,14 @@ pub fn crates() -> Vec<String> {
         ordered.push(left.remove(next).0.to_string());
     }
     ordered
+}
+
+/// The libraries of the kit: those that crates.txt has behind a colon and not in front of one, std, and core below it.
+fn of_kit(crates: &[String]) -> Vec<String> {
+    let text = read("crates.txt");
+    let lines = text.lines().filter_map(|line| line.split('#').next().unwrap_or("").split_once(':'));
+    let named = lines.flat_map(|(_, on)| on.split_whitespace()).map(str::to_string);
+    named.filter(|name| !crates.contains(name)).chain(["std".to_string(), "core".to_string()]).collect()
 }
 
 /// Reads a file of definitions.
@@ -104,7 +114,8 @@ impl Tree {
             );
         }
         let (in_proofs, in_promises) = (BTreeSet::new(), BTreeSet::new());
-        let mut tree = Tree { crates, specs, sources, in_proofs, in_promises, edges: HashMap::new(), lost: Vec::new() };
+        let of_kit = of_kit(&crates);
+        let mut tree = Tree { crates, of_kit, specs, sources, in_proofs, in_promises, edges: HashMap::new(), lost: Vec::new() };
         tree.link();
         tree.read_proofs();
         tree
@@ -138,7 +149,7 @@ impl Tree {
                 let scope = self.scope(&uses, "", &mut Vec::new());
                 let lines =
                     text.lines().filter(|line| antt::use_line(line).is_none() && !line.trim().starts_with("--"));
-                let words = lines.flat_map(antt::tokens);
+                let words = lines.flat_map(antt::words);
                 let found: Vec<Target> = words.filter_map(|name| self.resolve(&scope, &name)).collect();
                 promises.extend(found.iter().filter(|_| krate == "promises").cloned());
                 all.extend(found);
@@ -152,10 +163,9 @@ impl Tree {
         &self.specs[place.0].definitions[place.1]
     }
 
-    /// The module of a path such as `Rattle·arith.specs.Words`, where it is one of definitions or declared types.
+    /// The module of a path such as `Rattle.arith.specs.Words`, where it is one of definitions or declared types.
     fn module(&self, path: &str) -> Option<Module> {
-        let (krate, rest) = path.strip_prefix("Rattle·")?.split_once(".specs.")?;
-        let krate = krate.trim_end_matches("·specs");
+        let (krate, rest) = path.strip_prefix("Rattle.")?.split_once(".specs.")?;
         match rest.split('.').collect::<Vec<_>>()[..] {
             ["declared", name] => Some(Module::Type(krate.to_string(), name.to_string())),
             ["declared", name, ..] => Some(Module::Variants(krate.to_string(), name.to_string())),
@@ -183,10 +193,16 @@ impl Tree {
         scope.names.remove(name).or_else(passed)
     }
 
+    /// Whether a path leads into a library of the kit, whose words no reader looks up here.
+    fn of_kit(&self, path: &str) -> bool {
+        let krate = path.strip_prefix("Rattle.").and_then(|rest| rest.split('.').next());
+        krate.is_none_or(|krate| self.of_kit.iter().any(|name| name == krate))
+    }
+
     /// The names that `use` lines bring. Those that lead nowhere are lost names of the file.
     fn scope(&self, uses: &[Use], file: &str, lost: &mut Vec<String>) -> Scope {
         let mut scope = Scope::default();
-        for line in uses.iter().filter(|line| line.path.starts_with("Rattle·")) {
+        for line in uses.iter().filter(|line| !self.of_kit(&line.path)) {
             let module = self.module(&line.path);
             if module.is_none() {
                 lost.push(format!("{file}: there is no {}", line.path));
@@ -219,9 +235,9 @@ impl Tree {
 }
 
 impl Scope {
-    /// Brings a name in. The parts of an operator stand for it too, as `+` for `_+_`.
+    /// Brings a name in. The parts of an operator stand for it too, as `+` for `◌+◌`.
     fn bring(&mut self, name: &str, target: Target) {
-        for part in name.split('_').filter(|part| !part.is_empty()) {
+        for part in name.split('◌').filter(|part| !part.is_empty()) {
             self.names.insert(part.to_string(), target.clone());
         }
         self.names.insert(name.to_string(), target);

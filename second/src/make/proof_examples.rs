@@ -13,14 +13,14 @@ const MADE_BY: &str =
     "-- Made by: (cd second && cargo build --release --offline) && second/target/release/second make crates\n";
 
 /// The definitions that the prover looks into where it computes what a voice gives, and where it does so for a run.
-const OF_FRAMES: &str = "unfolding heardAt afterAt after frame frameAt living readAndMoved goOn loud reading behind before interpolated gained leftOf rightOf gainOf cbOf loss step pitchTotal bendCents stepOf folds fold settled ended levelAt decayAt releaseAt fromDelay fromAttack fromHold fromDecay release leastCb above";
-const OF_RUNS: &str = "unfolding run fresh paired wordOf ofChannel held heldKey letOff off offKey EventsKeys.noteOff pedalHeld cut pedal silence controlled controlChange lowestFree claim leastBy taken seat without renewed startIn EventsStriking.noteOn channelBank anyPast classIn rival start startAll cleared struck noteOnNumber release leastCb above levelAt decayAt releaseAt keysOf marksOf";
+const OF_FRAMES: &str = "unfolding heard_at after_at after frame frame_at living read_and_moved go_on loud reading behind before interpolated gained left_of right_of gain_of cb_of loss step pitch_total bend_cents step_of folds fold settled ended level_at decay_at release_at from_delay from_attack from_hold from_decay release least_cb above";
+const OF_RUNS: &str = "unfolding run fresh paired word_of of_channel held held_key let_off off off_key EventsKeys.note_off pedal_held cut pedal silence controlled control_change lowest_free claim least_by taken seat without renewed start_in EventsStriking.note_on channel_bank any_past class_in rival start start_all cleared struck note_on_number release least_cb above level_at decay_at release_at keys_of marks_of";
 
 // Numbers and lists in the prover's writing
 
 fn integer(number: i64) -> String {
     if number < 0 {
-        format!("negℤ (pos {})", -number)
+        format!("neg_ℤ (pos {})", -number)
     } else {
         format!("pos {number}")
     }
@@ -92,7 +92,7 @@ fn drawn_voice(drawn: &Drawn) -> String {
     let mut heard_of = format!("after c w {before} (sounds ({}))", voice_record(drawn.struck, &drawn.row));
     if drawn.released {
         release(&mut slot);
-        heard_of = format!("sounds (release ({heard_of} .voice))");
+        heard_of = format!("sounds (release ({heard_of}).voice)");
     }
     let found = heard(&mut slot, samples, controls, 8);
     [
@@ -121,11 +121,11 @@ fn drawn_run(calls: &[Call]) -> String {
                 let started: Vec<Numbers> = layers.iter().map(numbers).collect();
                 engine.strike(channel, key, velocity, &started);
                 let voices = layers.iter().map(|row| voice_record((channel, key, velocity), row));
-                format!("noteOn (bank ({})) ram ram {channel} {key} {velocity}", list(voices))
+                format!("note_on (bank ({})) ram ram {channel} {key} {velocity}", list(voices))
             }
             Call::Off(channel, key) => {
                 engine.note_off(tables(), channel, key).expect("channel and key are in range");
-                format!("noteOff {channel} {key}")
+                format!("note_off {channel} {key}")
             }
             Call::Control(channel, control, value) => {
                 engine.control(tables(), channel, control, value).expect("all are in range");
@@ -182,7 +182,7 @@ fn from_release(name: &str, what: &str, before: usize, frames: usize, bell: Bell
     let mut slot = bell.slot();
     heard(&mut slot, &SAMPLES, CONTROLS, before);
     release(&mut slot);
-    let text = format!("sounds (release (after channel window {before} ({}) .voice))", bell.text());
+    let text = format!("sounds (release (after channel window {before} ({})).voice)", bell.text());
     heard_example(name, what, frames, &mut slot, &text)
 }
 
@@ -192,7 +192,7 @@ fn place_example(name: &str, what: &str, frames: usize, bell: Bell) -> String {
     heard(&mut slot, &SAMPLES, CONTROLS, frames);
     let place = slot.expect("it sounds behind its frames").place;
     let text = bell.text();
-    format!("\n-- {what}\n{name} : after channel window {frames} ({text}) .voice .place ≡ {place}\n{OF_FRAMES}\n{name} = refl\n")
+    format!("\n-- {what}\n{name} : (after channel window {frames} ({text})).voice.place ≡ {place}\n{OF_FRAMES}\n{name} = refl\n")
 }
 
 pub fn examples() -> String {
