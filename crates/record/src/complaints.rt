@@ -14,10 +14,7 @@ pub fn bad(begun: usize) {
 
 // The case does not fit the room.
 pub fn long() {
-    io::write_all(
-        STDERR,
-        b"record: the case has more than 4,194,303 bytes\n",
-    );
+    io::write_all(STDERR, b"record: the case has more than 4,194,303 bytes\n");
 }
 
 // The file would be longer than its heading can say.
@@ -30,8 +27,5 @@ pub fn endless() {
 
 // The file, or the rest of it, is not written.
 pub fn lost() {
-    io::write_all(
-        STDERR,
-        b"record: standard output cannot be written\n",
-    );
+    io::write_all(STDERR, b"record: standard output cannot be written\n");
 }

@@ -14,6 +14,7 @@ use tapes::Tape;
 
 // The descriptors of standard input and output.
 const STDIN: i32 = 0;
+
 const STDOUT: i32 = 1;
 
 // The player and the tape behind a command.

@@ -1,8 +1,7 @@
 // r, V: a render, counted and, the second time, poured.
 use crate::tapes::Tape;
-use crate::{Played, tapes};
+use crate::{Played, STDOUT, tapes};
 use cases::Command;
-use crate::STDOUT;
 use player::Player;
 
 // So many frames more. Above what a file can hold the count stays.
