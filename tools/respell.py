@@ -12,7 +12,8 @@ import re
 import sys
 
 # A word: parts of letters, digits, underscores and primes, joined by dashes.
-WORD = re.compile(r"(?<![\w'-])[A-Za-z_][\w']*(?:-[\w']+)*")
+# A byte literal, as b'R', is none.
+WORD = re.compile(r"(?<![\w'-])(?!b'.')[A-Za-z_][\w']*(?:-[\w']+)*")
 
 # Lemmas that would fall together with the definition that they speak of, with the folders in which they are named; behind a dot it is a step of a proof.
 CLASHES = {

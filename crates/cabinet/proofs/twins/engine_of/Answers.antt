@@ -1,8 +1,6 @@
 -- One voice a turn.
-use Prim.Native.Nat.{◌-◌}
-use mathlib.Core.Path.{◌≡◌, refl, sym}
 use native.Mathlib.Omega.{arith}
-use lib.ListN.{length, length-map, length-set}
+use lib.ListN.{length-set}
 use Rattle.voice.specs.Changes.{blank}
 use Rattle.cabinet.specs.Twins.{voice_of_twin, voice_to, engine_of}
 use Rattle.cabinet.proofs.TwinsLaws.{fill, filled}
