@@ -15,6 +15,9 @@ import sys
 # A byte literal, as b'R', is none.
 WORD = re.compile(r"(?<![\w'-])(?!b'.')[A-Za-z_][\w']*(?:-[\w']+)*")
 
+# A centibel is written so in comments.
+UNITS = {"cB"}
+
 # Lemmas that would fall together with the definition that they speak of, with the folders in which they are named; behind a dot it is a step of a proof.
 CLASHES = {
     "crates/merge/proofs": {"settled_at": "settled_at_lem"},
@@ -38,7 +41,7 @@ def respelled(text, clashes=None):
         w = m.group(0)
         if clashes and w in clashes and text[m.start() - 1 : m.start()] != ".":
             return clashes[w]
-        if re.match(r"[a-z]", w) and re.search(r"[a-z0-9'][A-Z]", w):
+        if w not in UNITS and re.match(r"[a-z]", w) and re.search(r"[a-z0-9'][A-Z]", w):
             return "-".join(snake(p) for p in w.split("-"))
         return w
 

@@ -12,7 +12,7 @@ use Rattle.curves.specs.Pitch.{step_of}
 pub data Row : Type 0 where
   step : ℤ → ℕ → ℕ → Row  -- cents, rate
   time : ℤ → ℕ → Row  -- timecents, with either upper hold
-  gain : ℕ → ℕ → Row  -- c_b
+  gain : ℕ → ℕ → Row  -- cB
   velocity : ℕ → ℕ → Row
 
 -- the examples, in 01's order

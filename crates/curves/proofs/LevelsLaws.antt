@@ -31,7 +31,7 @@ unfolding reach
 past-reach zero g m h = h
 past-reach (suc n) g m h = past-reach n (g / 10) m (omega arith)
 
--- 200 c_b more are one tenth more
+-- 200 cB more are one tenth more
 pub reach-turn : (l a : ℕ) → reach (a / 200) l * 10 + 9 ≡ reach ((a + 200) / 200) l
 unfolding reach
 reach-turn l a = let e : (a + 200) / 200 ≡ suc (a / 200) = omega arith in rw e refl
@@ -41,7 +41,7 @@ unfolding reach
 reach-lt zero l h = h
 reach-lt (suc n) l h = omega (arith, reach-lt n l h, pow-suc 10 n)
 
--- below 1,000 c_b ten times that has room in 64 bits
+-- below 1,000 cB ten times that has room in 64 bits
 pub reach-small : (l a m : ℕ) → l < 4294967296 → a < 1000 → m ≡ reach (a / 200) l → m < 42949672960000
 reach-small l a m h k e =
     let four : a / 200 ≤ 4 = omega arith in
@@ -108,7 +108,7 @@ pub least-reached : (l : ℕ) → least_cb l < 1000 → gain_of (least_cb l) ≤
 unfolding least_cb
 least-reached l h = rw zero-add at ((counts gain_of l 0 1000).next h)
 
--- a level of 0 is reached by no gain below 1,000 c_b
+-- a level of 0 is reached by no gain below 1,000 cB
 pub least-silent : least_cb 0 ≡ 1000
 unfolding least_cb above gain_of
 least-silent = refl
@@ -118,7 +118,7 @@ pub least-none : (l : ℕ) → ((b : ℕ) → b < 1000 → l < gain_of b) → 10
 unfolding least_cb
 least-none l p = count-is gain_of l 1000 1000 (omega arith) p (λ h. omega arith)
 
--- the gain i c_b behind n times 200
+-- the gain i cB behind n times 200
 gain-behind : (n i a : ℕ) → a ≡ n * 200 + i → i < 200 → a ≤ 1440 → gain_of a ≡ tenths n (kept i)
 unfolding gain_of
 gain-behind n i a e few h =

@@ -1,4 +1,4 @@
--- Every gain follows 01's rule, from the rule of those that are kept: the rule for 200 c_b more is that of the number times ten.
+-- Every gain follows 01's rule, from the rule of those that are kept: the rule for 200 cB more is that of the number times ten.
 use Prim.Native.Nat.{ℕ, zero, suc, ◌+◌, ◌*◌, ◌^◌, ◌/◌, ◌%◌, ◌≤◌}
 use mathlib.Core.Bool.{Bool, true, false}
 use mathlib.Core.Path.{◌≡◌, refl, ap, sym, ◌∙◌, subst}
@@ -27,7 +27,7 @@ module _ (k a limit : ℕ) where
         most = λ m l. let t = h.most (m * 10) (subst (λ (x : ℕ). x ≤ limit) (ten-in m) l) in omega arith;
       }
 
--- n tenths, for n times 200 c_b
+-- n tenths, for n times 200 cB
 divided : (n a g : ℕ) → Largest (Lowered a) g → Largest (Lowered (a + n * 200)) (tenths n g)
 divided zero a g h = let e : a ≡ a + 0 * 200 = omega arith in subst (λ (m : ℕ). Largest (Lowered m) g) e h
 divided (suc n) a g h =

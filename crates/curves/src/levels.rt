@@ -29,7 +29,7 @@ fn joined(high: u16, low: u8) -> u32
     high as u32 * 256 + low as u32 + 1
 }
 
-// The gain of an attenuation in c_b, in 2^-24: one division by a constant, since a voice in its attack asks for its gain in each frame.
+// The gain of an attenuation in cB, in 2^-24: one division by a constant, since a voice in its attack asks for its gain in each frame.
 pub fn gain(t: &GainTable, a: u64) -> u32
     requires { t.now ≡ gains }
     ensures { (result ≡ gain_of a) × (result ≤ 16777216) }
@@ -102,7 +102,7 @@ fn wide(g: u32) -> u64
     g as u64
 }
 
-// The attenuation of a velocity, or of control 7 or 11, in c_b.
+// The attenuation of a velocity, or of control 7 or 11, in cB.
 pub fn cb_of(v: u8) -> u16
     ensures { (result ≡ cb_of v) × (result ≤ 960) }
 {

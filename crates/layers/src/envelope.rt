@@ -7,7 +7,7 @@ ghost use Rattle.layers.specs.Envelope.{envelope_of};
 use curves::{OctaveTable, long_frames, short_frames};
 use totals::{keyed_time, sustain_of, time_of};
 
-// The frames of each stage, and the sustain's attenuation in c_b.
+// The frames of each stage, and the sustain's attenuation in cB.
 #[derive(Clone, Copy)]
 pub struct Envelope {
     pub delay: u32,

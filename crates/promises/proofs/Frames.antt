@@ -74,7 +74,7 @@ late-none v h = by v.stage refl h
     by Sustain q e = none Sustain q refl e
     by (Release a t) q e = record { from = a; t = t; stage = q; spent = omega arith; young = λ h. absurd (no h) }
 
--- after its N frames a release stands at 1,000 c_b or more
+-- after its N frames a release stands at 1,000 cB or more
 over : (n a t : ℕ) → n ≤ t → 1000 ≤ release_at n a t
 unfolding release_at
 over zero a t h = omega arith

@@ -286,7 +286,7 @@ crowd-overlaps =
     (left (right (left (right ends)))))
     (left (right (right (left (right (right ends))))))
 
--- all 32 voices released, in delay: from 1,000 c_b
+-- all 32 voices released, in delay: from 1,000 cB
 abbrev rest : Engine
 rest = state (replicate 32 (with_stage layer (Release 1000 0))) 4294967295 (up_from 1 31 ++ (0 ∷ []))
 

@@ -116,7 +116,7 @@ fn plus(a: i64, v: u16) -> i32
     (a + (v as i64)) as i32
 }
 
-// Generator 48's total and velocity, in c_b.
+// Generator 48's total and velocity, in cB.
 pub fn attenuation_of(own: &[i16; 61], added: &[i16; 61], velocity: u8) -> i32
     ensures { result ≡ attenuation_of (total_in own.now added.now) velocity }
 {
@@ -124,7 +124,7 @@ pub fn attenuation_of(own: &[i16; 61], added: &[i16; 61], velocity: u8) -> i32
     plus(sum_at(own, added, 48), v)
 }
 
-// Generator 37's total, in c_b.
+// Generator 37's total, in cB.
 pub fn sustain_of(own: &[i16; 61], added: &[i16; 61]) -> u16
     ensures { result ≡ nat_abs (total_in own.now added.now 37) }
 {

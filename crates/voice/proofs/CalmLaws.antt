@@ -1,4 +1,4 @@
--- Which frames are calm: a hold to its end, a sustain, a decay and a release while their c_b stays.
+-- Which frames are calm: a hold to its end, a sustain, a decay and a release while their cB stays.
 use Prim.Native.Nat.{ℕ, ◌+◌, ◌*◌, ◌/◌, ◌%◌, ◌<◌, ◌-◌, min, ◌≤◌}
 use mathlib.Core.Path.{◌≡◌, ap, ◌∙◌, refl, subst}
 use native.Mathlib.Nat.{div-add-mod', add-mul-div_right, div-eq_of_lt, mod-lt, not-suc-le-zero}
@@ -27,7 +27,7 @@ same-quotient n t j h k =
 pub until-steady : (n t : ℕ) → 0 < n → Steady n t ((n - 1000 * t % n + 999) / 1000)
 until-steady n t h j k = same-quotient n t j h (omega (arith, mod-lt (1000 * t) h))
 
--- then the decay's c_b stays
+-- then the decay's cB stays
 pub decay-same : (n z t j : ℕ) → 1000 * (t + j) / n ≡ 1000 * t / n → decay_at n z (t + j) ≡ decay_at n z t
 unfolding decay_at
 decay-same n z t j e = ap (λ (q : ℕ). cond (eqb n 0) z (min q z)) e
@@ -59,7 +59,7 @@ module _ (v : Voice) where
   pub sustain-calm : (m : ℕ) → Calms v Sustain m
   sustain-calm m j k = record { enters = refl; waits = refl; dies = refl; frees = refl; cb = refl; full = λ u. refl }
 
-  -- a decay that is not spent, while its c_b stays
+  -- a decay that is not spent, while its cB stays
   pub decay-calm : (t m : ℕ) → (0 < m → decay_at v.decay v.sustain t < v.sustain) → Steady v.decay t m → Calms v (Decay t) m
   unfolding from_decay
   decay-calm t m h s j k =
@@ -75,7 +75,7 @@ module _ (v : Voice) where
         full = λ u. refl;
       }
 
-  -- a release, while its c_b stays
+  -- a release, while its cB stays
   pub release-calm : (a t m : ℕ) → Steady v.release t m → Calms v (Release a t) m
   release-calm a t m s j k =
       let e = release-same v.release a t j (s j k) in

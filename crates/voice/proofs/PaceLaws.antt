@@ -195,7 +195,7 @@ module _ (v : Voice) where
   pace-on Sustain c p = p
   pace-on (Release a t) c p = subst (λ (n : ℕ). Paced 1000 (some v.release) n c) (omega arith) p
 
-  -- level and c_b at a value are those of all frames of the stage
+  -- level and cB at a value are those of all frames of the stage
   pub level-same : (j x : ℕ) (s : Stage) → level_in (spent_by j s) x ≡ level_in s x
   level-same j x (Delay left) = refl
   level-same j x (Attack t) = refl

@@ -34,7 +34,7 @@ fn calm_attack(t: u32) -> u32
     0
 }
 
-// Frames in which a decay's c_b stays; none where it has reached the sustain value.
+// Frames in which a decay's cB stays; none where it has reached the sustain value.
 fn calm_decay(n: u32, z: u16, t: u32) -> u32
     ensures { Steady n t result × (t + result < 4294967296) × (0 < result → decay_at n z t < z) }
 {

@@ -60,9 +60,9 @@ pub struct Voice {
     // cents, without the bend
     pub pitch: i32,
     pub pan: i16,
-    // generator 48 and velocity, in c_b
+    // generator 48 and velocity, in cB
     pub attenuation: i32,
-    // frames; sustain in c_b
+    // frames; sustain in cB
     pub attack: u32,
     pub hold: u32,
     pub decay: u32,

@@ -85,7 +85,7 @@ fn stop_if(n: u32, stop: u64) -> u64
     if n == 0 { 0 } else { stop }
 }
 
-// How much is left of 1,000 c_b.
+// How much is left of 1,000 cB.
 fn left_of(cb: u16) -> u64
     ensures { result ≡ 1000 - cb }
 {
@@ -120,7 +120,7 @@ pub fn level_in(s: Stage, value: u64) -> u64
     }
 }
 
-// A release's c_b: what it began with, and the value.
+// A release's cB: what it began with, and the value.
 fn fallen(from: u16, value: u64) -> u64
     requires { value < 8796092956672 }
     ensures { (result ≡ from + value) × (result < 8796093022208) }
@@ -128,7 +128,7 @@ fn fallen(from: u16, value: u64) -> u64
     from as u64 + value
 }
 
-// The envelope's c_b at a value.
+// The envelope's cB at a value.
 pub fn cb_in(v: Voice, s: Stage, value: u64) -> u64
     requires { value < 8796092956672 }
     ensures { (result ≡ cb_in v s value) × (result < 8796093022208) }

@@ -39,7 +39,7 @@ fn show_stage(v: Voice, s: Stage, g: &GainTable) -> Shown
     }
 }
 
-// The gain of a c_b, as a fraction of full.
+// The gain of a cB, as a fraction of full.
 fn gain_unit(g: &GainTable, a: u64) -> f32
     requires { g.now ≡ gains }
     ensures { result ≡ level_of (gain_of a) }

@@ -19,7 +19,7 @@ use crate::way::{Way, next_place};
 use crate::{Stage, Voice};
 use curves::{GainTable, gain};
 
-// The gain at c_b e, where it is known at c_b last.
+// The gain at cB e, where it is known at cB last.
 fn regain(l: i64, g: &GainTable, known: u32, last: u64, e: u64) -> u32
     requires tables { g.now ≡ gains }
     requires loss { Within l 1099511627776 × (e < 8796093022208) }

@@ -12,7 +12,7 @@ use crate::stages::{envelope_of, level_at};
 use crate::{Stage, Voice};
 use curves::{GainTable, cb_of, gain};
 
-// A signed attenuation and two more, in c_b.
+// A signed attenuation and two more, in cB.
 fn added(a: i32, x: u16, y: u16) -> i64
     ensures { (result ≡ a +ℤ pos x +ℤ pos y) × Within result 1099511627776 }
 {

@@ -16,7 +16,7 @@ pub fn level_at(n: u32, t: u32) -> u32
     least(16777216 * (t as u64) / (n as u64), 16777216) as u32
 }
 
-// The decay's c_b in frame t of n.
+// The decay's cB in frame t of n.
 pub fn decay_at(n: u32, z: u16, t: u32) -> u16
     ensures { result ≡ decay_at n z t }
 {
@@ -26,7 +26,7 @@ pub fn decay_at(n: u32, z: u16, t: u32) -> u16
     least(1000 * (t as u64) / (n as u64), z as u64) as u16
 }
 
-// The release's c_b in frame t of n, from a.
+// The release's cB in frame t of n, from a.
 pub fn release_at(n: u32, a: u16, t: u32) -> u64
     ensures { (result ≡ release_at n a t) × (result < 8796093022208) }
 {
@@ -36,14 +36,14 @@ pub fn release_at(n: u32, a: u16, t: u32) -> u64
     (a as u64) + 1000 * (t as u64) / (n as u64)
 }
 
-// A c_b as a wider number, as the table of gains takes it.
+// A cB as a wider number, as the table of gains takes it.
 pub fn wide(x: u16) -> u64
     ensures { result ≡ x }
 {
     x as u64
 }
 
-// The envelope's c_b.
+// The envelope's cB.
 pub fn envelope_of(v: Voice, s: Stage) -> u64
     ensures { (result ≡ envelope v s) × (result < 8796093022208) }
 {

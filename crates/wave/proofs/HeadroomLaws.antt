@@ -152,7 +152,7 @@ none-past g size h (x ∷ y ∷ zs) l =
     ap₂ (λ (p q : Bool). cond (p || q) 1 0 + frames_past g zs) a b
     ∙ ap (λ (n : ℕ). 0 + n) (none-past g size h zs (le_trans (le-max_right (nat_abs y) (loudest_of zs)) rest))
 
--- the gain of 0 c_b is 1
+-- the gain of 0 cB is 1
 gain-zero : gain_of 0 ≡ 16777216
 unfolding gain_of
 gain-zero = refl
@@ -171,7 +171,7 @@ deep : gain_of 999 ≤ 32768
 unfolding gain_of
 deep = lit≤ tt
 
--- below 1,000 c_b there is a gain for every size of 32 bits
+-- below 1,000 cB there is a gain for every size of 32 bits
 few : (size : ℕ) → 8388608 < size → size < 4294967296 → least_cb (140737488355328 / size) < 1000
 few size h s = by (ltb (least_cb (140737488355328 / size)) 1000) refl
   where

@@ -52,6 +52,6 @@ unfoldable pub sums_into : ℕ → List ℤ → List ℕ → List ℕ
 sums_into a zs out =
     cond (eqb (sums_number zs (length out)) 0) (poured_sums (gain_of a) zs ++ drop (2 * length zs) out) out
 
--- the least attenuation in c_b with which no sum of at most this size is held: the gain times the size is at most 2^47
+-- the least attenuation in cB with which no sum of at most this size is held: the gain times the size is at most 2^47
 unfoldable pub attenuation_for : ℕ → ℕ
 attenuation_for size = cond (leb size 8388608) 0 (least_cb (140737488355328 / size))

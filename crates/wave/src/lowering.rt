@@ -142,7 +142,7 @@ pub fn pour_sums(sums: &[i32], attenuation: u16, out: &mut [u8]) -> Poured
     }
 }
 
-// The least attenuation, in c_b, with which no sum of at most this size is held.
+// The least attenuation, in cB, with which no sum of at most this size is held.
 pub fn attenuation_for(loudest: u32) -> u16
     ensures { result ≡ attenuation_for loudest }
 {

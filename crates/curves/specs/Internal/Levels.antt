@@ -2,7 +2,7 @@
 use Rattle.std.specs.Prelude.{ℕ, get_or}
 use Rattle.curves.specs.Levels.{gains, above}
 
--- the kept gain of i c_b
+-- the kept gain of i cB
 abbrev pub kept : ℕ → ℕ
 kept i = get_or gains i 0
 

@@ -1,4 +1,4 @@
--- What grows in a stage, frame by frame, as one quotient: the attack's level, a hold's frames, the c_b of decay and release.
+-- What grows in a stage, frame by frame, as one quotient: the attack's level, a hold's frames, the cB of decay and release.
 use Rattle.std.specs.Prelude.{ℕ, ◌+◌, ◌*◌, ◌/◌, ◌-◌, ◌<◌, min, ◌≡◌, cond, eqb}
 use Rattle.voice.specs.declared.Stage.{Stage}
 use Rattle.voice.specs.declared.Stage.TheVariants.{Delay, Attack, Hold, Decay, Sustain, Release}
@@ -62,7 +62,7 @@ level_in (Decay t) x = 16777216
 level_in Sustain x = 16777216
 level_in (Release a t) x = 16777216
 
--- the envelope's c_b at a value
+-- the envelope's cB at a value
 abbrev pub cb_in : Voice → Stage → ℕ → ℕ
 cb_in v (Delay left) x = 0
 cb_in v (Attack t) x = 0

@@ -1,4 +1,4 @@
--- The search among the kept gains, 200 c_b after 200 c_b, finds the least attenuation.
+-- The search among the kept gains, 200 cB after 200 cB, finds the least attenuation.
 use Prim.Native.Nat.{◌-◌}
 use native.Mathlib.Omega.{arith}
 use mathlib.Core.Path.{refl}

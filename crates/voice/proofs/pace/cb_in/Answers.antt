@@ -1,4 +1,4 @@
--- The c_b, by the stage: each return by that case of `cb_in`.
+-- The cB, by the stage: each return by that case of `cb_in`.
 use mathlib.Core.Path.{sym, ap, ◌∙◌}
 use native.Mathlib.Omega.{arith}
 use Rattle.voice.specs.declared.Stage.{Stage}

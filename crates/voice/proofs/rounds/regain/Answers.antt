@@ -1,4 +1,4 @@
--- The same c_b has the same gain.
+-- The same cB has the same gain.
 use mathlib.Core.Path.{sym, ap, ◌∙◌}
 use Prim.Native.Nat.{ℕ}
 use lib.Dec.{lit<}

@@ -1,4 +1,4 @@
--- The decay's c_b: each return by what the test before it says of `decay_at`.
+-- The decay's cB: each return by what the test before it says of `decay_at`.
 use borrow.Author.Tests.{eq-eqb, ne_eqb}
 use Rattle.voice.specs.Stages.{decay_at}
 use Rattle.voice.proofs.stages.decay_at.Goals as goal

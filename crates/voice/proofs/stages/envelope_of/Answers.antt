@@ -1,4 +1,4 @@
--- The envelope's c_b, by the stage: each return by that case of `envelope`.
+-- The envelope's cB, by the stage: each return by that case of `envelope`.
 use native.Mathlib.Omega.{arith}
 use mathlib.Core.Path.{sym, ap, ◌∙◌}
 use Rattle.voice.specs.Stages.{envelope}

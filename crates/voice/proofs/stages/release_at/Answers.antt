@@ -1,4 +1,4 @@
--- The release's c_b: each return by what the test says of `release_at`, and it fits because a quotient is at most what is divided.
+-- The release's cB: each return by what the test says of `release_at`, and it fits because a quotient is at most what is divided.
 use Prim.Native.Nat.{◌*◌}
 use native.Mathlib.Nat.{div-le_self}
 use native.Mathlib.Omega.{arith}
