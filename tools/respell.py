@@ -5,7 +5,7 @@ usage: tools/respell.py [FOLDER]      once, right after /opt/rattle/port/port.py
 
 Each word of the .antt files and of the clauses of the .rt files that begins with a small letter and has a capital in it, as `heldTo` or `letOff-picked`,
 becomes `held_to` and `let_off-picked`. Types, modules, facts and constructors keep their capitals; functions, fields and exported names of src/ are in snake
-case already. Five lemmas would then have the name of a definition beside them: these get `_lem` (CLASHES).
+case already. Six lemmas would then have the name of a definition beside them: these get `_lem` (CLASHES).
 """
 import os
 import re
@@ -15,8 +15,8 @@ import sys
 # A byte literal, as b'R', is none.
 WORD = re.compile(r"(?<![\w'-])(?!b'.')[A-Za-z_][\w']*(?:-[\w']+)*")
 
-# A centibel is written so in comments.
-UNITS = {"cB"}
+# Comments write a tenth of a decibel and a decibel so.
+UNITS = {"cB", "dB"}
 
 # Lemmas that would fall together with the definition that they speak of, with the folders in which they are named; behind a dot it is a step of a proof.
 CLASHES = {

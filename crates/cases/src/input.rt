@@ -1,4 +1,4 @@
-// Reading standard input as it comes, through a lent room: bytes, little-endian numbers, samples.
+// Reading standard input, a lent room of it at a time: bytes, little-endian numbers, samples.
 ghost use Rattle.std.specs.Prelude.{◌≡◌, ◌+◌, ◌*◌, true, false};
 
 // The descriptor of standard input.
