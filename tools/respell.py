@@ -1,11 +1,14 @@
 #!/usr/bin/env python3
 """Brings the repository's own definitions and lemmas to today's spelling: words in snake case.
 
-usage: tools/respell.py [FOLDER]      once, right after /opt/rattle/port/port.py; FOLDER is the top of the checkout
+usage: tools/respell.py [FOLDER]      once, right after the kit's port.py; FOLDER is the top of the
+                                      checkout
 
-Each word of the .antt files and of the clauses of the .rt files that begins with a small letter and has a capital in it, as `heldTo` or `letOff-picked`,
-becomes `held_to` and `let_off-picked`. Types, modules, facts and constructors keep their capitals; functions, fields and exported names of src/ are in snake
-case already. Six lemmas would then have the name of a definition beside them: these get `_lem` (CLASHES).
+Each word of the .antt files and of the clauses of the .rt files that begins with a small letter and
+has a capital in it, as `heldTo` or `letOff-picked`, becomes `held_to` and `let_off-picked`. Types,
+modules, facts and constructors keep their capitals; functions, fields and exported names of src/
+are in snake case already. Six lemmas would then have the name of a definition beside them: these
+get `_lem` (CLASHES).
 """
 import os
 import re
@@ -18,7 +21,8 @@ WORD = re.compile(r"(?<![\w'-])(?!b'.')[A-Za-z_][\w']*(?:-[\w']+)*")
 # Comments write a tenth of a decibel and a decibel so.
 UNITS = {"cB", "dB"}
 
-# Lemmas that would fall together with the definition that they speak of, with the folders in which they are named; behind a dot it is a step of a proof.
+# Lemmas that would fall together with the definition that they speak of, with the folders in which
+# they are named; behind a dot it is a step of a proof.
 CLASHES = {
     "crates/merge/proofs": {"settled_at": "settled_at_lem"},
     "crates/promises/proofs": {"past_one": "past_one_lem", "past_two": "past_two_lem"},
