@@ -1,8 +1,6 @@
 -- `first` meets its contract.
-use borrow.Author.Rules.{rules}
 use mathlib.Core.Path.{refl, sym, ◌∙◌}
 use native.Mathlib.Omega.{arith}
-use Prim.Native.Nat.{◌-◌}
 use Rattle.riff.proofs.ChunksLaws.{next-in, first-further, first-none, first-here}
 use Rattle.riff.proofs.chunks.first.Goals as goal
 
@@ -13,7 +11,7 @@ pub returns-then-is_named : goal.returns-then-is_named
 returns-then-is_named c = let a = c.args in
     let whole = sym c.is_whole.ensures ∙ c.loop-end-test.true in
     let named = sym c.is_named.ensures ∙ c.if-is_named.true in
-    (sym (c.loop-end.invariant.0 ∙ first-here a.b.now a.end c.loop-end.at a.name a.kind whole named), c.loop-end.invariant.1)
+    record { some = (sym (c.loop-end.invariant.0 ∙ first-here a.b.now a.end c.loop-end.at a.name a.kind whole named), omega (arith, next-in a.b.now a.end c.loop-end.at whole)); none = tt }
 
 pub loop-end-smaller : goal.loop-end-smaller
 loop-end-smaller c = let a = c.args in
@@ -28,4 +26,4 @@ loop-end-preserved c = let a = c.args in
 
 pub returns : goal.returns
 returns c = let a = c.args in
-    (sym (c.loop-end.invariant.0 ∙ first-none a.b.now a.end c.loop-end.at a.name a.kind (sym c.is_whole.ensures ∙ c.loop-end-test.false)), search rules)
+    record { some = tt; none = c.loop-end.invariant.0 ∙ first-none a.b.now a.end c.loop-end.at a.name a.kind (sym c.is_whole.ensures ∙ c.loop-end-test.false) }
