@@ -49,9 +49,9 @@ kind_number Broken = 41
 kind_number Missing = 42
 
 -- an answer as it is told
-abbrev pub told : Result Font Fault → Found
-told (Ok f) = record { number = 0; place = 0; bank = f.bank; samples = f.samples }
-told (Err f) = refused_by (kind_number f.kind) f.place
+abbrev pub told_font : Result Font Fault → Found
+told_font (Ok f) = record { number = 0; place = 0; bank = f.bank; samples = f.samples }
+told_font (Err f) = refused_by (kind_number f.kind) f.place
 
 -- a list's body behind its type
 unfoldable pub list_body : List ℕ → ℕ → Part

@@ -1,6 +1,6 @@
 // Chunks one behind the other in front of an end, each with a name, a size, a body, and a pad byte where its size is odd.
-ghost use Rattle.std.specs.Prelude.{◌≡◌, ◌≤◌, ◌<◌, IfNone, IfSome};
-ghost use Rattle.riff.specs.Chunks.{size_at, least_size, type_at, is_whole, is_named, next_at, stop_at, first_at};
+ghost use Rattle.std.specs.Prelude.{◌≡◌, ◌≤◌, ◌<◌, IfSome};
+ghost use Rattle.riff.specs.Chunks.{size_at, least_size, type_at, is_whole, is_named, next_at, stop_at, sought_at};
 
 // LIST as a number, the low byte first.
 pub const LIST: u32 = 1414744396;
@@ -91,8 +91,8 @@ pub fn stop(b: &[u8], end: usize, from: usize) -> usize
 // Where the first chunk of a name and a type begins, if there is one.
 pub fn first(b: &[u8], end: usize, name: u32, kind: u32, from: usize) -> Option<usize>
     requires { (from ≤ end) × (end ≤ 4294967303) }
-    ensures some { IfSome result (λ at. (at ≡ first_at b.now end name kind from) × (at < end)) }
-    ensures none { IfNone result (first_at b.now end name kind from ≡ end) }
+    ensures value { result ≡ sought_at b.now end name kind from }
+    ensures within { IfSome result (λ at. at < end) }
 {
     let mut at = from;
     while is_whole(b, end, at) {

@@ -2,20 +2,23 @@
 
 #![tactic(auto)]
 
+ghost use Rattle.std.specs.Prelude.{◌≡◌};
+ghost use Rattle.riff.specs.Form.{kind_number};
+
 mod chunks;
 mod form;
 
 pub use form::find;
 
 // Where bytes begin in a file, and how many there are.
-#[derive(Clone, Copy)]
+#[derive(Clone, Copy, Default)]
 pub struct Part {
     pub at: usize,
     pub size: usize,
 }
 
 // Where the bank and the samples of a file lie.
-#[derive(Clone, Copy)]
+#[derive(Clone, Copy, Default)]
 pub struct Font {
     pub bank: Part,
     pub samples: Part,
@@ -30,6 +33,15 @@ pub enum FaultKind {
     Broken = 41,
     // a list or the chunk of samples is not there
     Missing = 42,
+}
+
+impl FaultKind {
+    // The number of a kind.
+    pub fn number(self) -> u8
+        ensures { result ≡ kind_number self }
+    {
+        self as u8
+    }
 }
 
 // The first fault of a file, and its place.

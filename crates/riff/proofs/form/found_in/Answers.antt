@@ -18,8 +18,8 @@ all_whole-requires c =
     let within = rw (← c.data_span-data.ensures) at (span-in c.args.b.now c.args.end) in
     (within.0, omega (arith, within))
 
-pub first-requires : goal.first-requires
-first-requires c =
+pub sought-requires : goal.sought-requires
+sought-requires c =
     let within = rw (← c.data_span-data.ensures) at (span-in c.args.b.now c.args.end) in
     (within.0, omega (arith, within))
 
