@@ -4,7 +4,7 @@ ghost use Rattle.totals.specs.Internal.Values.{total_in};
 ghost use Rattle.layers.specs.Envelope.{envelope_of};
 
 use curves::OctaveTable;
-use totals::{keyed_time, sustain_of, time_of};
+use totals::LayerValues;
 
 // The frames of each stage, and the sustain's attenuation in cB.
 #[derive(Clone, Copy)]
@@ -18,15 +18,15 @@ pub struct Envelope {
 }
 
 // The envelope by a layer's values, struck with key.
-pub fn envelope_of(own: &[i16; 61], added: &[i16; 61], key: u8, t: &OctaveTable) -> Envelope
-    ensures { result ≡ envelope_of (total_in own.now added.now) key }
+pub fn envelope_of(values: &LayerValues, key: u8, t: &OctaveTable) -> Envelope
+    ensures { result ≡ envelope_of (total_in values.now.own values.now.added) key }
 {
     Envelope {
-        delay: t.short_frames(time_of(own, added, 33)),
-        attack: t.long_frames(time_of(own, added, 34)),
-        hold: t.short_frames(keyed_time(own, added, key, 35, 39)),
-        decay: t.long_frames(keyed_time(own, added, key, 36, 40)),
-        sustain: sustain_of(own, added),
-        release: t.long_frames(time_of(own, added, 38)),
+        delay: t.short_frames(values.time_of(33)),
+        attack: t.long_frames(values.time_of(34)),
+        hold: t.short_frames(values.keyed_time(key, 35, 39)),
+        decay: t.long_frames(values.keyed_time(key, 36, 40)),
+        sustain: values.sustain_of(),
+        release: t.long_frames(values.time_of(38)),
     }
 }
