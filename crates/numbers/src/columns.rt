@@ -6,16 +6,14 @@ use crate::rows::{line, print_signed, signed_line};
 use curves::{GainTable, OctaveTable};
 
 // The step of a pitch at a rate.
-fn step_line(t: &OctaveTable, cents: i32, rate: u16)
-{
+fn step_line(t: &OctaveTable, cents: i32, rate: u16) {
     io::write_all(1, b"step ");
     print_signed(cents);
     line(b" ", rate as i32, t.step(cents, rate));
 }
 
 // The steps of a pitch at each rate.
-fn steps_at(t: &OctaveTable, cents: i32)
-{
+fn steps_at(t: &OctaveTable, cents: i32) {
     let mut i: usize = 0;
     while i < 10 {
         step_line(t, cents, rate_at(i));
@@ -24,8 +22,7 @@ fn steps_at(t: &OctaveTable, cents: i32)
 }
 
 // The steps of each pitch.
-pub fn steps(t: &OctaveTable)
-{
+pub fn steps(t: &OctaveTable) {
     let mut i: usize = 0;
     while i < 161 {
         steps_at(t, cents_at(i));
@@ -34,15 +31,13 @@ pub fn steps(t: &OctaveTable)
 }
 
 // The frames of a time, with either upper hold.
-fn time_lines(t: &OctaveTable, time: i32)
-{
+fn time_lines(t: &OctaveTable, time: i32) {
     line(b"frames ", time, t.long_frames(time));
     line(b"frames5000 ", time, t.short_frames(time));
 }
 
 // The frames of each time.
-pub fn times(t: &OctaveTable)
-{
+pub fn times(t: &OctaveTable) {
     let mut i: usize = 0;
     while i < 175 {
         time_lines(t, time_at(i));
@@ -51,8 +46,7 @@ pub fn times(t: &OctaveTable)
 }
 
 // The gains, and five past the last.
-pub fn gains(g: &GainTable)
-{
+pub fn gains(g: &GainTable) {
     let mut a: u32 = 0;
     while a < 1446 {
         line(b"gain ", a as i32, g.gain(a as u64));
@@ -70,8 +64,7 @@ pub fn attenuations(name: &[u8], first: u8) {
 }
 
 // The least attenuation for a level.
-fn level_line(g: &GainTable, level: u32)
-{
+fn level_line(g: &GainTable, level: u32) {
     io::write_all(1, b"least ");
     io::print_decimal(1, level as u64);
     io::write_all(1, b" = ");
@@ -80,8 +73,7 @@ fn level_line(g: &GainTable, level: u32)
 }
 
 // The least attenuation for each level.
-pub fn levels(g: &GainTable)
-{
+pub fn levels(g: &GainTable) {
     let mut i: usize = 0;
     while i < 109 {
         level_line(g, level_at(i));

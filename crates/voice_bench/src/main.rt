@@ -166,8 +166,7 @@ fn round(g: &GainTable, o: &OctaveTable, w: &[i16], acc: &mut [i32], r: u64) -> 
 }
 
 // One round, from sums of zeros.
-fn one(g: &GainTable, o: &OctaveTable, w: &[i16], r: u64) -> u64
-{
+fn one(g: &GainTable, o: &OctaveTable, w: &[i16], r: u64) -> u64 {
     let mut acc = [0i32; 8192];
     round(g, o, w, &mut acc, r)
 }
