@@ -1,4 +1,6 @@
 -- A file of format 0 is merged as M-101 reads it: with the same events, or the same refusal.
+use Rattle.smf.specs.declared.Quantity.{Quantity}
+use Rattle.std.proofs.Common.{Option, Some, None}
 use mathlib.Core.Bool.{Bool, true, false, cond, not, ◌||◌}
 use mathlib.Core.List.{List, [], ◌∷◌, append-nil}
 use mathlib.Core.Logic.{◌⊎◌, inl, inr, ⊎_elim}
@@ -15,9 +17,7 @@ use Rattle.smf.specs.declared.Header.{Header}
 use Rattle.smf.specs.declared.Item.{Item}
 use Rattle.smf.specs.declared.Item.TheVariants.{Bad, End, Passed, Tempo, Channel}
 use Rattle.smf.specs.declared.Met.{Met}
-use Rattle.smf.specs.declared.Quantity.{Quantity}
-use Rattle.smf.specs.declared.Quantity.TheVariants.{Good}
-use Rattle.smf.specs.Quantities.{two_at, four_at, quantity_at}
+use Rattle.smf.specs.Quantities.{two_at, four_at, quantity_at, quantity}
 use Rattle.smf.specs.Head.{head_name, track_name, chunk_end, track_from, head_of}
 use Rattle.smf.specs.Items.{item_at}
 use Rattle.smf.specs.Ticks.{sum_after, is_late, frame_of}
@@ -227,14 +227,14 @@ module _ (n : ℕ) (b : List ℕ) (c : Cursor) (tick : ℕ) (held : c.end ≤ le
   Told = Tells c.division tick c.tempo c.sum (song_from (suc n) b c) (entries_from (suc n) b first) (flaw_from (suc n) b first)
 
   -- a delta time that is not well formed
-  tells_none : quantity_at b c.end c.at ≡ Quantity.Bad → Told
+  tells_none : quantity_at b c.end c.at ≡ None → Told
   tells_none q =
-      let m = meet-bad b c (subst (λ (x : ℕ). quantity_at b x c.at ≡ Quantity.Bad) (sym edge) q) in
+      let m = meet-bad b c (subst (λ (x : ℕ). quantity_at b x c.at ≡ None) (sym edge) q) in
       let same = settled-bad b c.end c.running c.at tick q in
       tells-by c.division tick c.tempo c.sum _ _ _ _ _ _ (song-is b c n (Met.Fault 9 c.at) m) (ap (entries_from (suc n) b) same) (ap (flaw_from (suc n) b) same)
       (tells-fault n b c.division tick c.tempo c.sum tick c.at c.end)
 
-  module _ (ticks place : ℕ) (q : quantity_at b c.end c.at ≡ Good ticks place) where
+  module _ (ticks place : ℕ) (q : quantity_at b c.end c.at ≡ quantity ticks place) where
     -- U there
     abbrev sum : ℕ
     sum = sum_after c ticks
@@ -242,7 +242,7 @@ module _ (n : ℕ) (b : List ℕ) (c : Cursor) (tick : ℕ) (held : c.end ≤ le
     -- what is met
     met-is : (i : Item) → item_at b c.end c.running place ≡ i → meet_at b c ≡ obeyed i c sum place
     met-is i p =
-        meet-good b c ticks place (subst (λ (x : ℕ). quantity_at b x c.at ≡ Good ticks place) (sym edge) q)
+        meet-good b c ticks place (subst (λ (x : ℕ). quantity_at b x c.at ≡ quantity ticks place) (sym edge) q)
         ∙ ap (λ (x : ℕ). obeyed (item_at b x c.running place) c sum place) edge
         ∙ ap (λ (x : Item). obeyed x c sum place) p
 
@@ -354,9 +354,9 @@ song-tells : (n : ℕ) (b : List ℕ) → TellsFrom n b
 song-tells zero b c tick held in' enough = absurd (omega (arith, in', enough))
 song-tells (suc n) b c tick held in' enough = go (song-tells n b) (quantity_at b c.end c.at) refl
   where
-    go : TellsFrom n b → (q : Quantity) → quantity_at b c.end c.at ≡ q → Told n b c tick held
-    go more Quantity.Bad q = tells_none n b c tick held q
-    go more (Good ticks place) q = tells-item n b c tick held ticks place q (quantity-behind b c.end c.at ticks place q).0 enough more
+    go : TellsFrom n b → (q : Option Quantity) → quantity_at b c.end c.at ≡ q → Told n b c tick held
+    go more None q = tells_none n b c tick held q
+    go more (Some y) q = tells-item n b c tick held y.value y.behind q (quantity-behind b c.end c.at y.value y.behind q).0 enough more
 
 -- ---- 4. The head
 

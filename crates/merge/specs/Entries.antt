@@ -1,9 +1,7 @@
 -- Songs of several tracks: the events of one track, each with its tick and its place, and the track's first fault.
-use Rattle.std.specs.Prelude.{cond, List, [], ◌∷◌, ℕ, zero, suc, ◌+◌}
+use Rattle.std.specs.Prelude.{cond, List, [], ◌∷◌, ℕ, zero, suc, ◌+◌, Some, None}
 use Rattle.smf.specs.declared.Item.{Item}
 use Rattle.smf.specs.declared.Item.TheVariants.{Bad, End, Passed, Tempo, Channel}
-use Rattle.smf.specs.declared.Quantity.{Quantity}
-use Rattle.smf.specs.declared.Quantity.TheVariants.{Good}
 use Rattle.smf.specs.Quantities.{quantity_at}
 use Rattle.smf.specs.Items.{item_at}
 use Rattle.smf.specs.Track.{is_bad}
@@ -22,7 +20,7 @@ noted item tick place end = record { tick = cond (is_bad item) no_tick tick; pla
 -- the delta time at a place and the event behind it, where a status runs and a tick is reached. What is not well formed has its own place
 unfoldable pub settled_at : List ℕ → ℕ → ℕ → ℕ → ℕ → Entry
 settled_at b end running at tick =
-    elim (quantity_at b end at) [ Quantity.Bad ↦ noted Bad tick at end | Good ticks place ↦ noted (item_at b end running place) (tick + ticks) place end ]
+    elim (quantity_at b end at) [ None ↦ noted Bad tick at end | Some q ↦ noted (item_at b end running q.behind) (tick + q.value) q.behind end ]
 
 -- nothing comes behind an end of track, or behind a fault
 abbrev pub gone : Entry → Entry

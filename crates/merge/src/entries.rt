@@ -8,7 +8,7 @@ use crate::{Entry, Spot};
 use smf::items::item_at;
 use smf::quantities::quantity_at;
 use smf::track::is_bad;
-use smf::{Item, Quantity};
+use smf::Item;
 
 // Stands for no tick.
 pub const NO_TICK: u64 = 18446744073709551615;
@@ -39,16 +39,11 @@ pub fn settled(b: &[u8], end: u32, running: u8, at: u32, tick: u64) -> Entry
     ensures value { result ≡ settled_at b.now end running at tick }
     ensures settled { Settled b.now result }
 {
-    let q = quantity_at(b, end, at);
-    match q {
-        Quantity::Bad => noted_at(Item::Bad, tick, at, end),
-        Quantity::Good { value, behind } => noted_at(
-            item_at(b, end, running, behind),
-            tick + (value as u64),
-            behind,
-            end,
-        ),
-    }
+    let Some(q) = quantity_at(b, end, at) else {
+        return noted_at(Item::Bad, tick, at, end);
+    };
+    let item = item_at(b, end, running, q.behind);
+    noted_at(item, tick + (q.value as u64), q.behind, end)
 }
 
 // Behind a track's last event.
