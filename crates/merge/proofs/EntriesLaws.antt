@@ -17,8 +17,6 @@ use Rattle.smf.specs.Songs.{turns}
 use Rattle.smf.proofs.QuantitiesLaws.{quantity-behind}
 use Rattle.smf.proofs.ItemsLaws.{Placed, item-placed}
 use Rattle.merge.specs.declared.Entry.{Entry}
-use Rattle.merge.specs.declared.Spot.{Spot}
-use Rattle.merge.specs.declared.Spot.TheVariants.{None, At}
 use Rattle.merge.specs.Entries.{no_tick, noted, settled_at, gone, behind_item, advanced_of, entries_from, flaw_behind, flaw_from}
 use Rattle.merge.specs.Internal.Entries.{EndsIn, Seated, Settled, goes_on, flaw_at}
 
@@ -157,7 +155,7 @@ pub flaw-stop : (n : ℕ) (b : List ℕ) (e : Entry) → goes_on e.item ≡ fals
 unfolding flaw_at flaw_from
 flaw-stop n b e g = go e.item g
   where
-    go : (i : Item) → goes_on i ≡ false → flaw_behind i e.place (flaw_from n b (advanced_of b e)) ≡ cond (is_bad i) (At e.place) None
+    go : (i : Item) → goes_on i ≡ false → flaw_behind i e.place (flaw_from n b (advanced_of b e)) ≡ cond (is_bad i) (Some e.place) None
     go Bad f = refl
     go End f = refl
     go (Passed behind) f = absurd (true≢false f)

@@ -19,8 +19,6 @@ use Rattle.smf.proofs.ItemsLaws.{either, Placed, item-placed}
 use Rattle.merge.specs.declared.Entry.{Entry}
 use Rattle.merge.specs.Entries.{settled_at, advanced_of, entries_from}
 use Rattle.merge.specs.Lanes.{lanes_from, entries_of, first_entry, flaw_of}
-use Rattle.merge.specs.declared.Spot.{Spot}
-use Rattle.merge.specs.declared.Spot.TheVariants.{None, At}
 use Rattle.merge.specs.Merging.{sequence_of}
 use Rattle.smf.specs.declared.Header.{Header}
 use Rattle.smf.specs.declared.Header.TheVariants.{Refused, Track}
@@ -169,9 +167,9 @@ module _ (P : Entry → Type 0) (b : List ℕ) (start : (begin end : ℕ) → be
   each_lane zero at = tt
   each_lane (suc n) at = go (each_lane n) (track_from (length b) b at) refl
     where
-      by : (begin end : ℕ) → track_from (length b) b at ≡ Track begin end → Each P (lanes_from n b end) → (s : Spot) → flaw_of b (first_entry b begin end) ≡ s → Each P (lanes_from (suc n) b at)
+      by : (begin end : ℕ) → track_from (length b) b at ≡ Track begin end → Each P (lanes_from n b end) → (s : Option ℕ) → flaw_of b (first_entry b begin end) ≡ s → Each P (lanes_from (suc n) b at)
       by begin end e more None f = rw (lanes_on b n at begin end e f).0 (start begin end (track-begins (length b) b at begin end e).1 (track-held (length b) b at begin end e), more)
-      by begin end e more (At place) f = rw (lanes-flawed b n at begin end place e f).0 (start begin end (track-begins (length b) b at begin end e).1 (track-held (length b) b at begin end e), tt)
+      by begin end e more (Some place) f = rw (lanes-flawed b n at begin end place e f).0 (start begin end (track-begins (length b) b at begin end e).1 (track-held (length b) b at begin end e), tt)
 
       go : ((from : ℕ) → Each P (lanes_from n b from)) → (h : Header) → track_from (length b) b at ≡ h → Each P (lanes_from (suc n) b at)
       go more (Refused number place) e = rw (lanes-cut b n at number place e).0 tt

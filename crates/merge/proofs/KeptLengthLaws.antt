@@ -24,8 +24,6 @@ use Rattle.smf.proofs.QuantitiesLaws.{quantity-behind, quantity-value}
 use Rattle.smf.proofs.SpellingLaws.{written}
 use Rattle.merge.specs.declared.Entry.{Entry}
 use Rattle.merge.specs.declared.Front.{Front}
-use Rattle.merge.specs.declared.Spot.{Spot}
-use Rattle.merge.specs.declared.Spot.TheVariants.{None, At}
 use Rattle.merge.specs.Entries.{settled_at, advanced_of, entries_from}
 use Rattle.merge.specs.Fronts.{front_of}
 use Rattle.merge.specs.Lateness.{late_of}
@@ -137,7 +135,7 @@ module _ (b : List ℕ) (a : AllBytes b) (short : length b ≤ 16777216) where
           let from = (seated-at b end 0 begin 0 q).1 in
           omega (arith, few, from, l.1)
 
-      by : (begin end : ℕ) → track_from (length b) b at ≡ Track begin end → length (entries_of b (lanes_from n b end)) + end ≤ length b → (s : Spot) → flaw_of b (first_entry b begin end) ≡ s
+      by : (begin end : ℕ) → track_from (length b) b at ≡ Track begin end → length (entries_of b (lanes_from n b end)) + end ≤ length b → (s : Option ℕ) → flaw_of b (first_entry b begin end) ≡ s
           → length (entries_of b (lanes_from (suc n) b at)) + at ≤ length b
       by begin end e more None f =
           let k = track-begins (length b) b at begin end e in
@@ -145,7 +143,7 @@ module _ (b : List ℕ) (a : AllBytes b) (short : length b ≤ 16777216) where
           let l = length-append (entries_from (turns b) b (first_entry b begin end)) (entries_of b (lanes_from n b end)) in
           let same = ap (λ (es : List Entry). length (entries_of b es)) (lanes_on b n at begin end e f).0 in
           omega (arith, k, few, l, same, more)
-      by begin end e more (At place) f =
+      by begin end e more (Some place) f =
           let k = track-begins (length b) b at begin end e in
           let held = track-held (length b) b at begin end e in
           let few = first-few begin end k.1 held in

@@ -1,13 +1,11 @@
 -- Songs of several tracks: the events of one track, each with its tick and its place, and the track's first fault.
-use Rattle.std.specs.Prelude.{cond, List, [], ◌∷◌, ℕ, zero, suc, ◌+◌, Some, None}
+use Rattle.std.specs.Prelude.{cond, List, [], ◌∷◌, ℕ, zero, suc, ◌+◌, Some, None, Option}
 use Rattle.smf.specs.declared.Item.{Item}
 use Rattle.smf.specs.declared.Item.TheVariants.{Bad, End, Passed, Tempo, Channel}
 use Rattle.smf.specs.Quantities.{quantity_at}
 use Rattle.smf.specs.Items.{item_at}
 use Rattle.smf.specs.Track.{is_bad}
 use Rattle.merge.specs.declared.Entry.{Entry}
-use Rattle.merge.specs.declared.Spot.{Spot}
-use Rattle.merge.specs.declared.Spot.TheVariants.{None, At}
 
 -- stands for no tick, above any that a file has
 abbrev pub no_tick : ℕ
@@ -44,14 +42,14 @@ entries_from zero b e = []
 entries_from (suc n) b e = cond (is_bad e.item) [] (e ∷ entries_from n b (advanced_of b e))
 
 -- the fault of a track at an event, where those behind it have another
-abbrev pub flaw_behind : Item → ℕ → Spot → Spot
-flaw_behind Bad place more = At place
+abbrev pub flaw_behind : Item → ℕ → Option ℕ → Option ℕ
+flaw_behind Bad place more = Some place
 flaw_behind End place more = None
 flaw_behind (Passed behind) place more = more
 flaw_behind (Tempo tempo behind) place more = more
 flaw_behind (Channel status first second behind) place more = more
 
 -- the track's first fault, within n events
-unfoldable pub flaw_from : ℕ → List ℕ → Entry → Spot
+unfoldable pub flaw_from : ℕ → List ℕ → Entry → Option ℕ
 flaw_from zero b e = None
 flaw_from (suc n) b e = flaw_behind e.item e.place (flaw_from n b (advanced_of b e))
