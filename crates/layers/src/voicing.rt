@@ -1,6 +1,5 @@
 // The voices that a key starts (01, "From a key to layers").
 ghost use Rattle.std.specs.Prelude.{◌≡◌};
-ghost use Rattle.curves.specs.Octave.{octaves};
 ghost use Rattle.layers.specs.LayerSearch.{layer_of};
 ghost use Rattle.layers.specs.Voicing.{voice_by, voices_of};
 ghost use Rattle.layers.specs.Internal.Voicing.{struck_of};
@@ -12,7 +11,7 @@ use crate::tuning::tuning_of;
 use crate::{Pair, Struck};
 use curves::OctaveTable;
 use records::Parts;
-use totals::{Layer, added_values, own_values};
+use totals::{Layer, LayerValues};
 use voice::{Stage, Voice};
 
 // The four zones of a layer of preset h.
@@ -28,13 +27,6 @@ fn layer_of(b: &[u8], m: Parts, h: u32, p: Pair) -> Layer
     }
 }
 
-// The sample that a layer names.
-fn sample_of(l: Layer) -> u32
-    ensures { result ≡ l.instrument.link }
-{
-    l.instrument.link as u32
-}
-
 // The voice that a layer starts: its extent, its tuning and its envelope.
 fn voice_by(
     b: &[u8],
@@ -45,15 +37,13 @@ fn voice_by(
     velocity: u8,
     t: &OctaveTable,
 ) -> Voice
-    requires { t.now ≡ octaves }
     ensures { result ≡ voice_by b.now m l channel key velocity }
 {
-    let own = own_values(b, m, l);
-    let added = added_values(b, m, l);
-    let k = sample_of(l);
-    let extent = extent_of(b, m, k, &own);
-    let tuning = tuning_of(b, m, k, &own, &added, key, velocity);
-    let envelope = envelope_of(&own, &added, key, t);
+    let values = LayerValues::of(b, m, l);
+    let k = u32::from(l.instrument.link);
+    let extent = extent_of(b, m, k, &values.own);
+    let tuning = tuning_of(b, m, k, &values, key, velocity);
+    let envelope = envelope_of(&values, key, t);
     Voice {
         stage: Stage::Delay {
             left: envelope.delay,
@@ -93,7 +83,7 @@ pub fn voices_for(b: &[u8], m: Parts, h: u32, channel: u8, key: u8, velocity: u8
     if 32 < count {
         return Struck { count, voices };
     }
-    let t = curves::octaves();
+    let t = OctaveTable::new();
     let n = count as usize;
     let mut i: usize = 0;
     while i < n {

@@ -1,4 +1,5 @@
 -- Contracts that are equations determine what they speak of.
+use Rattle.std.specs.Prelude.{Option}
 use mathlib.Core.Path.{◌≡◌, sym, ◌∙◌, ap₂}
 use mathlib.Core.List.{List}
 use lib.Ieee.{Float}
@@ -15,14 +16,13 @@ use Rattle.bank.specs.declared.Fault.{Fault}
 use Rattle.bank.specs.Past.{past_memory}
 use Rattle.layers.specs.declared.Sheet.{Sheet}
 use Rattle.layers.specs.Spans.{sheet_of}
-use Rattle.records.specs.declared.Found as RecordsFound
 use Rattle.reader.specs.declared.Opened.{Opened}
 use Rattle.reader.specs.Reader.{opened_of, next_of, nth_listed}
 use Rattle.reader.specs.declared.Taken.{Taken}
 use Rattle.reader.specs.declared.Step.{Step}
 use lib.ListN.{length}
-use Rattle.riff.specs.declared.Found.{Found}
-use Rattle.riff.specs.Form.{find_of}
+use Rattle.riff.specs.Form.{Found, find_of}
+use Rattle.riff.proofs.ToldLaws.{font-told-apart}
 use Rattle.player.specs.declared.Begun.{Begun}
 use Rattle.player.specs.declared.Player.{Player}
 use Rattle.player.specs.declared.Stepped.{Stepped}
@@ -83,7 +83,7 @@ pub admitted-determined : D.AdmittedDetermined
 admitted-determined bank = equation Bool (admitted bank)
 
 pub past-memory-determined : D.PastMemoryDetermined
-past-memory-determined bank ram rom = equation RecordsFound.Found (past_memory bank ram rom)
+past-memory-determined bank ram rom = equation (Option ℕ) (past_memory bank ram rom)
 
 -- ---- layers
 pub preset-sheet-determined : D.PresetSheetDetermined
@@ -147,6 +147,9 @@ sums-determined e ram rom out to o p h k = ends o p (h.0 ∙ sym k.0) (h.1 ∙ s
 -- ---- riff
 pub find-determined : D.FindDetermined
 find-determined file = equation Found (find_of file)
+
+pub told-font-apart : D.ToldFontApart
+told-font-apart = font-told-apart
 
 -- ---- merge
 pub merge-determined : D.MergeDetermined

@@ -1,6 +1,6 @@
 -- Any two outcomes that a contract allows are one: the answer, the state and all of the output. A contract stands behind `λ` as
 -- in the source; tools/contracts compares it with the functions that `contract of` names.
-use Rattle.std.specs.Prelude.{◌≡◌, List, Float, ℕ, Bool, cond, ℤ, length}
+use Rattle.std.specs.Prelude.{◌≡◌, List, Float, ℕ, Bool, cond, ℤ, length, Option, Result}
 use Rattle.std.specs.Borrow.{Bor}
 use Rattle.state.specs.declared.Answered.{Answered}
 use Rattle.state.specs.declared.Engine.{Engine}
@@ -26,8 +26,9 @@ use Rattle.smf.specs.declared.Tested.{Tested}
 use Rattle.smf.specs.Songs.{test_of, opening_of, handed_of, bytes_of}
 use Rattle.merge.specs.declared.Merged.{Merged}
 use Rattle.merge.specs.Merging.{merged_of, room_of, answer_of, written_into}
-use Rattle.riff.specs.declared.Found.{Found}
-use Rattle.riff.specs.Form.{find_of}
+use Rattle.riff.specs.declared.Fault as RiffFault
+use Rattle.riff.specs.declared.Font.{Font}
+use Rattle.riff.specs.Form.{Found, find_of, told_font}
 use Rattle.player.specs.declared.Answer.{Answer}
 use Rattle.player.specs.declared.Begun.{Begun}
 use Rattle.player.specs.declared.Player.{Player}
@@ -48,7 +49,6 @@ use Rattle.wave.specs.Recording.{write_number, recorded}
 use Rattle.wave.specs.Playback.{heard_of, replayed}
 use Rattle.wave.specs.Lowering.{attenuation_for, sums_into, sums_poured}
 use Rattle.records.specs.Memory.{part_of}
-use Rattle.records.specs.declared.Found as RecordsFound
 use Rattle.state.specs.Board as StateBoard
 use Rattle.state.specs.Quiet as StateQuiet
 
@@ -137,7 +137,7 @@ AdmittedDetermined = (bank : List ℕ) → Settles Bool (λ r. r ≡ admitted ba
 -- the 53 of the first zone whose window ends past a memory of so many samples, or nothing
 -- contract of bank::past_memory(bank, ram, rom)
 abbrev pub PastMemoryDetermined : Type 0
-PastMemoryDetermined = (bank : List ℕ) (ram rom : ℕ) → Settles RecordsFound.Found (λ r. r ≡ past_memory bank ram rom)
+PastMemoryDetermined = (bank : List ℕ) (ram rom : ℕ) → Settles (Option ℕ) (λ r. r ≡ past_memory bank ram rom)
 
 -- ---- layers
 
@@ -253,6 +253,11 @@ SumsDetermined =
 -- contract of riff::find(file)
 abbrev pub FindDetermined : Type 0
 FindDetermined = (file : List ℕ) → Settles Found (λ r. r ≡ find_of file)
+
+-- what is told of a file is one only for one answer
+-- tells apart riff::told_font
+abbrev pub ToldFontApart : Type 0
+ToldFontApart = (x y : Result Font RiffFault.Fault) → told_font x ≡ told_font y → x ≡ y
 
 -- ---- merge
 
