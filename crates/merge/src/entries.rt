@@ -5,10 +5,10 @@ ghost use Rattle.merge.specs.Entries.{no_tick, noted, settled_at, gone, advanced
 ghost use Rattle.merge.specs.Internal.Entries.{Settled, goes_on, flaw_at};
 
 use crate::Entry;
+use smf::Item;
 use smf::items::item_at;
 use smf::quantities::quantity_at;
 use smf::track::is_bad;
-use smf::Item;
 
 // Stands for no tick.
 pub const NO_TICK: u64 = 18446744073709551615;

@@ -2,8 +2,8 @@
 ghost use Rattle.std.specs.Prelude.{◌≡◌, cond, ◌+◌, ◌≤◌};
 ghost use Rattle.smf.specs.Items.{is_channel, is_short, is_exclusive, short_at, long_at, spoken_at, exclusive_at, meta_of, meta_at, item_at};
 
-use crate::quantities::{quantity_at, three_at};
 use crate::Item;
+use crate::quantities::{quantity_at, three_at};
 
 // A status of a channel event.
 fn is_channel(status: u8) -> bool

@@ -50,14 +50,14 @@ seen_more ts n i best h s = go (ltb (tick_at ts i) best.tick) refl
 
 pub loop-i-init : goal.loop-i-init
 loop-i-init c =
-  record {
-    in-lanes = omega arith;
-    some = omega arith;
-    least = λ k h. absurd (omega arith);
-    first = λ g. absurd (omega arith);
-    found = λ g. absurd (omega arith);
-    none = λ g. refl;
-  }
+    record {
+      in-lanes = omega arith;
+      some = omega arith;
+      least = λ k h. absurd (omega arith);
+      first = λ g. absurd (omega arith);
+      found = λ g. absurd (omega arith);
+      none = λ g. refl;
+    }
 
 pub offset_bounds-ticks-i : goal.offset_bounds-ticks-i
 offset_bounds-ticks-i c = omega arith
