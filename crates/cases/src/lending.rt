@@ -31,24 +31,11 @@ pub struct Loan {
     pub place: Place,
 }
 
-// The first n bytes of what there is, at most all of it.
-pub fn first_bytes(bytes: &[u8], n: usize) -> &[u8]
-    ensures { result.now ≡ take n bytes.now }
+// The first n of what there is, at most all of it.
+pub fn first<T>(items: &[T], n: usize) -> &[T]
+    ensures { result.now ≡ take n items.now }
 {
-    if n < bytes.len() {
-        return &bytes[..n];
-    }
-    bytes
-}
-
-// The first n samples of what there is, at most all of it.
-pub fn first_samples(samples: &[i16], n: usize) -> &[i16]
-    ensures { result.now ≡ take n samples.now }
-{
-    if n < samples.len() {
-        return &samples[..n];
-    }
-    samples
+    if n < items.len() { &items[..n] } else { items }
 }
 
 // A bank or a song of n bytes. One that is longer than what is lent for it is bad before its bytes are looked at, and holds nothing.

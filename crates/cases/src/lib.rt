@@ -10,11 +10,9 @@ mod lines;
 mod writing;
 
 pub use commands::{Command, next_command};
-pub use hash::{fnv, fnv_bytes, fnv_samples};
+pub use hash::{Hashed, fnv};
 pub use input::{Byte, Long, Place, filled, next_byte, next_u32, spoilt, start, whole};
-pub use lending::{
-    Held, Lent, Loan, first_bytes, first_samples, lend, next_bank, next_memory, nothing,
-};
+pub use lending::{Held, Lent, Loan, first, lend, next_bank, next_memory, nothing};
 pub use lines::{
     Line, bad, called, counted, hashed, level, listed_end, listed_row, name, rendered, spaced,
     state,

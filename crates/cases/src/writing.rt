@@ -60,11 +60,7 @@ pub fn signed(room: &mut [u8; 65536], at: usize, z: i32) -> usize {
 pub fn magnitude(z: i32) -> u64
     ensures { result ≡ unsigned_abs z }
 {
-    if z < 0 {
-        ((-1 - z) as u64) + 1
-    } else {
-        z as u64
-    }
+    u64::from(z.unsigned_abs())
 }
 
 // A number in lower-case hex, with zeros in front up to a width of at most 16.

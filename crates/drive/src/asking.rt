@@ -99,6 +99,6 @@ fn asked(bank: &[u8], text: &mut [u8; 65536], at: usize, c: Command, p: Player) 
 // a, i, d, j, l, s, u, E: the call and its line.
 pub fn ask(bank: &[u8; 66000], text: &mut [u8; 65536], c: Command, p: Player, tape: Tape) -> Tape {
     let lent = tape.lent;
-    let at = asked(cases::first_bytes(bank, lent.bank), text, tape.at, c, p);
+    let at = asked(cases::first(bank, lent.bank), text, tape.at, c, p);
     tapes::written(tape, c, trace::state(text, at, p.engine))
 }

@@ -41,6 +41,6 @@ fn strike(b: &[u8], text: &mut [u8; 65536], at: usize, c: Command) -> usize {
 // The call and its lines; the player has no part in it.
 pub fn hit(bank: &[u8; 66000], text: &mut [u8; 65536], c: Command, tape: Tape) -> Tape {
     let lent = tape.lent;
-    let at = strike(cases::first_bytes(bank, lent.bank), text, tape.at, c);
+    let at = strike(cases::first(bank, lent.bank), text, tape.at, c);
     tapes::written(tape, c, at)
 }

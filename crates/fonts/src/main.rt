@@ -46,7 +46,7 @@ fn turn(bytes: &mut [u8; 66000], room: &mut [u8; 65536], text: &mut [u8; 65536],
             bad: true,
         };
     }
-    let at = lines::font(cases::first_bytes(bytes, held.count), text, run.at);
+    let at = lines::font(cases::first(bytes, held.count), text, run.at);
     Run {
         place,
         at,

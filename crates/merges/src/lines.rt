@@ -7,7 +7,7 @@ fn line(file: &[u8], out: &mut [u8], text: &mut [u8; 65536], at: usize) -> usize
     let mut to = cases::decimal(text, at, m.number as u64);
     to = cases::spaced(text, to, m.place as u64);
     to = cases::spaced(text, to, m.size as u64);
-    to = cases::hashed(text, to, cases::fnv_bytes(out));
+    to = cases::hashed(text, to, cases::fnv(out));
     cases::put(text, to, b'\n')
 }
 
@@ -43,7 +43,7 @@ pub fn song(
         return Line { place, at };
     }
     into_output(
-        cases::first_bytes(bytes, held.count),
+        cases::first(bytes, held.count),
         text,
         place,
         at,

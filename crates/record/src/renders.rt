@@ -12,22 +12,14 @@ fn more(frames: u64, d: u32) -> u64 {
     frames + (d as u64)
 }
 
-// The first n numbers of what there is, at most all of it.
-fn first_numbers(numbers: &[f32], n: usize) -> &[f32] {
-    if n < numbers.len() {
-        return &numbers[..n];
-    }
-    numbers
-}
-
 // So many frames of an output as bytes to standard output; whether that was done. The engine's numbers are never refused.
 fn pour(out: &[f32], frames: u32) -> bool {
     let mut bytes = [0u8; 16896];
     let n = frames as usize;
-    if wave::pour(first_numbers(out, 2 * n), &mut bytes) != 0 {
+    if wave::pour(cases::first(out, 2 * n), &mut bytes) != 0 {
         return false;
     }
-    io::write_all(STDOUT, cases::first_bytes(&bytes, 4 * n))
+    io::write_all(STDOUT, cases::first(&bytes, 4 * n))
 }
 
 // The tape behind a done render of so many frames.

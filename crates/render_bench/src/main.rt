@@ -72,8 +72,8 @@ fn main() {
     let held = cases::next_bank(&mut room, length.place, &mut bank, length.value);
     let count = cases::next_u32(&mut room, held.place);
     let samples = cases::next_memory(&mut room, count.place, &mut ram, count.value);
-    let lent = cases::first_samples(&ram, samples.count);
-    let known = cases::first_bytes(&bank, held.count);
+    let lent = cases::first(&ram, samples.count);
+    let known = cases::first(&bank, held.count);
     let e = strike(engine::fresh(), known, lent, lent, strikes.value);
     // a second place that calls render, as a host has: so the compiler leaves it a function of its own
     let ready = engine::render(e, lent, lent, &mut out, e.clock);

@@ -22,9 +22,9 @@ fn note_on<'a>(
 ) -> Answered {
     engine::note_on(
         e,
-        cases::first_bytes(bank, lent.bank),
-        cases::first_samples(ram, lent.ram),
-        cases::first_samples(rom, lent.rom),
+        cases::first(bank, lent.bank),
+        cases::first(ram, lent.ram),
+        cases::first(rom, lent.rom),
         c.one,
         c.two,
         c.three,
@@ -79,7 +79,7 @@ fn fresh_at(clock: u32) -> Player {
 
 // G: the lent song starts. Where it is refused, the place of its fault is the count.
 fn start(song: &[u8], lent: Lent, p: Player) -> Called {
-    let b = player::start(p, cases::first_bytes(song, lent.song));
+    let b = player::start(p, cases::first(song, lent.song));
     let after = b.player;
     Called {
         number: b.number,
@@ -140,15 +140,15 @@ pub fn render<'a>(
     c: Command,
     p: Player,
 ) -> Answer {
-    let ram_lent = cases::first_samples(ram, lent.ram);
-    let rom_lent = cases::first_samples(rom, lent.rom);
+    let ram_lent = cases::first(ram, lent.ram);
+    let rom_lent = cases::first(rom, lent.rom);
     if c.letter == b'r' {
         return render_engine(ram_lent, rom_lent, out, c.first, p);
     }
     player::render(
         p,
-        cases::first_bytes(song, lent.song),
-        cases::first_bytes(bank, lent.bank),
+        cases::first(song, lent.song),
+        cases::first(bank, lent.bank),
         ram_lent,
         rom_lent,
         out,

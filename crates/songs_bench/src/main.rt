@@ -100,7 +100,7 @@ fn main() {
     if held.place.cut {
         refuse();
     } else {
-        let heard = play(cases::first_bytes(&bytes, held.count), rounds.value);
+        let heard = play(cases::first(&bytes, held.count), rounds.value);
         report(heard);
     }
 }

@@ -6,7 +6,7 @@ fn line(file: &[u8], out: &mut [i16], text: &mut [u8; 65536], at: usize) -> usiz
     let heard = wave::read(file, out);
     let mut to = cases::called(text, at, b'R', heard.number);
     to = cases::spaced(text, to, heard.frames as u64);
-    to = cases::hashed(text, to, cases::fnv_samples(out));
+    to = cases::hashed(text, to, cases::fnv(out));
     cases::put(text, to, b'\n')
 }
 
@@ -37,7 +37,7 @@ pub fn read(room: &mut [u8], text: &mut [u8; 65536], from: Place, at: usize) -> 
         return Line { place, at };
     }
     into_output(
-        cases::first_bytes(&bytes, held.count),
+        cases::first(&bytes, held.count),
         text,
         place,
         at,

@@ -6,7 +6,7 @@ use cases::{Line, Place};
 fn line(numbers: &[f32], out: &mut [u8], text: &mut [u8; 65536], at: usize) -> usize {
     let number = wave::write(numbers, out);
     let mut to = cases::called(text, at, b'W', number);
-    to = cases::hashed(text, to, cases::fnv_bytes(out));
+    to = cases::hashed(text, to, cases::fnv(out));
     cases::put(text, to, b'\n')
 }
 
