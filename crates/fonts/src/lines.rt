@@ -1,23 +1,22 @@
 // The line of a file: where its bank and its samples lie, or its first fault.
+use cases::Text;
 use riff::Part;
 
 // A part behind a space: where it begins, and its size.
-fn part(text: &mut [u8; 65536], at: usize, p: Part) -> usize {
-    let to = cases::spaced(text, at, p.at as u64);
-    cases::spaced(text, to, p.size as u64)
+fn part(text: &mut Text, p: Part) {
+    text.spaced(p.at as u64);
+    text.spaced(p.size as u64);
 }
 
 // The line of a file.
-pub fn font(file: &[u8], text: &mut [u8; 65536], at: usize) -> usize {
+pub fn font(file: &[u8], text: &mut Text) {
     let f = riff::find(file);
-    let mut to = cases::decimal(text, at, f.number as u64);
+    text.decimal(u64::from(f.number));
     if f.number != 0 {
-        to = cases::spaced(text, to, f.place as u64);
-        return cases::put(text, to, b'\n');
+        text.spaced(f.place as u64);
+    } else {
+        part(text, f.bank);
+        part(text, f.samples);
     }
-    let bank = f.bank;
-    to = part(text, to, bank);
-    let samples = f.samples;
-    to = part(text, to, samples);
-    cases::put(text, to, b'\n')
+    text.put(b'\n');
 }
