@@ -10,13 +10,13 @@ use Rattle.arith.proofs.WithinLaws.{w-back}
 use Rattle.totals.proofs.SettingsLaws.{held-nonneg}
 use Rattle.totals.specs.Values.{total_of, held_total, instrument_only}
 use Rattle.records.specs.Internal.Amounts.{at}
-use Rattle.totals.proofs.settings.sustain_of.Goals as goal
+use Rattle.totals.proofs.LayerValues.sustain_of.Goals as goal
 
 pub overflow_cast-result : goal.overflow_cast-result
 overflow_cast-result c = let r = c.held_at.ensures in
     let a = c.args in
     rw (w-back w64 r.1 (lit< tt))
-    (subst (λ (z : ℤ). T (non_neg z)) (sym r.0) (held-nonneg 1000 (at a.own.now 37 +ℤ at a.added.now 37)), record { fits = lt_of_le_of_lt r.1.within (lit< tt) })
+    (subst (λ (z : ℤ). T (non_neg z)) (sym r.0) (held-nonneg 1000 (at a.self.now.own 37 +ℤ at a.self.now.added 37)), record { fits = lt_of_le_of_lt r.1.within (lit< tt) })
 
 pub returns : goal.returns
 unfolding total_of held_total instrument_only between

@@ -4,7 +4,7 @@ use mir.Syntax.{w16, w64}
 use Rattle.arith.specs.Holds.{between}
 use Rattle.arith.proofs.WithinLaws.{w_fits, w-back}
 use Rattle.totals.specs.Values.{total_of, held_total, instrument_only}
-use Rattle.totals.proofs.settings.pan_of.Goals as goal
+use Rattle.totals.proofs.LayerValues.pan_of.Goals as goal
 
 pub overflow_cast-result : goal.overflow_cast-result
 overflow_cast-result c = rw (w-back w64 c.held_at.ensures.1 (lit< tt)) (w_fits w16 c.held_at.ensures.1 (lit< tt))

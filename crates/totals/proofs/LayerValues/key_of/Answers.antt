@@ -4,7 +4,7 @@ use mir.Facts.{to_z-of_z}
 use Rattle.arith.specs.Holds.{between}
 use Rattle.totals.specs.Values.{total_of, held_total, instrument_only}
 use Rattle.totals.specs.Settings.{key_of}
-use Rattle.totals.proofs.settings.key_of.Goals as goal
+use Rattle.totals.proofs.LayerValues.key_of.Goals as goal
 
 pub returns : goal.returns
 unfolding key_of total_of held_total instrument_only between

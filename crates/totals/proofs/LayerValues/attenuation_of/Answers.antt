@@ -10,7 +10,7 @@ use Rattle.arith.specs.Holds.{between}
 use Rattle.arith.proofs.WithinLaws.{w-back}
 use Rattle.totals.specs.Values.{total_of, held_total, instrument_only}
 use Rattle.totals.specs.Settings.{attenuation_of}
-use Rattle.totals.proofs.settings.attenuation_of.Goals as goal
+use Rattle.totals.proofs.LayerValues.attenuation_of.Goals as goal
 
 pub returns : goal.returns
 unfolding attenuation_of total_of held_total instrument_only between

@@ -4,7 +4,7 @@ use mir.Facts.{to_z-of_z}
 use Rattle.arith.specs.Holds.{between}
 use Rattle.totals.specs.Values.{total_of, held_total, instrument_only}
 use Rattle.totals.specs.Settings.{softness}
-use Rattle.totals.proofs.settings.soft_of.Goals as goal
+use Rattle.totals.proofs.LayerValues.soft_of.Goals as goal
 
 pub returns : goal.returns
 unfolding softness total_of held_total instrument_only between
