@@ -29,7 +29,7 @@ const OF_THE_KIT: [&str; 29] = [
     "str", "Option", "Result", "Some", "Ok", "Err", "Vec", "String", "Box", "core", "Default", "From",
 ];
 /// Words that may stand in front of a bracket and call nothing.
-const KEYWORDS: [&str; 10] = ["if", "while", "match", "return", "in", "as", "else", "mut", "for", "move"];
+const KEYWORDS: [&str; 11] = ["if", "while", "match", "return", "in", "as", "else", "mut", "for", "move", "let"];
 
 /// Words by which a function may be called without its name.
 const INDIRECT: [&str; 3] = ["dyn", "macro_rules", "macro_rules!"];

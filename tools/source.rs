@@ -180,9 +180,19 @@ fn holder(words: &[String], at: usize) -> Option<(usize, usize, String)> {
     let of = match head.iter().position(|word| word == "for") {
         Some(place) => head.get(place + 1)?,
         None if first == "trait" => head.get(1)?.strip_suffix(':').map_or(head.get(1), |_| head.get(1))?,
-        None => head.last()?,
+        None => behind_parameters(head)?,
     };
     Some((open, behind(words, open), bare(of).trim_end_matches(':').to_string()))
+}
+
+/// The type of an `impl`'s head: what stands behind its own parameters, which may hold several words.
+fn behind_parameters(head: &[String]) -> Option<&String> {
+    let mut open = 0;
+    head.iter().enumerate().find_map(|(at, word)| {
+        let is_type = at > 0 && open == 0;
+        open += word.matches('<').count() as i32 - word.matches('>').count() as i32;
+        is_type.then_some(word)
+    })
 }
 
 /// The parameters that are called: those of a type `impl Fn(..)`, and those of a type parameter with such a bound.

@@ -49,7 +49,7 @@ impl<'a, T: Item> Held<'a, T> {
     }
 
     // Only the first n items are lent, at most all that are held.
-    pub fn lend(&mut self, n: u32)
+    pub fn lend_first(&mut self, n: u32)
         ensures { self.new.lent ≤ self.new.held }
     {
         self.lent = self.held.min(n as usize);
@@ -101,11 +101,11 @@ impl<'a> Loan<'a> {
             b'M' => self.ram.read(input, c.first),
             b'O' => self.rom.read(input, c.first),
             b'm' => {
-                self.ram.lend(c.first);
+                self.ram.lend_first(c.first);
                 Ok(())
             }
             _ => {
-                self.rom.lend(c.first);
+                self.rom.lend_first(c.first);
                 Ok(())
             }
         }
