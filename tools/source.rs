@@ -37,6 +37,8 @@ pub struct Source {
     pub structs: Vec<(String, Vec<String>)>,
     pub paths: Vec<(bool, Vec<String>)>,
     pub uses: Vec<Use>,
+    /// the words of its ghost fields and ghost members
+    pub ghosts: Vec<String>,
     /// all its words, in order
     pub words: Vec<String>,
 }
@@ -75,7 +77,14 @@ pub fn read_source(krate: &str, path: &Path) -> Source {
     let named = |pair: &&[String]| pair[0] == "struct" || pair[0] == "enum";
     let types = words.windows(2).filter(named).map(|pair| bare(&pair[1]).to_string()).collect();
     let structs = (0..words.len()).filter(|&at| words[at] == "struct").map(|at| fields(&words, at)).collect();
-    Source { krate: krate.to_string(), module, functions: functions(&words), types, structs, paths, uses, words }
+    Source { krate: krate.to_string(), module, functions: functions(&words), types, structs, paths, uses, ghosts: ghosts(&words), words }
+}
+
+/// What stands in the braces of ghost fields and ghost members.
+fn ghosts(words: &[String]) -> Vec<String> {
+    let is_ghost = |at: &usize| words[*at] == "ghost" && words.get(at + 1).is_some_and(|word| word != "use");
+    let heads = (0..words.len()).filter(is_ghost);
+    heads.filter_map(|at| Some(at + words[at..].iter().position(|word| word == "{")?)).flat_map(|open| antt::apart(&words[open..behind(words, open)])).collect()
 }
 
 /// The `use` items of a text, each path of a group by itself, and whether they are `pub`. An item ends with its semicolon.

@@ -1,7 +1,7 @@
 // The FNV-1a hash of 64 bits over bytes, over the bits of binary32 numbers and over those of samples.
-ghost use Rattle.std.specs.Prelude.{◌≡◌, ℕ};
+ghost use Rattle.std.specs.Prelude.{◌≡◌, ℕ, List, refl};
 ghost use Rattle.arith.specs.Floors.{mod_z};
-ghost use Rattle.cases.specs.Internal.Hash.{bits_of, hash_bits, hash_byte, hash_each, hash_number, hash_sample, times as Hash·times};
+ghost use Rattle.cases.specs.Internal.Hash.{bits_of, hash_all, hash_bits, hash_byte, hash_bytes, hash_each, hash_number, hash_sample, hash_samples, times as Hash·times};
 
 // A number's 32 bits, the quiet pattern for a NaN.
 pub fn bits_of(x: f32) -> u32
@@ -59,12 +59,22 @@ pub trait Hashed: Copy {
     // the hash after one more
     ghost after: { ℕ → Self → ℕ };
 
+    // the hash after all of a list more
+    ghost after_all: { ℕ → List Self → ℕ };
+
     fn into_hash(self, h: u64) -> u64
         ensures { result ≡ after h self };
+
+    // one after the other
+    ghost in_order: { (h : ℕ) (xs : List Self) → after_all h xs ≡ hash_each after h xs };
 }
 
 impl Hashed for f32 {
     ghost after = { hash_number };
+
+    ghost after_all = { hash_all };
+
+    ghost in_order = { λ h xs. refl };
 
     fn into_hash(self, h: u64) -> u64 {
         hash_bits(h, bits_of(self))
@@ -74,6 +84,10 @@ impl Hashed for f32 {
 impl Hashed for u8 {
     ghost after = { hash_byte };
 
+    ghost after_all = { hash_bytes };
+
+    ghost in_order = { λ h xs. refl };
+
     fn into_hash(self, h: u64) -> u64 {
         hash_byte(h, u64::from(self))
     }
@@ -82,6 +96,10 @@ impl Hashed for u8 {
 impl Hashed for i16 {
     ghost after = { hash_sample };
 
+    ghost after_all = { hash_samples };
+
+    ghost in_order = { λ h xs. refl };
+
     fn into_hash(self, h: u64) -> u64 {
         hash_sample(h, self)
     }
@@ -89,7 +107,7 @@ impl Hashed for i16 {
 
 // The hash over all of the numbers, the bytes or the samples.
 pub fn fnv<T: Hashed>(items: &[T]) -> u64
-    ensures { result ≡ hash_each T.after 14695981039346656037 items.now }
+    ensures { result ≡ T.after_all 14695981039346656037 items.now }
 {
     let mut h: u64 = 14695981039346656037;
     for x in items {
