@@ -127,7 +127,8 @@ impl Calls<'_> {
             let of = if of == "Self" { function.of.clone().unwrap_or_default() } else { of.clone() };
             let is_type = of.starts_with(char::is_uppercase);
             let of_type = if is_type { methods(method, Some(&of)) } else { Vec::new() };
-            if !of_type.is_empty() || is_type && of.len() == 1 {
+            // a derived `default` calls those of the fields' types
+            if !of_type.is_empty() || is_type && (of.len() == 1 || method == "default") {
                 return Ok(if of_type.is_empty() { methods(method, None) } else { of_type });
             }
         }

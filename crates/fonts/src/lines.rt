@@ -10,13 +10,16 @@ fn part(text: &mut Text, p: Part) {
 
 // The line of a file.
 pub fn font(file: &[u8], text: &mut Text) {
-    let f = riff::find(file);
-    text.decimal(u64::from(f.number));
-    if f.number != 0 {
-        text.spaced(f.place as u64);
-    } else {
-        part(text, f.bank);
-        part(text, f.samples);
+    match riff::find(file) {
+        Ok(font) => {
+            text.decimal(0);
+            part(text, font.bank);
+            part(text, font.samples);
+        }
+        Err(fault) => {
+            text.decimal(u64::from(fault.kind.number()));
+            text.spaced(fault.place as u64);
+        }
     }
     text.put(b'\n');
 }
