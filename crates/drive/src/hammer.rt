@@ -2,7 +2,6 @@
 use crate::voices;
 use cases::{Command, Text};
 use layers::Struck;
-use records::Found;
 
 // What a key of an admitted bank starts, by program, bank, key and velocity. Its chunks end within 65,536 bytes.
 fn struck(bank: &[u8], c: Command) -> Option<Struck> {
@@ -10,13 +9,9 @@ fn struck(bank: &[u8], c: Command) -> Option<Struck> {
         return None;
     }
     let m = records::parts_of(bank);
-    match layers::preset_for(bank, m, u16::from(c.two), c.one) {
-        Found::Nothing => None,
-        Found::At(h) => {
-            let h = u32::try_from(h).unwrap_or(0);
-            Some(layers::voices_for(bank, m, h, 0, c.three, c.four))
-        }
-    }
+    let h = layers::preset_for(bank, m, u16::from(c.two), c.one)?;
+    let h = u32::try_from(h).unwrap_or(0);
+    Some(layers::voices_for(bank, m, h, 0, c.three, c.four))
 }
 
 // The call and its lines; the player has no part in it. There are none for a bank that is not admitted, or has no such preset.

@@ -1,63 +1,47 @@
 // The lines of each function, over its list of arguments.
-ghost use Rattle.std.specs.Prelude.{◌≡◌};
-ghost use Rattle.curves.specs.Levels.{gains};
-ghost use Rattle.curves.specs.Octave.{octaves};
-
 use crate::arguments::{bend_at, cents_at, level_at, rate_at, time_at};
 use crate::rows::{line, signed_line};
 use cases::Text;
 use curves::{GainTable, OctaveTable};
 
 // The step of a pitch at a rate.
-fn step_line(text: &mut Text, t: &OctaveTable, cents: i32, rate: u16)
-    requires { t.now ≡ octaves }
-{
+fn step_line(text: &mut Text, t: &OctaveTable, cents: i32, rate: u16) {
     text.word(b"step ");
     text.signed(cents);
-    line(text, b" ", i32::from(rate), curves::step(t, cents, rate));
+    line(text, b" ", i32::from(rate), t.step(cents, rate));
 }
 
 // The steps of a pitch at each rate.
-fn steps_at(text: &mut Text, t: &OctaveTable, cents: i32)
-    requires { t.now ≡ octaves }
-{
+fn steps_at(text: &mut Text, t: &OctaveTable, cents: i32) {
     for i in 0..10 {
         step_line(text, t, cents, rate_at(i));
     }
 }
 
 // The steps of each pitch.
-pub fn steps(text: &mut Text, t: &OctaveTable)
-    requires { t.now ≡ octaves }
-{
+pub fn steps(text: &mut Text, t: &OctaveTable) {
     for i in 0..161 {
         steps_at(text, t, cents_at(i));
     }
 }
 
 // The frames of a time, with either upper hold.
-fn time_lines(text: &mut Text, t: &OctaveTable, time: i32)
-    requires { t.now ≡ octaves }
-{
-    line(text, b"frames ", time, curves::long_frames(t, time));
-    line(text, b"frames5000 ", time, curves::short_frames(t, time));
+fn time_lines(text: &mut Text, t: &OctaveTable, time: i32) {
+    line(text, b"frames ", time, t.long_frames(time));
+    line(text, b"frames5000 ", time, t.short_frames(time));
 }
 
 // The frames of each time.
-pub fn times(text: &mut Text, t: &OctaveTable)
-    requires { t.now ≡ octaves }
-{
+pub fn times(text: &mut Text, t: &OctaveTable) {
     for i in 0..175 {
         time_lines(text, t, time_at(i));
     }
 }
 
 // The gains, and five past the last.
-pub fn gains(text: &mut Text, g: &GainTable)
-    requires { g.now ≡ gains }
-{
+pub fn gains(text: &mut Text, g: &GainTable) {
     for a in 0..1446u16 {
-        line(text, b"gain ", i32::from(a), curves::gain(g, u64::from(a)));
+        line(text, b"gain ", i32::from(a), g.gain(u64::from(a)));
     }
 }
 
@@ -69,20 +53,16 @@ pub fn attenuations(text: &mut Text, name: &[u8], first: u8) {
 }
 
 // The least attenuation for a level.
-fn level_line(text: &mut Text, g: &GainTable, level: u32)
-    requires { g.now ≡ gains }
-{
+fn level_line(text: &mut Text, g: &GainTable, level: u32) {
     text.word(b"least ");
     text.decimal(u64::from(level));
     text.word(b" = ");
-    text.decimal(u64::from(curves::least_cb(g, level)));
+    text.decimal(u64::from(g.least_cb(level)));
     text.put(b'\n');
 }
 
 // The least attenuation for each level.
-pub fn levels(text: &mut Text, g: &GainTable)
-    requires { g.now ≡ gains }
-{
+pub fn levels(text: &mut Text, g: &GainTable) {
     for i in 0..109 {
         level_line(text, g, level_at(i));
     }

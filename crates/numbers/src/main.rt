@@ -9,8 +9,8 @@ mod rows;
 // All lists, one after the other.
 fn main() {
     let mut text = cases::Text::begin();
-    let octaves = curves::octaves();
-    let gains = curves::gains();
+    let octaves = curves::OctaveTable::new();
+    let gains = curves::GainTable::new();
     columns::steps(&mut text, &octaves);
     columns::times(&mut text, &octaves);
     columns::gains(&mut text, &gains);

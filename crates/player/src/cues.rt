@@ -4,7 +4,7 @@ ghost use Rattle.player.specs.Cues.{no_event, idle, with_engine, cued, since, ga
 
 use crate::Player;
 use engine::Engine;
-use smf::{Cursor, Event, Handed, Offer};
+use smf::{Cursor, Event, Handed};
 
 // A fresh player: a fresh engine, and no song.
 pub fn fresh() -> Player
@@ -59,22 +59,12 @@ pub fn cue(p: Player, h: Handed) -> Player
 {
     let engine = p.engine;
     let cursor = h.cursor;
-    let offer = h.offer;
-    match offer {
-        Offer::End => Player {
-            engine,
-            cursor,
-            event: no_event(),
-            began: p.began,
-            ended: true,
-        },
-        Offer::Given { event } => Player {
-            engine,
-            cursor,
-            event,
-            began: p.began,
-            ended: false,
-        },
+    Player {
+        engine,
+        cursor,
+        event: h.event.unwrap_or(no_event()),
+        began: p.began,
+        ended: h.event.is_none(),
     }
 }
 

@@ -1,6 +1,6 @@
 // The lines of a file: its refusal, or its channel events and how many there are.
 use cases::Text;
-use smf::{Cursor, Event, Offer};
+use smf::{Cursor, Event};
 
 // A byte behind a space, in two hex digits.
 fn byte(text: &mut Text, b: u8) {
@@ -31,10 +31,10 @@ fn events(file: &[u8], text: &mut Text, from: Cursor) -> usize {
     let mut c = from;
     for count in 0..file.len() {
         let h = smf::next(file, c);
-        match h.offer {
-            Offer::End => return count,
-            Offer::Given { event } => event_line(text, event),
-        }
+        let Some(event) = h.event else {
+            return count;
+        };
+        event_line(text, event);
         c = h.cursor;
     }
     file.len()

@@ -5,7 +5,7 @@
 #![tactic(auto)]
 
 use cases::{Bad, Held, Input, Text};
-use smf::{Cursor, Event, Offer};
+use smf::{Cursor, Event};
 
 // What the last round gave, and the sum of all of them.
 #[derive(Clone, Copy)]
@@ -37,10 +37,10 @@ fn events(file: &[u8], number: u8, from: Cursor, before: u32) -> Heard {
     for count in 0..file.len() {
         heard.count = count as u64;
         let h = smf::next(file, c);
-        match h.offer {
-            Offer::End => return heard,
-            Offer::Given { event } => heard.sum = with_event(heard.sum, event),
-        }
+        let Some(event) = h.event else {
+            return heard;
+        };
+        heard.sum = with_event(heard.sum, event);
         c = h.cursor;
     }
     heard.count = file.len() as u64;

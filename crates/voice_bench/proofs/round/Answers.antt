@@ -7,7 +7,6 @@ use Rattle.voice_bench.proofs.round.Goals as goal
 
 pub run-t-requires : goal.run-t-requires
 run-t-requires c = record {
-  tables = (c.requires.0, c.requires.1);
   sums = (omega arith, λ j. w_le (c.loop-i.invariant j) (omega arith));
 }
 

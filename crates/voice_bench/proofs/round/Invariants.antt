@@ -1,5 +1,4 @@
 -- Each voice adds at most `loudest`, so 32 of them fit.
-use Rattle.std.proofs.Common.{◌≤◌, length}
 use Rattle.voice.specs.Internal.Sums.{Small}
 use Rattle.voice_bench.proofs.round.Given as goal
 
