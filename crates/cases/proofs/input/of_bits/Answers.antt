@@ -6,7 +6,7 @@ use native.Mathlib.Omega.{arith}
 use Prim.Native.Nat.{ℕ, ◌≤◌, ◌/◌, ◌%◌}
 use lib.Dec.{T, eqb}
 use lib.Ieee.{binary32, nan_bits}
-use Rattle.waves.proofs.input.of_bits.Goals as goal
+use Rattle.cases.proofs.input.of_bits.Goals as goal
 
 -- a field of all ones has no digit behind it
 number : (b : ℕ) → b % 2147483648 ≤ 2139095040 → T (not (nan_bits binary32 b))
