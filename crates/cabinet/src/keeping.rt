@@ -2,8 +2,7 @@
 ghost use Rattle.std.specs.Prelude.{◌≡◌};
 ghost use Rattle.cabinet.specs.Keeping.{player_in, kept, kept_answer, kept_start, kept_play};
 
-use crate::Flat;
-use crate::twins::{player_of, player_to};
+use crate::{Flat, FlatPlayer};
 use engine::Answered;
 use player::{Answer, Begun, Player};
 
@@ -11,8 +10,7 @@ use player::{Answer, Begun, Player};
 pub fn player_in(s: Flat) -> Player
     ensures { result ≡ player_in s }
 {
-    let p = s.player;
-    player_of(p)
+    Player::from(s.player)
 }
 
 // C's memory, from the four numbers of an answer and a player.
@@ -24,7 +22,7 @@ pub fn keep(number: u8, count: u32, refused: u32, place: u32, p: Player) -> Flat
         count,
         refused,
         place,
-        player: player_to(p),
+        player: FlatPlayer::from(p),
     }
 }
 

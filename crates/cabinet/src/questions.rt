@@ -8,7 +8,6 @@ ghost use Rattle.cabinet.specs.Questions.{lamp_stage, lamp_level};
 
 use crate::Flat;
 use crate::keeping::player_in;
-use crate::twins::flag_to;
 use voice::Shown;
 
 // The count that the last call left.
@@ -74,7 +73,7 @@ fn song_is_over(s: Flat) -> u32
     ensures { result ≡ flag_to (player_in s).ended }
 {
     let p = player_in(s);
-    flag_to(player::is_over(p)) as u32
+    u32::from(player::is_over(p))
 }
 
 // 1 where no event of the song is left.
@@ -89,7 +88,7 @@ fn is_silent(s: Flat) -> u32
     ensures { result ≡ flag_to (is_silent (player_in s)) }
 {
     let p = player_in(s);
-    flag_to(player::is_silent(p)) as u32
+    u32::from(player::is_silent(p))
 }
 
 // 1 where no voice sounds.
