@@ -9,9 +9,15 @@
 //   EquationSettles and EquationsSettle rest. docs/CONTRACTS.md, "Exceptions", names those that may;
 // - a function that its crate's root passes on and that requires something, unless the first list of "Exceptions" names it;
 // - a name in "Exceptions" that is no exception;
+// - a definition that is said to tell answers apart (below) and of which no statement says so;
 // - a contract that crates/promises/specs/Determined.antt restates (`contract of`) in other words than the source, and a
 //   function that a host may call and whose contract it does not restate. Those of crate cabinet are left out: each is the
 //   contract of one of the others, over the state that C keeps (and tools/header holds what C calls to them).
+//
+// An answer that is an enum or a Result may be equated through a definition that gives the document's numbers of it, as in
+// `told result ≡ test_of file.now`, or of it and of what was lent, as in `answered result e.new ≡ ..`. Such a definition has a
+// statement in crates/promises/specs/Determined.antt, with `tells apart crate::definition` in its comment: what it gives of two
+// outcomes is one only where they are one. For this tool such a clause then equates the answer, and what was lent, themselves.
 // the tools share these, and each asks for a part of them
 #[allow(dead_code)]
 mod antt;
@@ -150,6 +156,63 @@ fn ensured(tree: &Tree, source: &Source, function: &Function, names: &[String]) 
     Some(parts)
 }
 
+// ---- Definitions that tell answers apart
+
+/// The definitions that `tells apart crate::definition` in the comments of Determined.antt names.
+struct Tells(BTreeSet<Place>);
+
+impl Tells {
+    /// Reads them; a comment that names none, or whose statement does not speak of it twice, is a complaint.
+    fn read(tree: &Tree, complaints: &mut Vec<String>) -> Tells {
+        let mut found = BTreeSet::new();
+        let file = tree.specs.iter().position(|file| file.path == DETERMINED);
+        for definition in file.iter().flat_map(|file| &tree.specs[*file].definitions) {
+            for named in definition.comment.split("tells apart ").skip(1) {
+                let named = named.split_whitespace().next().unwrap_or("").trim_end_matches('.');
+                match Tells::place(tree, file.unwrap_or(0), definition, named) {
+                    Some(place) => {
+                        found.insert(place);
+                    }
+                    None => complaints.push(format!("{DETERMINED}: {}: it does not say that {named} tells answers apart", definition.name)),
+                }
+            }
+        }
+        Tells(found)
+    }
+
+    /// The definition that is named, where a statement has the form `.. → name .. ≡ name .. → ..` at its end.
+    fn place(tree: &Tree, file: usize, definition: &Definition, named: &str) -> Option<Place> {
+        let (krate, name) = named.split_once("::")?;
+        let words = words(definition.pieces.get(1)?);
+        let lookup = tree.names_in_specs(file);
+        let is_it = |word: &String| match lookup(word) {
+            Some(Target::Definition(place)) => {
+                (tree.specs[place.0].krate == krate && tree.definition(place).name == name).then_some(place)
+            }
+            _ => None,
+        };
+        let from = words.len() - words.iter().rev().position(|word| is_it(word).is_some())? - 1;
+        let equals = words[..from].iter().rposition(|word| word == "≡")?;
+        let other = words[..equals].iter().rposition(|word| is_it(word).is_some())?;
+        let behind = words[from..].iter().position(|word| word == "→")?;
+        let between = !words[other..equals].iter().any(|word| word == "→") && !words[equals..from + behind].iter().any(|word| word == "→");
+        (between && equals + 1 == from).then(|| is_it(&words[from])).flatten()
+    }
+
+    /// A part as one about the answer itself, where it speaks of it through such a definition, and the lent things that it speaks of too.
+    fn seen_through(&self, part: &Part) -> (Part, Vec<String>) {
+        let sign = part.iter().position(|word| word.text == "≡" && word.place.is_none());
+        match (part.first().and_then(|word| word.place), sign) {
+            (Some(place), Some(sign)) if self.0.contains(&place) && sign > 1 && part[1].text == "answer" => {
+                let lent = part[2..sign].iter().map(|word| word.text.clone()).collect();
+                let answer = Word { text: "answer".to_string(), place: None };
+                ([&[answer], &part[sign..]].concat(), lent)
+            }
+            _ => (part.clone(), Vec::new()),
+        }
+    }
+}
+
 // ---- What a contract leaves open
 
 /// Whether a part says what some words are, by a text that speaks of nothing that the call gives.
@@ -165,11 +228,18 @@ fn equates(part: &Part, subject: &[&str], given: &[String]) -> bool {
 
 /// What the contract of a function leaves open: a buffer at the exit, the answer, or, where it has neither, all that it
 /// does.
-fn left_open(tree: &Tree, source: &Source, function: &Function) -> Vec<String> {
+fn left_open(tree: &Tree, tells: &Tells, source: &Source, function: &Function) -> Vec<String> {
     let parts = ensured(tree, source, function, &function.parameters).unwrap_or_default();
     let buffers: Vec<String> = function.written.iter().map(|name| format!("{name}'")).collect();
     let given: Vec<String> = buffers.iter().cloned().chain(["answer".to_string()]).collect();
-    let says = |subject: &[&str]| parts.iter().any(|part| equates(part, subject, &given));
+    let seen: Vec<(Part, Vec<String>)> = parts.iter().map(|part| tells.seen_through(part)).collect();
+    let beside = |subject: &[&str]| {
+        let about = |(part, lent): &(Part, Vec<String>)| {
+            subject.len() == 1 && lent.iter().any(|name| name == subject[0]) && equates(part, &["answer"], &given)
+        };
+        seen.iter().any(about)
+    };
+    let says = |subject: &[&str]| beside(subject) || seen.iter().any(|(part, _)| equates(part, subject, &given));
     let structs = tree.sources.iter().filter(|other| other.krate == source.krate).flat_map(|other| &other.structs);
     let by_field = structs
         .filter(|(name, _)| function.answer.contains(name))
@@ -226,7 +296,7 @@ fn named_in(item: &str, heading: &str, crates: &[String]) -> Vec<Named> {
 }
 
 /// All complaints about public functions, the number of these, and the exceptions that are none.
-fn public_functions(tree: &Tree, complaints: &mut Vec<String>) -> usize {
+fn public_functions(tree: &Tree, tells: &Tells, complaints: &mut Vec<String>) -> usize {
     let (requiring, open) = exceptions(&tree.crates);
     let mut seen = BTreeSet::new();
     let mut count = 0;
@@ -235,11 +305,11 @@ fn public_functions(tree: &Tree, complaints: &mut Vec<String>) -> usize {
             count += 1;
             let named = (source.krate.clone(), function.name.clone());
             let label = format!("crates/{}/src/{}.rt: {}", source.krate, source.module, function.name);
-            let left = left_open(tree, source, function);
+            let left = left_open(tree, tells, source, function);
             let listed = open.contains(&named);
             if !left.is_empty() && !listed {
                 complaints.push(format!(
-                    "{label}: its contract leaves open: {}; {EXCEPTIONS} does not name it",
+                    "{label}: its contract leaves open: {}; {EXCEPTIONS} does not name it, and no definition that \"tells apart\" in {DETERMINED} gives it",
                     left.join(", ")
                 ));
             }
@@ -331,6 +401,7 @@ fn restated_parts(
     definition: &Definition,
     this: &Restated,
     function: &Function,
+    written: &[String],
 ) -> Result<Vec<Part>, String> {
     let (names, text) = statement(definition).ok_or("the statement has a form that this tool does not know")?;
     let is_argument = |name: &&String| this.arguments.contains(name);
@@ -343,7 +414,7 @@ fn restated_parts(
     let lookup = Box::new(tree.names_in_specs(file));
     let parts = Reading { tree, lookup, bound, lent: &[] }.parts(&text).unwrap_or_default();
     if this.call.is_empty() {
-        return Ok(parts.into_iter().map(|part| with_output(part, this, function)).collect());
+        return Ok(parts.into_iter().map(|part| with_output(part, this, function, written)).collect());
     }
     // `o.answer ≡ does x e` and `o.output ≡ written x e`, each by the clause for this call
     let mut found = Vec::new();
@@ -353,7 +424,7 @@ fn restated_parts(
         };
         let mut clause = clause_for(tree, *place, &this.call, &state.text)
             .ok_or_else(|| format!("{} has no clause for {}", tree.definition(*place).name, this.call[0]))?;
-        let subject = match (field.text.as_str(), &this.arguments, &function.written[..]) {
+        let subject = match (field.text.as_str(), &this.arguments, written) {
             (".answer", ..) => "answer".to_string(),
             (_, arguments, [buffer]) => {
                 let at = function.parameters.iter().position(|name| name == buffer).unwrap_or(0);
@@ -371,9 +442,9 @@ fn restated_parts(
 
 /// A part of a restated contract of a function that is lent a buffer to write: `o.answer` is its answer, and `o.output`
 /// what the buffer holds at the exit.
-fn with_output(mut part: Part, this: &Restated, function: &Function) -> Part {
+fn with_output(mut part: Part, this: &Restated, function: &Function, written: &[String]) -> Part {
     let texts: Vec<&str> = part.iter().take(2).map(|word| word.text.as_str()).collect();
-    let subject = match (&texts[..], &function.written[..]) {
+    let subject = match (&texts[..], written) {
         (["answer", ".answer"], [_]) => "answer".to_string(),
         (["answer", ".output"], [buffer]) => {
             let at = function.parameters.iter().position(|name| name == buffer).unwrap_or(0);
@@ -398,7 +469,7 @@ fn clause_for(tree: &Tree, place: Place, call: &[String], state: &str) -> Option
 }
 
 /// What is wrong with a restated contract.
-fn difference(tree: &Tree, file: usize, definition: &Definition, this: &Restated) -> Result<(), String> {
+fn difference(tree: &Tree, tells: &Tells, file: usize, definition: &Definition, this: &Restated) -> Result<(), String> {
     let mut found = Vec::new();
     for source in tree.sources.iter().filter(|source| source.krate == this.krate) {
         found.extend(
@@ -414,9 +485,16 @@ fn difference(tree: &Tree, file: usize, definition: &Definition, this: &Restated
     if function.contract.iter().any(|clause| clause.requires) {
         return Err("it requires something".to_string());
     }
-    let mut here = restated_parts(tree, file, definition, this, function)?;
-    let mut there = ensured(tree, source, function, &this.arguments)
+    let there = ensured(tree, source, function, &this.arguments)
         .ok_or("its contract has a form that this tool does not know")?;
+    let (mut there, told): (Vec<Part>, Vec<Vec<String>>) = there.iter().map(|part| tells.seen_through(part)).unzip();
+    // what is lent to be written, but for what the answer's own clause speaks of
+    let named = |name: &&String| {
+        let at = function.parameters.iter().position(|parameter| parameter == *name).unwrap_or(0);
+        !told.iter().flatten().any(|told| *told == format!("{}'", this.arguments[at]))
+    };
+    let written: Vec<String> = function.written.iter().filter(named).cloned().collect();
+    let mut here = restated_parts(tree, file, definition, this, function, &written)?;
     here.sort();
     there.sort();
     if here == there {
@@ -427,7 +505,7 @@ fn difference(tree: &Tree, file: usize, definition: &Definition, this: &Restated
 }
 
 /// All complaints about restated contracts, and the number of these.
-fn restated(tree: &Tree, complaints: &mut Vec<String>) -> usize {
+fn restated(tree: &Tree, tells: &Tells, complaints: &mut Vec<String>) -> usize {
     let mut named: BTreeSet<Named> = BTreeSet::new();
     let Some(file) = tree.specs.iter().position(|file| file.path == DETERMINED) else {
         complaints.push(format!("there is no {DETERMINED}"));
@@ -435,7 +513,7 @@ fn restated(tree: &Tree, complaints: &mut Vec<String>) -> usize {
     };
     for definition in &tree.specs[file].definitions {
         for this in restated_by(definition) {
-            if let Err(what) = difference(tree, file, definition, &this) {
+            if let Err(what) = difference(tree, tells, file, definition, &this) {
                 complaints.push(format!("{DETERMINED}: {}: {}::{}: {what}", definition.name, this.krate, this.name));
             }
             named.insert((this.krate, this.name));
@@ -453,8 +531,9 @@ fn restated(tree: &Tree, complaints: &mut Vec<String>) -> usize {
 fn main() -> ExitCode {
     let tree = Tree::load();
     let mut complaints = Vec::new();
-    let public = public_functions(&tree, &mut complaints);
-    let restated = restated(&tree, &mut complaints);
+    let tells = Tells::read(&tree, &mut complaints);
+    let public = public_functions(&tree, &tells, &mut complaints);
+    let restated = restated(&tree, &tells, &mut complaints);
     complaints.iter().for_each(|complaint| println!("contracts: {complaint}"));
     println!("contracts: {public} public functions, {restated} restated contracts, {} complaints", complaints.len());
     ExitCode::from(u8::from(!complaints.is_empty() || public == 0 || restated == 0))

@@ -1,6 +1,9 @@
 // Looks whether a function in crates/*/src may call itself, directly or through others. The language has recursion (with a
-// measure). No source here has a closure, a function pointer, a trait or an impl, and none hands a function of its own to one of
-// the kit's, so that the names in front of brackets are all the calls that there are.
+// measure). A function calls each function whose name stands in its body in front of a bracket, and each whose name it hands on. A
+// method's name in front of a bracket stands for all methods of that name, whatever their types, but behind a type's name for those
+// of this type. The body of a closure is a part of the function that writes it; what calls a parameter calls whatever stands in the
+// closures that are handed to it. No source has a function pointer, a `dyn` value or a macro of its own, and none calls `into`,
+// which would hide the name.
 //
 //     rustc --edition 2021 -o target/recursion tools/recursion.rs && target/recursion
 //
@@ -20,14 +23,16 @@ use std::collections::HashMap;
 use std::process::ExitCode;
 use tree::Tree;
 
-/// Crates of the kit and types whose functions may be called; none of them can call a function of this repository.
-const OF_THE_KIT: [&str; 15] =
-    ["std", "io", "libc", "u8", "u16", "u32", "u64", "usize", "i8", "i16", "i32", "i64", "isize", "f32", "f64"];
+/// Crates of the kit and types whose functions may be called; none of them can call a function of this repository but one that it is handed.
+const OF_THE_KIT: [&str; 29] = [
+    "std", "io", "libc", "u8", "u16", "u32", "u64", "usize", "i8", "i16", "i32", "i64", "isize", "f32", "f64", "bool", "char",
+    "str", "Option", "Result", "Some", "Ok", "Err", "Vec", "String", "Box", "core", "Default", "From",
+];
 /// Words that may stand in front of a bracket and call nothing.
-const KEYWORDS: [&str; 8] = ["if", "while", "match", "return", "in", "as", "else", "mut"];
+const KEYWORDS: [&str; 10] = ["if", "while", "match", "return", "in", "as", "else", "mut", "for", "move"];
 
 /// Words by which a function may be called without its name.
-const INDIRECT: [&str; 9] = ["impl", "trait", "dyn", "Fn", "FnMut", "FnOnce", "move", "macro_rules", "macro_rules!"];
+const INDIRECT: [&str; 3] = ["dyn", "macro_rules", "macro_rules!"];
 
 /// A function by its place among all.
 type Id = usize;
@@ -39,56 +44,106 @@ struct Calls<'a> {
 }
 
 impl Calls<'_> {
-    /// A function as `crate::module::name`.
+    /// A function as `crate::module::name`, a method as `crate::module::Type::name`.
     fn label(&self, id: Id) -> String {
         let (source, function) = self.all[id];
-        format!("{}::{}::{}", source.krate, source.module, function.name)
+        let of = function.of.as_ref().map_or(String::new(), |of| format!("{of}::"));
+        format!("{}::{}::{of}{}", source.krate, source.module, function.name)
     }
 
-    /// The functions that one calls, or a line for a call that leads nowhere.
+    /// The functions that one calls or hands on, or a line for a call that leads nowhere.
     fn of(&self, id: Id) -> Vec<Result<Id, String>> {
         let body = &self.all[id].1.body;
-        let names = body.windows(2).filter(|pair| pair[1] == "(").map(|pair| pair[0].as_str());
-        names.filter(|name| is_call(name)).filter_map(|name| self.found(id, name).transpose()).collect()
-    }
-
-    /// The function that a name stands for in the file of a function; nothing where it is one of the kit's.
-    fn found(&self, id: Id, name: &str) -> Result<Option<Id>, String> {
-        let source = self.all[id].0;
-        let path: Vec<String> = name.split("::").map(str::to_string).collect();
-        if OF_THE_KIT.contains(&path[0].as_str()) && path.len() > 1 || name.ends_with(".len") {
-            return Ok(None);
-        }
-        let brought = source.paths.iter().map(|(_, path)| path).find(|brought| brought.last() == Some(&path[0]));
-        let function = match (source.functions.iter().find(|function| function.name == name), brought) {
-            (Some(function), _) => Some(function),
-            (None, Some(brought)) if OF_THE_KIT.contains(&brought[0].as_str()) => return Ok(None),
-            (None, Some(brought)) => self.followed(source, &[&brought[..], &path[1..]].concat()),
-            (None, None) => self.followed(source, &path),
-        };
-        let at = function.and_then(|function| self.all.iter().position(|(_, other)| std::ptr::eq(*other, function)));
-        at.map(Some).ok_or_else(|| format!("{}: a call of {name} leads nowhere", self.label(id)))
-    }
-
-    /// Functions of the repository that one hands to a function of the kit, by their names; its own parameters are none.
-    fn handed_on(&self, id: Id) -> Vec<String> {
-        let (source, function) = self.all[id];
-        let body = &function.body;
-        let is_of_kit = |at: &usize| body[at + 1] == "(" && is_call(&body[*at]) && matches!(self.found(id, &body[*at]), Ok(None));
-        let is_bound = |name: &String| {
-            let bound = body.windows(2).any(|pair| (pair[0] == "let" || pair[0] == "mut" || pair[0] == "for") && pair[1] == *name);
-            bound || function.parameters.contains(name)
-        };
-        let mut found = Vec::new();
-        for call in (0..body.len().saturating_sub(1)).filter(is_of_kit) {
-            for at in call + 2..source::behind(body, call + 1) - 1 {
-                let named = body[at + 1] != "(" && is_call(&body[at]) && !is_bound(&body[at]);
-                if named && matches!(self.found(id, &body[at]), Ok(Some(_))) {
-                    found.push(format!("{}: {} is handed to {}", source.krate, body[at], body[call]));
-                }
+        let mut found = self.named(id, 0..body.len());
+        if !self.all[id].1.called.is_empty() {
+            for caller in 0..self.all.len() {
+                found.extend(self.handed(caller, id));
             }
         }
         found
+    }
+
+    /// The functions that a part of the body of one calls or hands on.
+    fn named(&self, id: Id, part: std::ops::Range<usize>) -> Vec<Result<Id, String>> {
+        let body = &self.all[id].1.body;
+        let mut found = Vec::new();
+        for at in part {
+            let word = body[at].trim_start_matches(['!', '&', '*', '-', '?', '|']);
+            let word = word.split("::<").next().unwrap_or(word);
+            let calls = body.get(at + 1).is_some_and(|next| next == "(") || body[at].contains("::<");
+            match (is_call(word), calls) {
+                (false, _) => {}
+                (true, true) => match self.found(id, word) {
+                    Ok(ids) => found.extend(ids.into_iter().map(Ok)),
+                    Err(line) => found.push(Err(line)),
+                },
+                // a name that is handed on; most words are variables, which lead nowhere
+                (true, false) if !self.is_bound(id, word) => {
+                    found.extend(self.found(id, word).unwrap_or_default().into_iter().filter(|id| self.all[*id].1.of.is_none()).map(Ok));
+                }
+                _ => {}
+            }
+        }
+        found
+    }
+
+    /// What stands in the closures, and among the names, that one function hands to another.
+    fn handed(&self, caller: Id, to: Id) -> Vec<Result<Id, String>> {
+        let body = &self.all[caller].1.body;
+        let is_call_of = |at: &usize| {
+            let word = body[*at].trim_start_matches(['!', '&', '*', '-', '?', '|']);
+            body[at + 1] == "(" && is_call(word) && self.found(caller, word).is_ok_and(|ids| ids.contains(&to))
+        };
+        let calls = (0..body.len().saturating_sub(1)).filter(is_call_of);
+        calls.flat_map(|at| self.named(caller, at + 2..source::behind(body, at + 1) - 1)).filter(|found| *found != Ok(to)).collect()
+    }
+
+    /// Whether a word is a parameter or a variable of a function.
+    fn is_bound(&self, id: Id, word: &str) -> bool {
+        let function = self.all[id].1;
+        let first = word.split('.').next().unwrap_or(word);
+        let before = ["let", "mut", "for", "Some", "Ok", "Err", "(", ",", "|"];
+        let bound = function.body.windows(2).any(|pair| before.contains(&pair[0].as_str()) && pair[1] == first);
+        bound || function.parameters.iter().any(|name| name == first)
+    }
+
+    /// The functions that a name stands for in the file of a function; none where it is one of the kit's, or a parameter that is called.
+    fn found(&self, id: Id, name: &str) -> Result<Vec<Id>, String> {
+        let (source, function) = self.all[id];
+        if function.called.iter().any(|called| called == name) {
+            return Ok(Vec::new());
+        }
+        let methods = |name: &str, of: Option<&str>| -> Vec<Id> {
+            let fits = |(_, other): &(&Source, &Function)| {
+                other.name == name && other.of.is_some() && of.is_none_or(|of| other.of.as_deref() == Some(of))
+            };
+            (0..self.all.len()).filter(|at| fits(&self.all[*at])).collect()
+        };
+        if let Some((_, method)) = name.rsplit_once('.') {
+            return if method == "into" { Err(format!("{}: into hides which function is called", self.label(id))) } else { Ok(methods(method, None)) };
+        }
+        let path: Vec<String> = name.split("::").map(str::to_string).collect();
+        if let [.., of, method] = &path[..] {
+            let of = if of == "Self" { function.of.clone().unwrap_or_default() } else { of.clone() };
+            let is_type = of.starts_with(char::is_uppercase);
+            let of_type = if is_type { methods(method, Some(&of)) } else { Vec::new() };
+            if !of_type.is_empty() || is_type && of.len() == 1 {
+                return Ok(if of_type.is_empty() { methods(method, None) } else { of_type });
+            }
+        }
+        if OF_THE_KIT.contains(&path[0].as_str()) && path.len() > 1 {
+            return Ok(Vec::new());
+        }
+        let brought = source.paths.iter().map(|(_, path)| path).find(|brought| brought.last() == Some(&path[0]));
+        let own = |function: &&Function| function.name == name && function.of.is_none();
+        let found = match (source.functions.iter().find(own), brought) {
+            (Some(function), _) => Some(function),
+            (None, Some(brought)) if OF_THE_KIT.contains(&brought[0].as_str()) => return Ok(Vec::new()),
+            (None, Some(brought)) => self.followed(source, &[&brought[..], &path[1..]].concat()),
+            (None, None) => self.followed(source, &path),
+        };
+        let at = found.and_then(|function| self.all.iter().position(|(_, other)| std::ptr::eq(*other, function)));
+        at.map(|at| vec![at]).ok_or_else(|| format!("{}: a call of {name} leads nowhere", self.label(id)))
     }
 
     /// The function that a path leads to.
@@ -104,17 +159,12 @@ fn is_call(word: &str) -> bool {
     named && last.starts_with(|c: char| c.is_lowercase() || c == '_') && !KEYWORDS.contains(&word)
 }
 
-/// What in a file may call a function without its name: a word, a pointer's type, or a closure, which begins where no `or` can stand.
+/// What in a file may call a function without its name: a word, or a pointer's type.
 fn indirect(source: &Source) -> Vec<String> {
     let label = |what: &str| format!("crates/{}/src/{}.rt: {what}", source.krate, source.module);
     let word = source.words.iter().filter(|word| INDIRECT.contains(&word.as_str())).map(|word| label(word));
-    let starts = ["(", ",", "=", "{", "[", ";", "=>", "return"];
-    let pair = source.words.windows(2).filter_map(|pair| match (pair[0].as_str(), pair[1].as_str()) {
-        ("fn", "(") => Some(label("a function pointer")),
-        (before, bar) if bar.starts_with('|') && starts.contains(&before) => Some(label("a closure")),
-        _ => None,
-    });
-    word.chain(pair).collect()
+    let pointer = source.words.windows(2).filter(|pair| pair[0] == "fn" && pair[1] == "(").map(|_| label("a function pointer"));
+    word.chain(pointer).collect()
 }
 
 /// Goes through the calls, each function once.
@@ -167,7 +217,6 @@ fn main() -> ExitCode {
     let mut walk = Walk { calls, longest: HashMap::new(), open: Vec::new(), complaints: Vec::new() };
     let mut longest = |ids: &[Id]| ids.iter().map(|id| walk.chain(*id)).max_by_key(Vec::len).unwrap_or_default();
     let (chain, host_chain) = (longest(&ids), longest(&host_ids));
-    walk.complaints.extend(ids.iter().flat_map(|id| walk.calls.handed_on(*id)).collect::<Vec<_>>());
     walk.complaints.extend(tree.sources.iter().flat_map(indirect));
     walk.complaints.iter().for_each(|complaint| println!("recursion: {complaint}"));
     let ends = |chain: &[Id]| match chain {

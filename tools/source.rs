@@ -10,11 +10,14 @@ pub struct Clause {
     pub words: Vec<String>,
 }
 
-/// A function of the source, with the names of its parameters, those of them that are lent, those lent to be written, the words
-/// of its answer's type, the types of its head, its contract, and the words of its body.
+/// A function of the source, with the type whose `impl` or the trait that holds it, the names of its parameters (`self` is one),
+/// those of them that are lent, those lent to be written, those that are called, the words of its answer's type, the types of its
+/// head, its contract, and the words of its body, none where a trait only names it.
 pub struct Function {
     pub name: String,
+    pub of: Option<String>,
     pub public: bool,
+    pub called: Vec<String>,
     pub parameters: Vec<String>,
     pub lent: Vec<String>,
     pub written: Vec<String>,
@@ -157,25 +160,74 @@ pub fn behind(words: &[String], at: usize) -> usize {
 
 /// All functions of a file, in order.
 fn functions(words: &[String]) -> Vec<Function> {
-    let heads = (0..words.len()).filter(|&at| words[at] == "fn" && at + 2 < words.len());
-    heads.map(|at| function(words, at)).collect()
+    let holders: Vec<(usize, usize, String)> = (0..words.len()).filter_map(|at| holder(words, at)).collect();
+    let heads = (0..words.len()).filter(|&at| words[at] == "fn" && at + 2 < words.len() && words[at + 1] != "(");
+    let of = |at: usize| holders.iter().find(|(from, end, _)| *from < at && at < *end).map(|(_, _, name)| name.clone());
+    heads.map(|at| function(words, at, of(at))).collect()
+}
+
+/// The `impl` or the trait whose word stands at a place, as an item: where its braces begin and end, and the type's or the
+/// trait's name.
+fn holder(words: &[String], at: usize) -> Option<(usize, usize, String)> {
+    let first = words[at].as_str();
+    let is_item = at == 0 || ["}", ";", "]", "pub"].contains(&words[at - 1].as_str());
+    if !is_item || !(first == "impl" || first.starts_with("impl<") || first == "trait") {
+        return None;
+    }
+    let open = at + words[at..].iter().position(|word| word == "{")?;
+    let head = &words[at..open];
+    let head = &head[..head.iter().position(|word| word == "where").unwrap_or(head.len())];
+    let of = match head.iter().position(|word| word == "for") {
+        Some(place) => head.get(place + 1)?,
+        None if first == "trait" => head.get(1)?.strip_suffix(':').map_or(head.get(1), |_| head.get(1))?,
+        None => head.last()?,
+    };
+    Some((open, behind(words, open), bare(of).trim_end_matches(':').to_string()))
+}
+
+/// The parameters that are called: those of a type `impl Fn(..)`, and those of a type parameter with such a bound.
+fn called(words: &[String], at: usize, open: usize, end: usize) -> Vec<String> {
+    let is_fn = |word: &str| ["Fn", "FnMut", "FnOnce"].contains(&word);
+    let letters: Vec<&str> = words[at..end]
+        .windows(2)
+        .filter(|pair| is_fn(&pair[1]))
+        .filter_map(|pair| pair[0].rsplit('<').next().and_then(|word| word.strip_suffix(':')))
+        .collect();
+    let typed = |pair: &&[String]| {
+        let kind = pair[1].trim_start_matches('&');
+        pair[0].ends_with(':') && (letters.contains(&kind) || kind == "impl" && is_fn(&pair[2]))
+    };
+    words[open..end].windows(3).filter(typed).filter_map(|pair| pair[0].strip_suffix(':').map(str::to_string)).collect()
 }
 
 /// The function whose `fn` stands at a place.
-fn function(words: &[String], at: usize) -> Function {
+fn function(words: &[String], at: usize, of: Option<String>) -> Function {
     let open = at + words[at..].iter().position(|word| word == "(").unwrap_or(0);
+    let open = at + 1 + parameters(&words[at + 1..]).unwrap_or(open - at - 1);
     let mut end = behind(words, open);
     let head = &words[open..end];
+    let called = called(words, at, open, end);
+    let of_self = head.iter().position(|word| word == "self" || word.starts_with('&') && word.ends_with("self"));
+    let lends_self = of_self.is_some_and(|place| head[place] != "self" || head[place - 1].starts_with('&'));
+    let writes_self = of_self.is_some_and(|place| head[place] == "self" && head[place - 1] == "&mut");
+    let own = |holds: bool| holds.then(|| "self".to_string()).into_iter();
     let named = |word: &String| word.strip_suffix(':').map(str::to_string);
-    let lent = head.windows(2).filter(|pair| pair[1].starts_with('&')).filter_map(|pair| named(&pair[0])).collect();
-    let written = head.windows(2).filter(|pair| pair[1] == "&mut").filter_map(|pair| named(&pair[0])).collect();
+    let lent = head.windows(2).filter(|pair| pair[1].starts_with('&')).filter_map(|pair| named(&pair[0]));
+    let lent = own(lends_self).chain(lent).collect();
+    let written = head.windows(2).filter(|pair| pair[1] == "&mut").filter_map(|pair| named(&pair[0]));
+    let written = own(writes_self).chain(written).collect();
     let (mut answer, mut contract) = (Vec::new(), Vec::new());
-    while end < words.len() && words[end] != "{" {
+    let mut bounds = false;
+    while end < words.len() && words[end] != "{" && words[end] != ";" {
         let begins = words[end] == "requires" || words[end] == "ensures";
         let brace = if begins { words[end..].iter().position(|word| word == "{") } else { None };
         let Some(brace) = brace else {
-            answer.push(words[end].clone());
-            end += 1;
+            bounds |= words[end] == "where";
+            let next = if words[end] == "[" { behind(words, end) } else { end + 1 };
+            if !bounds {
+                answer.extend_from_slice(&words[end..next]);
+            }
+            end = next;
             continue;
         };
         let close = behind(words, end + brace);
@@ -185,13 +237,29 @@ fn function(words: &[String], at: usize) -> Function {
     let types = head.iter().chain(&answer).map(|word| bare(word)).filter(|word| word.starts_with(char::is_uppercase));
     Function {
         name: bare(&words[at + 1]).to_string(),
+        of,
         public: at > 0 && words[at - 1] == "pub",
-        parameters: head.iter().filter_map(named).collect(),
+        called,
+        parameters: own(of_self.is_some()).chain(head.iter().filter_map(named)).collect(),
         lent,
         written,
         types: types.map(str::to_string).collect(),
         answer,
         contract,
-        body: words[end..behind(words, end)].to_vec(),
+        body: if words.get(end).is_some_and(|word| word == "{") { words[end..behind(words, end)].to_vec() } else { Vec::new() },
     }
+}
+
+/// Where in a head, from the function's name on, the bracket of its parameters stands: behind its type parameters, in whose bounds
+/// other brackets may stand.
+fn parameters(head: &[String]) -> Option<usize> {
+    let mut depth = 0;
+    for (at, word) in head.iter().enumerate() {
+        if depth == 0 && word == "(" {
+            return Some(at);
+        }
+        let arrows = word.matches("->").count() as i32;
+        depth += word.matches('<').count() as i32 - (word.matches('>').count() as i32 - arrows);
+    }
+    None
 }
