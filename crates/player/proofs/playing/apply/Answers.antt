@@ -12,11 +12,11 @@ at_most_one status = by (eqb status 0)
     by false = omega arith
 
 pub overflow_add-result : goal.overflow_add-result
-overflow_add-result c = record { fits = omega (arith, c.requires.0) }
+overflow_add-result c = record { fits = omega (arith, c.requires.1) }
 
 pub overflow_add-result-2 : goal.overflow_add-result-2
-overflow_add-result-2 c = record { fits = omega (arith, c.requires.0, c.requires.1, c.one_unless_done.ensures, at_most_one c.heed-a.result.status) }
+overflow_add-result-2 c = record { fits = omega (arith, c.requires.1, c.requires.2, c.one_unless_done.ensures, at_most_one c.heed-a.result.status) }
 
 pub returns : goal.returns
 unfolding applying
-returns c = simp (c.cue.ensures, c.next.ensures, c.with_engine.ensures, c.one_unless_done.ensures, c.heed-a.ensures)
+returns c = simp (c.requires.0, c.cue.ensures, c.next.ensures, c.with_engine.ensures, c.one_unless_done.ensures, c.heed-a.ensures)

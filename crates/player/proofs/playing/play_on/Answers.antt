@@ -1,12 +1,12 @@
 -- A turn goes on to the next event, and applies it where frames are left.
-use Rattle.std.proofs.Common.{◌≡◌, ℕ, ◌+◌, ◌-◌, ◌*◌, ◌<◌, ◌≤◌, Bool, cond, ltb, List, ◌++◌, take, drop, sym, refl, ap, ◌∙◌, subst, ap₂, append_assoc, append-nil, arith, rules}
+use Rattle.std.proofs.Common.{◌≡◌, ℕ, ◌+◌, ◌-◌, ◌*◌, ◌<◌, ◌≤◌, Bool, true, false, cond, ltb, ltb-true, List, ◌++◌, take, drop, sym, refl, ap, ◌∙◌, subst, ap₂, append_assoc, append-nil, arith, rules}
 use lib.Ieee.{Float}
 use Rattle.engine.specs.Rendering.{output}
 use Rattle.player.specs.declared.Tally.{Tally}
-use Rattle.player.specs.Cues.{gap_of}
+use Rattle.player.specs.Cues.{ended, gap_of}
 use Rattle.player.specs.Playing.{opened, forward, applying, performed, numbers}
-use Rattle.player.proofs.CuesLaws.{left, gap-most, left-low}
-use Rattle.player.proofs.PlayingLaws.{left_behind, output-length, written_on, forward-counts, Bounded, turned, turn-after, turn-numbers, turn-less, turn-counts}
+use Rattle.player.proofs.CuesLaws.{left, gap-most, gap-less, left-low}
+use Rattle.player.proofs.PlayingLaws.{left_behind, output-length, written_on, forward-counts, forward-ended, Bounded, turned, turn-after, turn-numbers, turn-less, turn-counts}
 use Rattle.player.proofs.playing.play_on.Goals as goal
 
 pub loop-k-init : goal.loop-k-init
@@ -45,7 +45,11 @@ apply_if-x-requires c = let a = c.args in
     let f = forward-counts a.ram.now a.rom.now c.gap-m.result c.loop-k.x in
     let p = ap (λ (x : Tally). x.applied) c.go_on-x.ensures.tally in
     let r = ap (λ (x : Tally). x.refused) c.go_on-x.ensures.tally in
-    (omega (arith, p, f.0, i.0), omega (arith, p, r, f.0, f.1, i.1))
+    let q = c.loop-k.x.player in
+    let open : (k m n : ℕ) → ltb (k + m) n ≡ true → k ≤ n → m ≡ gap_of q (n - k) → ended q ≡ false =
+    λ (k m n : ℕ) (t : ltb (k + m) n ≡ true) (h : k ≤ n) (e : m ≡ gap_of q (n - k)). (gap-less q (n - k) (omega (arith, ltb-true (k + m) n t, e))).0 in
+    (λ t. ap (λ (x : Tally). ended x.player) c.go_on-x.ensures.tally ∙ forward-ended a.ram.now a.rom.now c.gap-m.result c.loop-k.x ∙ open c.loop-k.k c.gap-m.result a.n t c.loop-k.invariant.0 c.gap-m.ensures,
+    omega (arith, p, f.0, i.0), omega (arith, p, r, f.0, f.1, i.1))
 
 pub loop-k-smaller : goal.loop-k-smaller
 loop-k-smaller c = let state : (let a = c.args in
