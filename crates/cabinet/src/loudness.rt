@@ -6,7 +6,6 @@ ghost use Rattle.wave.specs.Lowering.{attenuation_for, sums_into, sums_poured};
 ghost use Rattle.cabinet.specs.Keeping.{engine_in, kept_answer};
 
 use crate::Flat;
-use crate::files::number;
 use crate::keeping::{keep_answer, player_in};
 
 // The engine's sums, and what C keeps of the call.
@@ -46,12 +45,12 @@ pub fn thularek_wave_sums(
     let p = wave::pour_sums(sums, attenuation, out);
     *held = p.held;
     *loudest = p.loudest;
-    number(p.number)
+    u32::from(p.number)
 }
 
 // The least attenuation with which no sum of at most this size is held.
 pub fn thularek_attenuation_for(loudest: u32) -> u32
     ensures { result ≡ attenuation_for loudest }
 {
-    wave::attenuation_for(loudest) as u32
+    u32::from(wave::attenuation_for(loudest))
 }
