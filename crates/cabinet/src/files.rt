@@ -21,18 +21,11 @@ struct Row {
     next: usize,
 }
 
-// A number of a document, widened.
-pub fn number(n: u8) -> u32
-    ensures { result ≡ n }
-{
-    n as u32
-}
-
 // 0 where the bank is admitted, else 1.
 pub fn thularek_admit(bank: &[u8]) -> u32
     ensures { result ≡ fault_number (fault_of bank.now) }
 {
-    number(engine::admit(bank))
+    u32::from(engine::admit(bank))
 }
 
 // A fault's kind as a number.
@@ -142,7 +135,7 @@ pub fn thularek_font(
     *samples = s.at;
     *samples_size = s.size;
     *place = f.place;
-    number(f.number)
+    u32::from(f.number)
 }
 
 // Whether a song can be played: its number (0: yes), and the place of its first fault.
@@ -151,7 +144,7 @@ pub fn thularek_song_test(song: &[u8], place: &mut u32) -> u32
 {
     let t = smf::test(song);
     *place = t.place;
-    number(t.number)
+    u32::from(t.number)
 }
 
 // A song of several tracks as one of one track: its number (0: written), how many bytes were written, and the place of its first fault.
@@ -161,21 +154,21 @@ pub fn thularek_merge(file: &[u8], out: &mut [u8], size: &mut usize, place: &mut
     let m = merge::merge(file, out);
     *size = m.size;
     *place = m.place;
-    number(m.number)
+    u32::from(m.number)
 }
 
 // The 44 bytes in front of so many frames.
 pub fn thularek_wave_heading(frames: u64, out: &mut [u8]) -> u32
     ensures { (result ≡ heading_number frames (length out.old)) × (out.new ≡ headed frames out.old) }
 {
-    number(wave::heading(frames, out))
+    u32::from(wave::heading(frames, out))
 }
 
 // Output numbers as bytes, two for each.
 pub fn thularek_wave_pour(numbers: &[f32], out: &mut [u8]) -> u32
     ensures { (result ≡ pour_number numbers.now (length out.old)) × (out.new ≡ poured_into numbers.now out.old) }
 {
-    number(wave::pour(numbers, out))
+    u32::from(wave::pour(numbers, out))
 }
 
 // The frames of a file that these made, and its numbers.
@@ -184,5 +177,5 @@ pub fn thularek_wave_read(file: &[u8], out: &mut [i16], frames: &mut u32) -> u32
 {
     let h = wave::read(file, out);
     *frames = h.frames;
-    number(h.number)
+    u32::from(h.number)
 }

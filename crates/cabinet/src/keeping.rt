@@ -18,7 +18,7 @@ pub fn keep(number: u8, count: u32, refused: u32, place: u32, p: Player) -> Flat
     ensures { result ≡ kept number count refused place p }
 {
     Flat {
-        number: number as u32,
+        number: u32::from(number),
         count,
         refused,
         place,
@@ -30,13 +30,12 @@ pub fn keep(number: u8, count: u32, refused: u32, place: u32, p: Player) -> Flat
 pub fn keep_answer(a: Answered, s: Flat) -> Flat
     ensures { result ≡ kept_answer a s }
 {
-    let e = a.engine;
     keep(
         a.status,
         a.count,
         0,
         0,
-        player::with_engine(player_in(s), e),
+        player::with_engine(player_in(s), a.engine),
     )
 }
 
@@ -44,14 +43,12 @@ pub fn keep_answer(a: Answered, s: Flat) -> Flat
 pub fn keep_start(b: Begun) -> Flat
     ensures { result ≡ kept_start b }
 {
-    let p = b.player;
-    keep(b.number, 0, 0, b.place, p)
+    keep(b.number, 0, 0, b.place, b.player)
 }
 
 // After a render of a song.
 pub fn keep_play(a: Answer) -> Flat
     ensures { result ≡ kept_play a }
 {
-    let p = a.player;
-    keep(a.number, a.applied, a.refused, 0, p)
+    keep(a.number, a.applied, a.refused, 0, a.player)
 }

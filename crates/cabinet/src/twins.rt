@@ -1,6 +1,6 @@
 // From a twin to what it stands for, and back.
 ghost use Rattle.std.specs.Prelude.{◌≡◌};
-ghost use Rattle.cabinet.specs.Twins.{stage_of, stage_to, voice_of_twin, voice_to, engine_of, engine_to, player_of, player_to};
+ghost use Rattle.cabinet.specs.Twins.{flat_stage, stage_of, stage_to, voice_of_twin, voice_to, engine_of, engine_to, player_of, player_to};
 
 use crate::{FlatEngine, FlatPlayer, FlatStage, FlatVoice};
 use player::Player;
@@ -28,7 +28,7 @@ impl From<FlatStage> for Stage {
 
 // The three numbers of a stage.
 fn flat_stage(kind: u8, from: u16, t: u32) -> FlatStage
-    ensures { result ≡ record { kind = kind; from = from; t = t } }
+    ensures { result ≡ flat_stage kind from t }
 {
     FlatStage { kind, from, t }
 }
@@ -153,6 +153,7 @@ impl From<Engine> for FlatEngine {
 impl From<FlatPlayer> for Player {
     ghost from_gives = { λ f r. r ≡ player_of f };
 
+    #[tactic(auto, unfolding(crate::specs::Twins::player_of))]
     fn from(f: FlatPlayer) -> Player {
         Player {
             engine: Engine::from(f.engine),
@@ -168,6 +169,7 @@ impl From<FlatPlayer> for Player {
 impl From<Player> for FlatPlayer {
     ghost from_gives = { λ p r. r ≡ player_to p };
 
+    #[tactic(auto, unfolding(crate::specs::Twins::player_to))]
     fn from(p: Player) -> FlatPlayer {
         FlatPlayer {
             engine: FlatEngine::from(p.engine),
