@@ -1,10 +1,12 @@
 -- There and back: a state that C is handed is the state that the next call takes up. And an array that holds f of each element of another.
-use Rattle.std.proofs.Common.{◌≡◌, ℕ, suc, ◌<◌, Bool, true, false, List, [], ◌∷◌, map, length, get_or, refl, arith}
+use Rattle.std.proofs.Common.{◌≡◌, ℕ, suc, ◌<◌, Bool, true, false, List, [], ◌∷◌, map, length, get_or, Option, None, Some, is_none, unwrap_or, cond, refl, arith}
 use Rattle.voice.specs.declared.Stage.{Stage}
 use Rattle.voice.specs.declared.Stage.TheVariants as at
 use Rattle.voice.specs.declared.Voice.{Voice}
 use Rattle.state.specs.declared.Engine.{Engine}
+use Rattle.smf.specs.declared.Event.{Event}
 use Rattle.player.specs.declared.Player.{Player}
+use Rattle.player.specs.Cues.{no_event}
 use Rattle.cabinet.specs.Twins.{flag_of, flag_to, stage_of, stage_to, voice_of_twin, voice_to, engine_of, engine_to, player_of, player_to}
 
 -- a list of f of each element of another
@@ -30,6 +32,10 @@ stage-back (at.Decay t) = refl
 stage-back at.Sustain = refl
 stage-back (at.Release f t) = refl
 
+event-back : (o : Option Event) → cond (flag_of (flag_to (is_none o))) None (Some (unwrap_or o no_event)) ≡ o
+event-back None = refl
+event-back (Some v) = refl
+
 voice-back : (v : Voice) → voice_of_twin (voice_to v) ≡ v
 voice-back v = rw (stage-back v.stage, flag-back v.marked, flag-back v.rom)
 
@@ -45,4 +51,4 @@ engine-back e = rw (voices-back e.voices)
 -- a player there and back
 pub player-back : (p : Player) → player_of (player_to p) ≡ p
 unfolding player_of player_to
-player-back p = rw (engine-back p.engine, flag-back p.ended)
+player-back p = rw (engine-back p.engine, event-back p.event)

@@ -4,8 +4,17 @@ ghost use Rattle.cabinet.specs.Twins.{flat_stage, stage_of, stage_to, voice_of_t
 
 use crate::{FlatEngine, FlatPlayer, FlatStage, FlatVoice};
 use player::Player;
+use smf::Event;
 use state::Engine;
 use voice::{Stage, Voice};
+
+// What stands in the event's place where none comes.
+const NO_EVENT: Event = Event {
+    frame: 0,
+    status: 0,
+    first: 0,
+    second: 0,
+};
 
 // A stage by its number.
 impl From<FlatStage> for Stage {
@@ -158,9 +167,8 @@ impl From<FlatPlayer> for Player {
         Player {
             engine: Engine::from(f.engine),
             cursor: f.cursor,
-            event: f.event,
+            event: if f.ended == 0 { Some(f.event) } else { None },
             began: f.began,
-            ended: f.ended != 0,
         }
     }
 }
@@ -174,9 +182,9 @@ impl From<Player> for FlatPlayer {
         FlatPlayer {
             engine: FlatEngine::from(p.engine),
             cursor: p.cursor,
-            event: p.event,
+            event: p.event.unwrap_or(NO_EVENT),
             began: p.began,
-            ended: u8::from(p.ended),
+            ended: u8::from(p.event.is_none()),
         }
     }
 }
