@@ -2,7 +2,7 @@
 ghost use Rattle.std.specs.Prelude.{◌≡◌, ◌+◌, ◌*◌, ◌<◌, ◌≤◌, ◌++◌, true, false, length, take, drop, if◌then◌else◌};
 ghost use Rattle.engine.specs.Rendering.{output};
 ghost use Rattle.player.specs.Cues.{ended};
-ghost use Rattle.player.specs.Playing.{opened, refusal, applying, forward, performed, numbers, answered, sounded_into};
+ghost use Rattle.player.specs.Playing.{opened, applying, forward, performed, numbers, answered, sounded_into};
 
 use crate::acting::heed;
 use crate::cues::{cue, gap, with_engine};
@@ -20,22 +20,8 @@ fn open(p: Player) -> Tally
     }
 }
 
-// 1 where a call was refused.
-pub fn one_unless_done(status: u8) -> u32
-    ensures { result ≡ refusal status }
-{
-    u32::from(status != 0)
-}
-
 // The event that comes next acts on the engine and is counted, and the one behind it is read.
-fn apply<'a>(
-    x: Tally,
-    v: Event,
-    file: &[u8],
-    bank: &[u8],
-    ram: &'a [i16],
-    rom: &'a [i16],
-) -> Tally
+fn apply<'a>(x: Tally, v: Event, file: &[u8], bank: &[u8], ram: &'a [i16], rom: &'a [i16]) -> Tally
     requires { (x.player.event ≡ Some v) × (x.applied < 4294967295) × (x.refused ≤ x.applied) }
     ensures { result ≡ applying file.now bank.now ram.now rom.now x }
 {
@@ -44,7 +30,7 @@ fn apply<'a>(
     Tally {
         player: cue(with_engine(p, a.engine), smf::next(file, p.cursor)),
         applied: x.applied + 1,
-        refused: x.refused + one_unless_done(a.status),
+        refused: x.refused + u32::from(a.status != 0),
     }
 }
 
