@@ -48,11 +48,9 @@ fn taken_slot(e: Engine, mine: u32) -> usize
     ensures { (result ≡ taken e mine) × (result < 32) }
 {
     let mut b = aged(e, 0);
-    let mut k: usize = 0;
-    while k < 32 {
+    for k in 0..32 {
         let x = aged(e, k);
         b = sooner(e, mine, x, b);
-        k = k + 1;
     }
     b
 }
@@ -72,14 +70,12 @@ pub fn seat_of(e: Engine, mine: u32) -> usize
 fn place_of(order: [u8; 32], i: u8) -> usize
     ensures { result ≡ first_at i (map as_slot order) }
 {
-    let mut k: usize = 0;
-    while k < 32 {
+    for k in 0..32 {
         if order[k] % 32 == i {
             return k;
         }
-        k = k + 1;
     }
-    k
+    32
 }
 
 // Place k of the order in which slot i, which stood at p, is behind all others.
@@ -102,10 +98,8 @@ fn renewed_order(order: [u8; 32], i: u8) -> [u8; 32]
 {
     let p = place_of(order, i);
     let mut out = order;
-    let mut k: usize = 0;
-    while k < 32 {
+    for k in 0..32 {
         out[k] = shifted(order, i, p, k);
-        k = k + 1;
     }
     out
 }

@@ -10,7 +10,7 @@ use Rattle.state.proofs.SeatsLaws.{first-le, first-here, first_on}
 use Rattle.state.proofs.seats.place_of.Goals as goal
 
 pub loop-k-init : goal.loop-k-init
-loop-k-init c = (c.well_formed.0.1.0.1, omega arith, omega arith)
+loop-k-init c = (c.well_formed.0.1.0.1, omega arith)
 
 pub returns-then-order-k : goal.returns-then-order-k
 returns-then-order-k c = let a = c.args in
@@ -23,7 +23,7 @@ loop-k-preserved c = let a = c.args in
     let xs = map as_slot a.order in
     let n : length xs ≡ 32 = simp length-map c.loop-k.invariant.0 in
     let on = first_on a.i xs c.loop-k.k (omega arith) c.loop-k.invariant.1 (λ e. c.if-order-k.false (sym (map_at as_slot a.order c.loop-k.k 0 refl) ∙ e)) in
-    (c.loop-k.invariant.0, omega (arith, on), omega arith)
+    (c.loop-k.invariant.0, omega (arith, on))
 
 pub returns : goal.returns
 returns c = let a = c.args in

@@ -12,7 +12,7 @@ use Rattle.state.proofs.SeatsLaws.{renewed-length, fill-turn}
 use Rattle.state.proofs.seats.renewed_order.Goals as goal
 
 pub loop-k-init : goal.loop-k-init
-loop-k-init c = let n = c.well_formed.0.1.0.1 in (n, n, refl, omega arith)
+loop-k-init c = let n = c.well_formed.0.1.0.1 in (n, n, refl)
 
 pub shifted-requires : goal.shifted-requires
 shifted-requires c = (search rules, c.place_of-p.ensures)
@@ -24,7 +24,6 @@ loop-k-preserved c = let a = c.args in
       c.loop-k.invariant.0,
       simp length-set c.loop-k.invariant.1,
       fill-turn c.loop-k.out (renewed a.i xs) c.loop-k.k c.shifted.result (omega (arith, c.loop-k.invariant.1)) (omega arith) c.loop-k.invariant.2 c.shifted.ensures,
-      omega arith,
     )
 
 pub returns : goal.returns

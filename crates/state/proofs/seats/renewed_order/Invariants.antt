@@ -1,6 +1,5 @@
 -- A turn fills place k of the renewed order.
 use mathlib.Core.Path.{◌≡◌}
-use Prim.Native.Nat.{◌-◌, ◌≤◌}
 use mathlib.Core.List.{map}
 use lib.ListN.{length, take}
 use Rattle.state.specs.Seats.{renewed}
@@ -11,7 +10,3 @@ abbrev pub invariant-loop-k : goal.invariant-loop-k
 invariant-loop-k l = (length l.order ≡ 32)
     × (length l.out ≡ 32)
     × (take l.k l.out ≡ take l.k (renewed l.i (map as_slot l.order)))
-    × (l.k ≤ 32)
-
-abbrev pub decreases-loop-k : goal.decreases-loop-k
-decreases-loop-k l = 32 - l.k

@@ -13,7 +13,7 @@ use Rattle.state.proofs.seats.taken_slot.Goals as goal
 
 pub loop-k-init : goal.loop-k-init
 loop-k-init c = let a = c.args in
-    (simp length-map (c.well_formed.0.1.1.1.1.1.0.1.0.1), sym (least-none (claim a.e a.mine) c.aged-b.result (order_of a.e)), c.aged-b.ensures.1, omega arith)
+    (simp length-map (c.well_formed.0.1.1.1.1.1.0.1.0.1), sym (least-none (claim a.e a.mine) c.aged-b.result (order_of a.e)), c.aged-b.ensures.1)
 
 pub loop-k-preserved : goal.loop-k-preserved
 loop-k-preserved c = let a = c.args in
@@ -23,7 +23,6 @@ loop-k-preserved c = let a = c.args in
       c.loop-k.invariant.0,
       c.sooner-b.ensures.0 ∙ two ∙ sym (least-turn f c.aged-b.result xs c.loop-k.k (omega (arith, c.loop-k.invariant.0))),
       c.sooner-b.ensures.1,
-      omega arith,
     )
 
 pub returns : goal.returns
