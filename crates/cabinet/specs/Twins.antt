@@ -5,7 +5,7 @@ use Rattle.voice.specs.declared.Stage.TheVariants as at
 use Rattle.voice.specs.declared.Voice.{Voice}
 use Rattle.state.specs.declared.Engine.{Engine}
 use Rattle.player.specs.declared.Player.{Player}
-use Rattle.player.specs.Cues.{ended, event_of}
+use Rattle.player.specs.Cues.{song_over, coming_event}
 use Rattle.cabinet.specs.declared.FlatStage.{FlatStage}
 use Rattle.cabinet.specs.declared.FlatVoice.{FlatVoice}
 use Rattle.cabinet.specs.declared.FlatEngine.{FlatEngine}
@@ -143,7 +143,7 @@ player_to p =
     record {
       engine = engine_to p.engine;
       cursor = p.cursor;
-      event = event_of p;
+      event = coming_event p;
       began = p.began;
-      ended = flag_to (ended p);
+      ended = flag_to (song_over p);
     }

@@ -2,7 +2,7 @@
 ghost use Rattle.std.specs.Prelude.{◌≡◌};
 ghost use Rattle.state.specs.Board.{ask, voice_count};
 ghost use Rattle.player.specs.Asking.{is_silent, held_count};
-ghost use Rattle.player.specs.Cues.{ended};
+ghost use Rattle.player.specs.Cues.{song_over};
 ghost use Rattle.cabinet.specs.Twins.{flag_to};
 ghost use Rattle.cabinet.specs.Keeping.{player_in, engine_in};
 ghost use Rattle.cabinet.specs.Questions.{lamp_stage, lamp_level};
@@ -42,7 +42,7 @@ pub fn thularek_clock(state: &Flat) -> u32
 
 // 1 where no event of the song is left.
 pub fn thularek_song_is_over(state: &Flat) -> u32
-    ensures { result ≡ flag_to (ended (player_in state.now)) }
+    ensures { result ≡ flag_to (song_over (player_in state.now)) }
 {
     u32::from(player::is_over(player_in(*state)))
 }

@@ -15,16 +15,16 @@ abbrev pub idle : Player
 idle = record { engine = fresh; cursor = over; event = None; began = 0 }
 
 -- no event is left, or no song was started
-abbrev pub ended : Player → Bool
-ended p = is_none p.event
+abbrev pub song_over : Player → Bool
+song_over p = is_none p.event
 
 -- an event of zeros, for what is asked of the event that comes next where none does
 abbrev pub no_event : Event
 no_event = record { frame = 0; status = 0; first = 0; second = 0 }
 
 -- the event that comes next
-abbrev pub event_of : Player → Event
-event_of p = unwrap_or p.event no_event
+abbrev pub coming_event : Player → Event
+coming_event p = unwrap_or p.event no_event
 
 -- the player with another engine
 abbrev pub with_engine : Player → Engine → Player
@@ -45,12 +45,12 @@ since p = (p.engine.clock + 4294967296 - p.began) % 4294967296
 
 -- an event comes, and its frame is reached, or was missed
 abbrev pub is_due : Player → Bool
-is_due p = not (ended p) && nat_le (event_of p).frame (since p)
+is_due p = not (song_over p) && nat_le (coming_event p).frame (since p)
 
 -- the frames up to the next event, 0 where it is due
 abbrev pub wait_of : Player → ℕ
-wait_of p = (event_of p).frame - since p
+wait_of p = (coming_event p).frame - since p
 
 -- the same, at most so many; all of them where none comes
 unfoldable pub gap_of : Player → ℕ → ℕ
-gap_of p most = cond (ended p) most (cond (nat_lt (wait_of p) most) (wait_of p) most)
+gap_of p most = cond (song_over p) most (cond (nat_lt (wait_of p) most) (wait_of p) most)

@@ -3,7 +3,7 @@ ghost use Rattle.std.specs.Prelude.{◌≡◌, if◌then◌else◌};
 ghost use Rattle.arith.specs.Lists.{count_if};
 ghost use Rattle.state.specs.Slots.{slots_of};
 ghost use Rattle.player.specs.Asking.{is_held, is_silent, held_count};
-ghost use Rattle.player.specs.Cues.{ended};
+ghost use Rattle.player.specs.Cues.{song_over};
 
 use crate::Player;
 use engine::Engine;
@@ -12,7 +12,7 @@ use voice::Slot;
 
 // No event of the song is left: the last one was applied, or it was stopped, or none was started.
 pub fn is_over(p: Player) -> bool
-    ensures { result ≡ ended p }
+    ensures { result ≡ song_over p }
 {
     p.event.is_none()
 }

@@ -1,7 +1,7 @@
 // Render: the engine's frames, with each event of the song before the frame that it names.
 ghost use Rattle.std.specs.Prelude.{◌≡◌, ◌+◌, ◌*◌, ◌<◌, ◌≤◌, ◌++◌, true, false, length, take, drop, if◌then◌else◌};
 ghost use Rattle.engine.specs.Rendering.{output};
-ghost use Rattle.player.specs.Cues.{ended};
+ghost use Rattle.player.specs.Cues.{song_over};
 ghost use Rattle.player.specs.Playing.{opened, applying, forward, performed, numbers, answered, sounded_into};
 
 use crate::acting::heed;
@@ -43,7 +43,7 @@ fn apply_if<'a>(
     ram: &'a [i16],
     rom: &'a [i16],
 ) -> Tally
-    requires { (more ≡ true → ended x.player ≡ false) × (x.applied < 4294967295) × (x.refused ≤ x.applied) }
+    requires { (more ≡ true → song_over x.player ≡ false) × (x.applied < 4294967295) × (x.refused ≤ x.applied) }
     ensures { result ≡ (if more then applying file.now bank.now ram.now rom.now x else x) }
 {
     match x.player.event {

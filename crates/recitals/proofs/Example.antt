@@ -16,7 +16,7 @@ use Rattle.smf.specs.Songs.{events_of, opening_of, handed_of}
 use Rattle.state.specs.declared.Engine.{Engine}
 use Rattle.state.specs.Quiet.{fresh}
 use Rattle.player.specs.declared.Player.{Player}
-use Rattle.player.specs.Cues.{ended, event_of, idle, with_engine, coming, cued, since, is_due, gap_of}
+use Rattle.player.specs.Cues.{song_over, coming_event, idle, with_engine, coming, cued, since, is_due, gap_of}
 use Rattle.player.specs.Playing.{answered}
 use Rattle.player.specs.Pauses.{hushed_to, freshened_to, readied}
 use Rattle.player.proofs.CuesLaws.{reached-due, gap-near}
@@ -225,11 +225,11 @@ leave-offered = refl
 begun-is : begun ≡ coming (readied idle) lent.cursor (Given strike)
 begun-is = start_is song events song-events idle ∙ ap (coming (readied idle) lent.cursor) strike-offered
 
-begun-open : ended begun ≡ false
-begun-open = ap (λ (p : Player). ended p) begun-is
+begun-open : song_over begun ≡ false
+begun-open = ap (λ (p : Player). song_over p) begun-is
 
 begun-due : is_due begun ≡ true
-begun-due = reached-due begun begun-open (omega (arith, ap (λ (p : Player). (event_of p).frame) begun-is))
+begun-due = reached-due begun begun-open (omega (arith, ap (λ (p : Player). (coming_event p).frame) begun-is))
 
 -- and behind it the way is three frames
 abbrev over-strike : Turn
@@ -248,8 +248,8 @@ struck-began : struck.began ≡ 0
 unfolding StateQuiet.fresh
 struck-began = ap (λ (p : Player). p.began) struck-is ∙ ap (λ (p : Player). p.began) begun-is
 
-struck-frame : (event_of struck).frame ≡ 3
-struck-frame = ap (λ (p : Player). (event_of p).frame) struck-is
+struck-frame : (coming_event struck).frame ≡ 3
+struck-frame = ap (λ (p : Player). (coming_event p).frame) struck-is
 
 struck-clock : struck.engine.clock ≡ 0
 unfolding StateQuiet.fresh
@@ -259,7 +259,7 @@ struck-gap : 3 ≤ gap_of struck 4
 unfolding since
 struck-gap =
     let n : since struck ≡ 0 = omega (arith, struck-clock, struck-began) in
-    omega (arith, struck-frame, n, gap-near struck 4 (ap (λ (p : Player). ended p) struck-is) (omega (arith, struck-frame, n)))
+    omega (arith, struck-frame, n, gap-near struck 4 (ap (λ (p : Player). song_over p) struck-is) (omega (arith, struck-frame, n)))
 
 -- a step, the engine's own three frames, and one more of the song
 abbrev own : Turn

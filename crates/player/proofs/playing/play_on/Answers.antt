@@ -4,7 +4,7 @@ use lib.Ieee.{Float}
 use Rattle.engine.specs.Rendering.{output}
 use Rattle.smf.specs.declared.Event.{Event}
 use Rattle.player.specs.declared.Tally.{Tally}
-use Rattle.player.specs.Cues.{ended, no_event, gap_of}
+use Rattle.player.specs.Cues.{song_over, no_event, gap_of}
 use Rattle.player.specs.Playing.{opened, forward, applying, performed, numbers}
 use Rattle.player.proofs.CuesLaws.{left, gap-most, gap-less, left-low}
 use Rattle.player.proofs.PlayingLaws.{left_behind, output-length, written_on, forward-counts, forward-ended, Bounded, turned, turn-after, turn-numbers, turn-less, turn-counts}
@@ -56,9 +56,9 @@ apply_if-x-requires c = let a = c.args in
     let p = ap (λ (x : Tally). x.applied) c.go_on-x.ensures.tally in
     let r = ap (λ (x : Tally). x.refused) c.go_on-x.ensures.tally in
     let q = c.loop-k.x.player in
-    let comes : (k m n : ℕ) → ltb (k + m) n ≡ true → k ≤ n → m ≡ gap_of q (n - k) → ended q ≡ false =
+    let comes : (k m n : ℕ) → ltb (k + m) n ≡ true → k ≤ n → m ≡ gap_of q (n - k) → song_over q ≡ false =
     λ (k m n : ℕ) (t : ltb (k + m) n ≡ true) (h : k ≤ n) (e : m ≡ gap_of q (n - k)). (gap-less q (n - k) (omega (arith, ltb-true (k + m) n t, e))).0 in (
-      λ t. ap (λ (x : Tally). ended x.player) c.go_on-x.ensures.tally ∙ forward-ended a.ram.now a.rom.now c.gap-m.result c.loop-k.x ∙ comes c.loop-k.k c.gap-m.result a.n t c.loop-k.invariant.0 c.gap-m.ensures,
+      λ t. ap (λ (x : Tally). song_over x.player) c.go_on-x.ensures.tally ∙ forward-ended a.ram.now a.rom.now c.gap-m.result c.loop-k.x ∙ comes c.loop-k.k c.gap-m.result a.n t c.loop-k.invariant.0 c.gap-m.ensures,
       omega (arith, p, f.0, i.0),
       omega (arith, p, r, f.0, f.1, i.1),
     )
