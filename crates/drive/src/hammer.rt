@@ -2,7 +2,6 @@
 use crate::tapes::Tape;
 use crate::{tapes, voices};
 use cases::Command;
-use records::Found;
 
 // No bank, or no such preset.
 fn none(text: &mut [u8; 65536], at: usize) -> usize {
@@ -21,8 +20,8 @@ fn struck(b: &[u8], text: &mut [u8; 65536], at: usize, c: Command) -> usize {
     }
     let m = records::parts_of(b);
     match layers::preset_for(b, m, c.two as u16, c.one) {
-        Found::Nothing => none(text, at),
-        Found::At(h) => voices::found(
+        None => none(text, at),
+        Some(h) => voices::found(
             text,
             at,
             layers::voices_for(b, m, short(h), 0, c.three, c.four),

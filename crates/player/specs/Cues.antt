@@ -1,10 +1,8 @@
 -- The player: its state, the event that comes next, and when that is due.
-use Rattle.std.specs.Prelude.{ℕ, ◌+◌, ◌-◌, ◌%◌, Bool, cond, not, ◌&&◌, nat_le, nat_lt, None, Some, is_none, unwrap_or}
+use Rattle.std.specs.Prelude.{ℕ, ◌+◌, ◌-◌, ◌%◌, Bool, cond, not, ◌&&◌, nat_le, nat_lt, Option, None, is_none, unwrap_or}
 use Rattle.smf.specs.declared.Event.{Event}
 use Rattle.smf.specs.declared.Handed.{Handed}
 use Rattle.smf.specs.declared.Cursor.{Cursor}
-use Rattle.smf.specs.declared.Offer.{Offer}
-use Rattle.smf.specs.declared.Offer.TheVariants.{End, Given}
 use Rattle.smf.specs.Track.{over}
 use Rattle.state.specs.declared.Engine.{Engine}
 use Rattle.state.specs.Quiet.{fresh}
@@ -31,13 +29,12 @@ abbrev pub with_engine : Player → Engine → Player
 with_engine p e = record { engine = e; cursor = p.cursor; event = p.event; began = p.began }
 
 -- the player with what is offered as the event that comes next, and the cursor behind it
-abbrev pub coming : Player → Cursor → Offer → Player
-coming p c End = record { engine = p.engine; cursor = c; event = None; began = p.began }
-coming p c (Given v) = record { engine = p.engine; cursor = c; event = Some v; began = p.began }
+abbrev pub coming : Player → Cursor → Option Event → Player
+coming p c o = record { engine = p.engine; cursor = c; event = o; began = p.began }
 
 -- .. with what was handed out
 abbrev pub cued : Player → Handed → Player
-cued p h = coming p h.cursor h.offer
+cued p h = coming p h.cursor h.event
 
 -- the frames since the song began, modulo 2^32
 unfoldable pub since : Player → ℕ

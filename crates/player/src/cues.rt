@@ -4,7 +4,7 @@ ghost use Rattle.player.specs.Cues.{idle, with_engine, cued, since, gap_of};
 
 use crate::Player;
 use engine::Engine;
-use smf::{Cursor, Handed, Offer};
+use smf::{Cursor, Handed};
 
 // A fresh player: a fresh engine, and no song.
 pub fn fresh() -> Player
@@ -36,13 +36,9 @@ pub fn with_engine(p: Player, e: Engine) -> Player
 pub fn cue(p: Player, h: Handed) -> Player
     ensures { result ≡ cued p h }
 {
-    let event = match h.offer {
-        Offer::End => None,
-        Offer::Given { event } => Some(event),
-    };
     Player {
         cursor: h.cursor,
-        event,
+        event: h.event,
         ..p
     }
 }

@@ -1,4 +1,5 @@
 -- Contracts that are equations determine what they speak of.
+use Rattle.std.specs.Prelude.{Option}
 use mathlib.Core.Path.{◌≡◌, sym, ◌∙◌, ap₂}
 use mathlib.Core.List.{List}
 use lib.Ieee.{Float}
@@ -15,7 +16,6 @@ use Rattle.bank.specs.declared.Fault.{Fault}
 use Rattle.bank.specs.Past.{past_memory}
 use Rattle.layers.specs.declared.Sheet.{Sheet}
 use Rattle.layers.specs.Spans.{sheet_of}
-use Rattle.records.specs.declared.Found as RecordsFound
 use Rattle.reader.specs.declared.Opened.{Opened}
 use Rattle.reader.specs.Reader.{opened_of, next_of, nth_listed}
 use Rattle.reader.specs.declared.Taken.{Taken}
@@ -83,7 +83,7 @@ pub admitted-determined : D.AdmittedDetermined
 admitted-determined bank = equation Bool (admitted bank)
 
 pub past-memory-determined : D.PastMemoryDetermined
-past-memory-determined bank ram rom = equation RecordsFound.Found (past_memory bank ram rom)
+past-memory-determined bank ram rom = equation (Option ℕ) (past_memory bank ram rom)
 
 -- ---- layers
 pub preset-sheet-determined : D.PresetSheetDetermined

@@ -1,6 +1,6 @@
 -- Any two outcomes that a contract allows are one: the answer, the state and all of the output. A contract stands behind `λ` as
 -- in the source; tools/contracts compares it with the functions that `contract of` names.
-use Rattle.std.specs.Prelude.{◌≡◌, List, Float, ℕ, Bool, cond, ℤ, length, Result}
+use Rattle.std.specs.Prelude.{◌≡◌, List, Float, ℕ, Bool, cond, ℤ, length, Option, Result}
 use Rattle.std.specs.Borrow.{Bor}
 use Rattle.state.specs.declared.Answered.{Answered}
 use Rattle.state.specs.declared.Engine.{Engine}
@@ -49,7 +49,6 @@ use Rattle.wave.specs.Recording.{write_number, recorded}
 use Rattle.wave.specs.Playback.{heard_of, replayed}
 use Rattle.wave.specs.Lowering.{attenuation_for, sums_into, sums_poured}
 use Rattle.records.specs.Memory.{part_of}
-use Rattle.records.specs.declared.Found as RecordsFound
 use Rattle.state.specs.Board as StateBoard
 use Rattle.state.specs.Quiet as StateQuiet
 
@@ -138,7 +137,7 @@ AdmittedDetermined = (bank : List ℕ) → Settles Bool (λ r. r ≡ admitted ba
 -- the 53 of the first zone whose window ends past a memory of so many samples, or nothing
 -- contract of bank::past_memory(bank, ram, rom)
 abbrev pub PastMemoryDetermined : Type 0
-PastMemoryDetermined = (bank : List ℕ) (ram rom : ℕ) → Settles RecordsFound.Found (λ r. r ≡ past_memory bank ram rom)
+PastMemoryDetermined = (bank : List ℕ) (ram rom : ℕ) → Settles (Option ℕ) (λ r. r ≡ past_memory bank ram rom)
 
 -- ---- layers
 

@@ -101,17 +101,10 @@ pub struct Opening {
     pub cursor: Cursor,
 }
 
-// The next channel event, or none.
-#[derive(Clone, Copy)]
-pub enum Offer {
-    End,
-    Given { event: Event },
-}
-
-// What is handed out, and the cursor behind it.
+// The next channel event, or none, and the cursor behind it.
 #[derive(Clone, Copy)]
 pub struct Handed {
-    pub offer: Offer,
+    pub event: Option<Event>,
     pub cursor: Cursor,
 }
 

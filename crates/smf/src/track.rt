@@ -7,7 +7,7 @@ ghost use Rattle.smf.specs.Songs.{verdict, turns};
 use crate::items::item_at;
 use crate::quantities::quantity_at;
 use crate::ticks::{frame_of, is_late, sum_after};
-use crate::{Cursor, Event, Handed, Item, Message, Met, Offer, Quantity, Tested};
+use crate::{Cursor, Event, Handed, Item, Message, Met, Quantity, Tested};
 
 // Where the track ends in the file that is lent.
 fn edge_of(b: &[u8], end: u32) -> u32
@@ -175,7 +175,7 @@ fn no_event() -> Handed
     ensures { result ≡ nothing }
 {
     Handed {
-        offer: Offer::End,
+        event: None,
         cursor: no_cursor(),
     }
 }
@@ -196,9 +196,8 @@ pub fn next_from(b: &[u8], from: Cursor) -> Handed
             Met::End => return no_event(),
             Met::Passed { further } => c = further,
             Met::Given { message, further } => {
-                let event = event_of(message, further);
                 return Handed {
-                    offer: Offer::Given { event },
+                    event: Some(event_of(message, further)),
                     cursor: further,
                 };
             }

@@ -130,8 +130,8 @@ pub fn pour_sums(sums: &[i32], attenuation: u16, out: &mut [u8]) -> Poured
     if out.len() / 2 < sums.len() {
         return refuse(15);
     }
-    let table = curves::gains();
-    let g = curves::gain(&table, attenuation as u64);
+    let table = curves::GainTable::new();
+    let g = table.gain(attenuation as u64);
     fill(sums, g, out);
     // a slice may have more frames than 32 bits can count
     let held = arith::least(frames_past(sums, g), 4294967295) as u32;
@@ -149,6 +149,6 @@ pub fn attenuation_for(loudest: u32) -> u16
     if loudest <= 8388608 {
         return 0;
     }
-    let table = curves::gains();
-    curves::least_cb(&table, (140737488355328 / (loudest as u64)) as u32)
+    let table = curves::GainTable::new();
+    table.least_cb((140737488355328 / (loudest as u64)) as u32)
 }

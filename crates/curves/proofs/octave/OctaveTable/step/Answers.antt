@@ -10,7 +10,7 @@ use mir.Facts.{to_z-of_z}
 use Rattle.curves.specs.Octave.{octaves}
 use Rattle.curves.specs.Pitch.{lifted, pitch_held, step_of}
 use Rattle.curves.specs.Internal.Pitch.{step_at}
-use Rattle.curves.proofs.pitch.step.Goals as goal
+use Rattle.curves.proofs.octave.OctaveTable.step.Goals as goal
 
 is-step : (cents : ℤ) (rate u t : ℕ) → u ≡ lifted (pitch_held cents) → t ≡ get_or octaves (u % 1200) 0
     → t * rate / 44100 / 2 ^ (14 - u / 1200) ≡ step_at cents rate

@@ -1,5 +1,5 @@
 -- Each turn of the loop puts one gain together.
-use Prim.Native.Nat.{ℕ, ◌+◌, ◌-◌, ◌<◌}
+use Prim.Native.Nat.{ℕ, ◌+◌, ◌<◌}
 use native.Mathlib.Numerals.{add-one}
 use native.Mathlib.Omega.{arith}
 use mathlib.Core.List.{List, ◌++◌, ◌∷◌, []}
@@ -9,7 +9,7 @@ use lib.Seq.{take-suc}
 use Rattle.arith.proofs.Put.{put}
 use Rattle.curves.specs.Levels.{gains}
 use Rattle.curves.proofs.GainTableLaws.{high_of, low_of, parts_join}
-use Rattle.curves.proofs.levels.gains.Goals as goal
+use Rattle.curves.proofs.levels.GainTable.new.Goals as goal
 
 gains-length : length gains ≡ 200
 gains-length = refl
@@ -31,9 +31,4 @@ pub loop-a-preserved : goal.loop-a-preserved
 unfolding high_of low_of
 loop-a-preserved c = let l = c.loop-a in
     let h : l.a < 200 = omega arith in
-    (l.invariant.0, turn _ l.t l.a c.joined.result l.invariant.0 h l.invariant.1 (c.joined.ensures ∙ parts_join l.a h), omega arith)
-
-pub returns : goal.returns
-returns c = let l = c.loop-a in
-    let e : l.a ≡ 200 = omega arith in
-    rw e at l.invariant.1
+    (l.invariant.0, turn _ l.entries l.a c.joined.result l.invariant.0 h l.invariant.1 (c.joined.ensures ∙ parts_join l.a h), omega arith)

@@ -7,7 +7,7 @@ use lib.Dec.{lit<}
 use lib.ListN.{get_or}
 use Rattle.curves.specs.Times.{frames_up}
 use Rattle.curves.specs.Octave.{octaves}
-use Rattle.curves.proofs.times.frames_up.Goals as goal
+use Rattle.curves.proofs.octave.OctaveTable.frames_up.Goals as goal
 
 is-frames : (c t p : ℕ) → t ≡ get_or octaves (c % 1200) 0 → p ≡ 2 ^ (c / 1200) → t * 44100 * p / 1099511627776 ≡ frames_up c
 unfolding frames_up
