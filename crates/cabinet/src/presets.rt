@@ -4,7 +4,6 @@ ghost use Rattle.bank.specs.Past.{past_memory};
 ghost use Rattle.layers.specs.Spans.{sheet_of};
 ghost use Rattle.cabinet.specs.Presets.{past_number, past_place};
 
-use crate::files::number;
 
 // A preset's sheet: 0 and where its name begins, its zones, its lowest and its highest key; 1 where the bank is not admitted; 2 at the end.
 pub fn thularek_preset(
@@ -22,7 +21,7 @@ pub fn thularek_preset(
     *zones = s.zones;
     *low = s.low;
     *high = s.high;
-    number(s.kind)
+    u32::from(s.kind)
 }
 
 // 8 where a window past its memory was found, as a note-on answers; else 0.

@@ -27,7 +27,7 @@ use Rattle.player.specs.declared.Begun.{Begun}
 use Rattle.player.specs.declared.Player.{Player}
 use Rattle.player.specs.declared.Stepped.{Stepped}
 use Rattle.player.specs.Asking.{is_silent, held_count}
-use Rattle.player.specs.Cues.{idle, with_engine, gap_of}
+use Rattle.player.specs.Cues.{song_over, idle, with_engine, gap_of}
 use Rattle.player.specs.Pauses.{started, stopped}
 use Rattle.player.specs.Stepping.{step_taken, next_event, next_frame}
 use Rattle.engine.specs.Presets.{sought_program, sought_bank}
@@ -194,7 +194,7 @@ pub next-frame-determined : D.NextFrameDetermined
 next-frame-determined p = equation ℕ (next_frame p)
 
 pub over-determined : D.OverDetermined
-over-determined p = equation Bool p.ended
+over-determined p = equation Bool (song_over p)
 
 pub silent-determined : D.SilentDetermined
 silent-determined p = equation Bool (is_silent p)

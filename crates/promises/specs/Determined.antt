@@ -34,7 +34,7 @@ use Rattle.player.specs.declared.Begun.{Begun}
 use Rattle.player.specs.declared.Player.{Player}
 use Rattle.player.specs.declared.Stepped.{Stepped}
 use Rattle.player.specs.Asking.{is_silent, held_count}
-use Rattle.player.specs.Cues.{idle, with_engine, gap_of}
+use Rattle.player.specs.Cues.{song_over, idle, with_engine, gap_of}
 use Rattle.player.specs.Pauses.{started, stopped}
 use Rattle.player.specs.Playing.{answered, sounded_into}
 use Rattle.player.specs.Stepping.{step_taken, next_event, next_frame}
@@ -336,7 +336,7 @@ NextFrameDetermined = (p : Player) → Settles ℕ (λ r. r ≡ next_frame p)
 -- whether no event is left
 -- contract of player::is_over(p)
 abbrev pub OverDetermined : Type 0
-OverDetermined = (p : Player) → Settles Bool (λ r. r ≡ p.ended)
+OverDetermined = (p : Player) → Settles Bool (λ r. r ≡ song_over p)
 
 -- whether no voice sounds
 -- contract of player::is_silent(p)
