@@ -5,7 +5,6 @@ ghost use Rattle.layers.specs.Spans.{sheet_of};
 ghost use Rattle.cabinet.specs.Presets.{past_number, past_place};
 
 use layers::{NoSheet, Sheet};
-use records::Found;
 
 // What is written where nothing is told.
 const BLANK: Sheet = Sheet {
@@ -40,22 +39,22 @@ pub fn thularek_preset(
 }
 
 // 8 where a window past its memory was found, as a note-on answers; else 0.
-fn past_number(f: Found) -> u32
+fn past_number(f: Option<usize>) -> u32
     ensures { result ≡ past_number f }
 {
     match f {
-        Found::Nothing => 0,
-        Found::At(_) => 8,
+        None => 0,
+        Some(_) => 8,
     }
 }
 
 // Its place.
-fn past_place(f: Found) -> usize
+fn past_place(f: Option<usize>) -> usize
     ensures { result ≡ past_place f }
 {
     match f {
-        Found::Nothing => 0,
-        Found::At(p) => p,
+        None => 0,
+        Some(p) => p,
     }
 }
 

@@ -7,7 +7,7 @@ ghost use Rattle.events.specs.Internal.Striking.{layers_answer, bank_answer};
 use crate::keys::off_key;
 use crate::starting::{any_past, strike};
 use layers::{preset_for, voices_for};
-use records::{Found, Parts};
+use records::Parts;
 use state::{Answered, Engine, channel_of, past_two, refuse};
 
 // The bank number of a channel: 128 on channel 9.
@@ -70,8 +70,8 @@ fn strike_bank<'a>(
     let c = channel_of(e, channel);
     let number = bank_number(e, channel);
     match preset_for(bank, m, number, c.program) {
-        Found::Nothing => refuse(3, e),
-        Found::At(h) => strike_layers(e, bank, ram, rom, m, h as u32, channel, key, velocity),
+        None => refuse(3, e),
+        Some(h) => strike_layers(e, bank, ram, rom, m, h as u32, channel, key, velocity),
     }
 }
 
