@@ -45,9 +45,13 @@ name_in b h ok low =
     let a = admitted-rules b ok in
     omega (arith, low, a.whole, chunk_next b 0, chunk-up b 1 8)
 
+-- the sheet that numbers of kind 0 tell of
+abbrev sheet_in : SheetNumbers → Result Sheet NoSheet
+sheet_in x = Ok (record { name = x.name; zones = x.zones; low = x.low; high = x.high })
+
 -- the numbers of two answers are one only where the answers are
 pub sheet-told-apart : (a b : Result Sheet NoSheet) → told_sheet a ≡ told_sheet b → a ≡ b
-sheet-told-apart (Ok s) (Ok t) e = cc
+sheet-told-apart (Ok s) (Ok t) e = ap sheet_in e
 sheet-told-apart (Ok s) (Err NotAdmitted) e = absurd (omega (arith, ap (λ (x : SheetNumbers). x.kind) e))
 sheet-told-apart (Ok s) (Err AtEnd) e = absurd (omega (arith, ap (λ (x : SheetNumbers). x.kind) e))
 sheet-told-apart (Err NotAdmitted) (Ok t) e = absurd (omega (arith, ap (λ (x : SheetNumbers). x.kind) e))
