@@ -56,7 +56,7 @@ impl LayerValues {
     }
 
     // A generator's two values added.
-    pub fn sum_at(&self, g: usize) -> i64
+    pub(crate) fn sum_at(&self, g: usize) -> i64
         requires { g < 61 }
         ensures { (result ≡ at self.now.own g +ℤ at self.now.added g) × Within result 65536 }
     {
@@ -64,7 +64,7 @@ impl LayerValues {
     }
 
     // The same, held to low..high.
-    pub fn held_at(&self, g: usize, low: i64, high: i64) -> i64
+    pub(crate) fn held_at(&self, g: usize, low: i64, high: i64) -> i64
         requires { (g < 61) × Within low 1200 × Within high 1200 }
         ensures { (result ≡ held_to low high (at self.now.own g +ℤ at self.now.added g)) × Within result 1200 }
     {
