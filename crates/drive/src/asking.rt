@@ -20,35 +20,23 @@ fn row(text: &mut [u8; 65536], at: usize, letter: u8, l: Listed) -> usize {
 }
 
 // The number that request M-102 gives a kind of fault; 0 for none.
-fn kind_of(f: Fault) -> u8 {
+fn kind_of(f: Result<(), Fault>) -> u8 {
     match f {
-        Fault::Fine => 0,
-        Fault::Long(_) => 21,
-        Fault::Chunk(_) => 22,
-        Fault::Records(_) => 23,
-        Fault::Index(_) => 24,
-        Fault::Number(_) => 25,
-        Fault::Rate(_) => 26,
-        Fault::Window(_) => 27,
+        Ok(()) => 0,
+        Err(fault) => 20 + fault.kind as u8,
     }
 }
 
 // The byte place of a fault; 0 for none.
-fn place_of(f: Fault) -> usize {
+fn place_of(f: Result<(), Fault>) -> usize {
     match f {
-        Fault::Fine => 0,
-        Fault::Long(place) => place,
-        Fault::Chunk(place) => place,
-        Fault::Records(place) => place,
-        Fault::Index(place) => place,
-        Fault::Number(place) => place,
-        Fault::Rate(place) => place,
-        Fault::Window(place) => place,
+        Ok(()) => 0,
+        Err(fault) => fault.place,
     }
 }
 
 // What is wrong with a bank: kind and place.
-fn fault(text: &mut [u8; 65536], at: usize, f: Fault) -> usize {
+fn fault(text: &mut [u8; 65536], at: usize, f: Result<(), Fault>) -> usize {
     let place = place_of(f);
     let to = cases::called(text, at, b'd', kind_of(f));
     cases::spaced(text, to, place as u64)

@@ -1,5 +1,5 @@
 -- Contracts that are equations determine what they speak of.
-use Rattle.std.specs.Prelude.{Option}
+use Rattle.std.specs.Prelude.{Option, Result}
 use mathlib.Core.Path.{◌≡◌, sym, ◌∙◌, ap₂}
 use mathlib.Core.List.{List}
 use lib.Ieee.{Float}
@@ -74,7 +74,7 @@ list-determined bank place = equation Listed (listed bank place)
 
 -- ---- bank
 pub admission-determined : D.AdmissionDetermined
-admission-determined bank = equation Fault (fault_of bank)
+admission-determined bank = equation (Result (Unit {0}) Fault) (fault_of bank)
 
 pub number-of-determined : D.NumberOfDetermined
 number-of-determined f = equation ℕ (fault_number f)

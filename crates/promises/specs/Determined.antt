@@ -122,12 +122,12 @@ ListDetermined = (bank : List ℕ) (place : ℕ) → Settles Listed (λ r. r ≡
 -- the first fault of the first kind, or none
 -- contract of bank::admission(bank)
 abbrev pub AdmissionDetermined : Type 0
-AdmissionDetermined = (bank : List ℕ) → Settles Fault (λ r. r ≡ fault_of bank)
+AdmissionDetermined = (bank : List ℕ) → Settles (Result (Unit {0}) Fault) (λ r. r ≡ fault_of bank)
 
 -- 01's number for a fault
 -- contract of bank::number_of(f)
 abbrev pub NumberOfDetermined : Type 0
-NumberOfDetermined = (f : Fault) → Settles ℕ (λ r. r ≡ fault_number f)
+NumberOfDetermined = (f : Result (Unit {0}) Fault) → Settles ℕ (λ r. r ≡ fault_number f)
 
 -- whether the number is 0
 -- contract of bank::admitted(bank)
