@@ -115,7 +115,9 @@ fn paths_of(item: &str) -> Vec<Vec<String>> {
 
 /// The name of the struct whose `struct` stands at a place, and its fields.
 fn fields(words: &[String], at: usize) -> (String, Vec<String>) {
-    let names = words[at + 2..behind(words, at + 2)].iter().filter_map(|word| word.strip_suffix(':'));
+    // a ghost field is a fact on the others, and holds nothing
+    let own = (at + 2..behind(words, at + 2)).filter(|&place| words[place - 1] != "ghost");
+    let names = own.filter_map(|place| words[place].strip_suffix(':'));
     (bare(&words[at + 1]).to_string(), names.map(str::to_string).collect())
 }
 

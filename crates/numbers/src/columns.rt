@@ -1,25 +1,19 @@
 // The lines of each function, over its list of arguments.
 ghost use Rattle.std.specs.Prelude.{◌≡◌};
-ghost use Rattle.curves.specs.Levels.{gains};
-ghost use Rattle.curves.specs.Octave.{octaves};
 
 use crate::arguments::{bend_at, cents_at, level_at, rate_at, time_at};
 use crate::rows::{line, print_signed, signed_line};
 use curves::{GainTable, OctaveTable};
 
 // The step of a pitch at a rate.
-fn step_line(t: &OctaveTable, cents: i32, rate: u16)
-    requires { t.now ≡ octaves }
-{
+fn step_line(t: &OctaveTable, cents: i32, rate: u16) {
     io::write_all(1, b"step ");
     print_signed(cents);
-    line(b" ", rate as i32, curves::step(t, cents, rate));
+    line(b" ", rate as i32, t.step(cents, rate));
 }
 
 // The steps of a pitch at each rate.
-fn steps_at(t: &OctaveTable, cents: i32)
-    requires { t.now ≡ octaves }
-{
+fn steps_at(t: &OctaveTable, cents: i32) {
     let mut i: usize = 0;
     while i < 10 {
         step_line(t, cents, rate_at(i));
@@ -28,9 +22,7 @@ fn steps_at(t: &OctaveTable, cents: i32)
 }
 
 // The steps of each pitch.
-pub fn steps(t: &OctaveTable)
-    requires { t.now ≡ octaves }
-{
+pub fn steps(t: &OctaveTable) {
     let mut i: usize = 0;
     while i < 161 {
         steps_at(t, cents_at(i));
@@ -39,17 +31,13 @@ pub fn steps(t: &OctaveTable)
 }
 
 // The frames of a time, with either upper hold.
-fn time_lines(t: &OctaveTable, time: i32)
-    requires { t.now ≡ octaves }
-{
-    line(b"frames ", time, curves::long_frames(t, time));
-    line(b"frames5000 ", time, curves::short_frames(t, time));
+fn time_lines(t: &OctaveTable, time: i32) {
+    line(b"frames ", time, t.long_frames(time));
+    line(b"frames5000 ", time, t.short_frames(time));
 }
 
 // The frames of each time.
-pub fn times(t: &OctaveTable)
-    requires { t.now ≡ octaves }
-{
+pub fn times(t: &OctaveTable) {
     let mut i: usize = 0;
     while i < 175 {
         time_lines(t, time_at(i));
@@ -58,12 +46,10 @@ pub fn times(t: &OctaveTable)
 }
 
 // The gains, and five past the last.
-pub fn gains(g: &GainTable)
-    requires { g.now ≡ gains }
-{
+pub fn gains(g: &GainTable) {
     let mut a: u32 = 0;
     while a < 1446 {
-        line(b"gain ", a as i32, curves::gain(g, a as u64));
+        line(b"gain ", a as i32, g.gain(a as u64));
         a = a + 1;
     }
 }
@@ -78,20 +64,16 @@ pub fn attenuations(name: &[u8], first: u8) {
 }
 
 // The least attenuation for a level.
-fn level_line(g: &GainTable, level: u32)
-    requires { g.now ≡ gains }
-{
+fn level_line(g: &GainTable, level: u32) {
     io::write_all(1, b"least ");
     io::print_decimal(1, level as u64);
     io::write_all(1, b" = ");
-    io::print_decimal(1, curves::least_cb(g, level) as u64);
+    io::print_decimal(1, g.least_cb(level) as u64);
     io::write_all(1, b"\n");
 }
 
 // The least attenuation for each level.
-pub fn levels(g: &GainTable)
-    requires { g.now ≡ gains }
-{
+pub fn levels(g: &GainTable) {
     let mut i: usize = 0;
     while i < 109 {
         level_line(g, level_at(i));

@@ -8,8 +8,8 @@ mod rows;
 
 // All lists, one after the other.
 fn main() {
-    let octaves = curves::octaves();
-    let gains = curves::gains();
+    let octaves = curves::OctaveTable::new();
+    let gains = curves::GainTable::new();
     columns::steps(&octaves);
     columns::times(&octaves);
     columns::gains(&gains);

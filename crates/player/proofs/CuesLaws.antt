@@ -1,9 +1,8 @@
 -- Laws of the event that comes next: when it is due, how far it is, and that fewer are left behind each.
-use Rattle.std.proofs.Common.{◌≡◌, ℕ, suc, ◌+◌, ◌-◌, ◌*◌, ◌<◌, ◌≤◌, Bool, true, false, cond, not, ◌&&◌, ltb, leb, ◌⊎◌, List, length, refl, ap, ◌∙◌, inl, inr, ⊎_elim, arith, ltb-false, ltb-true, le-ltb, lt-ltb, le-leb, leb-false, leb-true}
+use Rattle.smf.specs.declared.Event.{Event}
+use Rattle.std.proofs.Common.{◌≡◌, ℕ, suc, ◌+◌, ◌-◌, ◌*◌, ◌<◌, ◌≤◌, Bool, true, false, cond, not, ◌&&◌, ltb, leb, ◌⊎◌, List, length, refl, ap, ◌∙◌, inl, inr, ⊎_elim, arith, ltb-false, ltb-true, le-ltb, lt-ltb, le-leb, leb-false, leb-true, Option, Some, None}
 use native.Mathlib.Nat.{min-le_left}
 use Rattle.smf.specs.declared.Cursor.{Cursor}
-use Rattle.smf.specs.declared.Offer.{Offer}
-use Rattle.smf.specs.declared.Offer.TheVariants.{End, Given}
 use Rattle.smf.specs.Track.{edge_of}
 use Rattle.smf.proofs.TrackLaws.{LedTo, edge_in, further-edge}
 use Rattle.player.specs.declared.Player.{Player}
@@ -47,13 +46,13 @@ pub record Fewer (before after : ℕ) : Type 0 where
   pub halves : (k : ℕ) → 2 * k + before ≤ 4294967296 → 2 * (k + 1) + after ≤ 4294967296
 
 -- .. behind the event that comes
-pub fewer : (song : List ℕ) (p : Player) (c : Cursor) (o : Offer) → LedTo song p.cursor c o → p.ended ≡ false → Fewer (left song p) (left song (coming p c o))
-fewer song p c End l e =
-    let n = left-none song (coming p c End) refl in
+pub fewer : (song : List ℕ) (p : Player) (c : Cursor) (o : Option Event) → LedTo song p.cursor c o → p.ended ≡ false → Fewer (left song p) (left song (coming p c o))
+fewer song p c None l e =
+    let n = left-none song (coming p c None) refl in
     let s = left-some song p e in
     record { less = omega arith; halves = λ k h. omega arith }
-fewer song p c (Given v) l e =
-    let n = left-some song (coming p c (Given v)) refl in
+fewer song p c (Some v) l e =
+    let n = left-some song (coming p c (Some v)) refl in
     let s = left-some song p e in
     let same : edge_of song c ≡ edge_of song p.cursor = further-edge song p.cursor c l in
     record { less = omega (arith, l.after, l.before); halves = λ k h. omega (arith, l.after, l.before) }

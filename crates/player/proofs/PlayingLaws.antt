@@ -168,7 +168,7 @@ module _ (song bank : List ℕ) (ram rom : List ℤ) where
   applying-fewer x e =
       let p = x.player in
       let c = p.cursor in
-      fewer song (with_engine p (heeded bank ram rom p.event p.engine).engine) (handed_of song c).cursor (handed_of song c).offer (handed-led song c) e
+      fewer song (with_engine p (heeded bank ram rom p.event p.engine).engine) (handed_of song c).cursor (handed_of song c).event (handed-led song c) e
 
   -- each is counted, and at most once as refused
   applying-counts : (x : Tally) → ((applying song bank ram rom x).applied ≡ x.applied + 1) × ((applying song bank ram rom x).refused ≤ x.refused + 1)

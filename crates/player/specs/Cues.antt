@@ -1,10 +1,8 @@
 -- The player: its state, the event that comes next, and when that is due.
-use Rattle.std.specs.Prelude.{ℕ, ◌+◌, ◌-◌, ◌%◌, Bool, true, false, cond, not, ◌&&◌, nat_le, nat_lt}
+use Rattle.std.specs.Prelude.{ℕ, ◌+◌, ◌-◌, ◌%◌, Bool, true, false, cond, not, ◌&&◌, nat_le, nat_lt, Option, Some, None}
 use Rattle.smf.specs.declared.Event.{Event}
 use Rattle.smf.specs.declared.Handed.{Handed}
 use Rattle.smf.specs.declared.Cursor.{Cursor}
-use Rattle.smf.specs.declared.Offer.{Offer}
-use Rattle.smf.specs.declared.Offer.TheVariants.{End, Given}
 use Rattle.smf.specs.Track.{over}
 use Rattle.state.specs.declared.Engine.{Engine}
 use Rattle.state.specs.Quiet.{fresh}
@@ -23,13 +21,13 @@ abbrev pub with_engine : Player → Engine → Player
 with_engine p e = record { engine = e; cursor = p.cursor; event = p.event; began = p.began; ended = p.ended }
 
 -- the player with what is offered as the event that comes next, and the cursor behind it
-abbrev pub coming : Player → Cursor → Offer → Player
-coming p c End = record { engine = p.engine; cursor = c; event = no_event; began = p.began; ended = true }
-coming p c (Given v) = record { engine = p.engine; cursor = c; event = v; began = p.began; ended = false }
+abbrev pub coming : Player → Cursor → Option Event → Player
+coming p c None = record { engine = p.engine; cursor = c; event = no_event; began = p.began; ended = true }
+coming p c (Some v) = record { engine = p.engine; cursor = c; event = v; began = p.began; ended = false }
 
 -- .. with what was handed out
 abbrev pub cued : Player → Handed → Player
-cued p h = coming p h.cursor h.offer
+cued p h = coming p h.cursor h.event
 
 -- the frames since the song began, modulo 2^32
 unfoldable pub since : Player → ℕ

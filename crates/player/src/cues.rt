@@ -4,7 +4,7 @@ ghost use Rattle.player.specs.Cues.{no_event, idle, with_engine, cued, since, ga
 
 use crate::Player;
 use engine::Engine;
-use smf::{Cursor, Event, Handed, Offer};
+use smf::{Cursor, Event, Handed};
 
 // A fresh player: a fresh engine, and no song.
 pub fn fresh() -> Player
@@ -57,23 +57,18 @@ pub fn with_engine(p: Player, e: Engine) -> Player
 pub fn cue(p: Player, h: Handed) -> Player
     ensures { result ≡ cued p h }
 {
-    let engine = p.engine;
-    let cursor = h.cursor;
-    let offer = h.offer;
-    match offer {
-        Offer::End => Player {
-            engine,
-            cursor,
+    match h.event {
+        None => Player {
+            cursor: h.cursor,
             event: no_event(),
-            began: p.began,
             ended: true,
+            ..p
         },
-        Offer::Given { event } => Player {
-            engine,
-            cursor,
+        Some(event) => Player {
+            cursor: h.cursor,
             event,
-            began: p.began,
             ended: false,
+            ..p
         },
     }
 }

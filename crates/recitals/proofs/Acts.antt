@@ -1,4 +1,5 @@
 -- What the player does to its engine, call by call: events, frames, and the channels let go and set.
+use Rattle.std.proofs.Common.{Option, Some, None}
 use Prim.Native.Nat.{ℕ, zero, suc, ◌+◌, ◌*◌, ◌%◌, ◌<◌}
 use mathlib.Core.Bool.{Bool, true, false, cond}
 use mathlib.Core.List.{List, [], ◌∷◌, ◌++◌, append_assoc, append-nil}
@@ -10,7 +11,6 @@ use lib.Ieee.{Float, nan}
 use lib.ListN.{take}
 use Rattle.smf.specs.declared.Event.{Event}
 use Rattle.smf.specs.declared.Handed.{Handed}
-use Rattle.smf.specs.declared.Offer.{Offer}
 use Rattle.smf.specs.Songs.{turns, handed_of}
 use Rattle.state.specs.declared.Answered.{Answered}
 use Rattle.state.specs.declared.Engine.{Engine}
@@ -124,11 +124,11 @@ freshen-clock (suc n) e =
 
 -- what comes next does not touch the engine
 pub cued-engine : (p : Player) (h : Handed) → (cued p h).engine ≡ p.engine
-cued-engine p h = by h.offer
+cued-engine p h = by h.event
   where
-    by : (o : Offer) → (coming p h.cursor o).engine ≡ p.engine
-    by Offer.End = refl
-    by (Offer.Given v) = refl
+    by : (o : Option Event) → (coming p h.cursor o).engine ≡ p.engine
+    by None = refl
+    by (Some v) = refl
 
 module _ (ram rom : List ℤ) where
   -- calls that render nothing, keep the clock, and take no window past its memory

@@ -1,4 +1,5 @@
 -- A song of the bell of `Demand3Example`, computed: struck at frame 0 and left at frame 3. It is started by a fresh player, played in two cuts, and ends in silence.
+use Rattle.std.proofs.Common.{Some}
 use Prim.Native.Nat.{ℕ, ◌<◌, ◌≤◌, ◌+◌}
 use mathlib.Core.Bool.{Bool, true, false, cond}
 use mathlib.Core.List.{List, [], ◌∷◌, ◌++◌}
@@ -10,7 +11,6 @@ use lib.ListN.{replicate}
 use Rattle.smf.specs.declared.Cursor.{Cursor}
 use Rattle.smf.specs.declared.Event.{Event}
 use Rattle.smf.specs.declared.Handed.{Handed}
-use Rattle.smf.specs.declared.Offer.TheVariants.{Given}
 use Rattle.smf.specs.Track.{Events}
 use Rattle.smf.specs.Songs.{events_of, opening_of, handed_of}
 use Rattle.state.specs.declared.Engine.{Engine}
@@ -213,16 +213,16 @@ strike = record { frame = 0; status = 144; first = 60; second = 100 }
 abbrev leave : Event
 leave = record { frame = 3; status = 128; first = 60; second = 64 }
 
-strike-offered : lent.offer ≡ Given strike
+strike-offered : lent.event ≡ Some strike
 unfolding ArithBytes.u8_at ArithHolds.between SmfHead.chunk_end SmfHead.track_from SmfHead.head_of SmfItems.short_at SmfItems.long_at SmfItems.spoken_at SmfItems.exclusive_at SmfItems.meta_of SmfItems.meta_at SmfItems.item_at SmfQuantities.two_at SmfQuantities.three_at SmfQuantities.four_at SmfQuantities.quantity_from SmfQuantities.quantity_at SmfSongs.events_of SmfSongs.opening_of SmfSongs.handed_of SmfTicks.frame_of SmfTrack.acted SmfTrack.obeyed SmfTrack.meet_at SmfTrack.song_from SmfTrack.next_from
 strike-offered = refl
 
-leave-offered : (handed_of song lent.cursor).offer ≡ Given leave
+leave-offered : (handed_of song lent.cursor).event ≡ Some leave
 unfolding ArithBytes.u8_at ArithHolds.between SmfHead.chunk_end SmfHead.track_from SmfHead.head_of SmfItems.short_at SmfItems.long_at SmfItems.spoken_at SmfItems.exclusive_at SmfItems.meta_of SmfItems.meta_at SmfItems.item_at SmfQuantities.two_at SmfQuantities.three_at SmfQuantities.four_at SmfQuantities.quantity_from SmfQuantities.quantity_at SmfSongs.events_of SmfSongs.opening_of SmfSongs.handed_of SmfTicks.frame_of SmfTrack.acted SmfTrack.obeyed SmfTrack.meet_at SmfTrack.song_from SmfTrack.next_from
 leave-offered = refl
 
 -- so the strike is due at the start
-begun-is : begun ≡ coming (readied idle) lent.cursor (Given strike)
+begun-is : begun ≡ coming (readied idle) lent.cursor (Some strike)
 begun-is = start_is song events song-events idle ∙ ap (coming (readied idle) lent.cursor) strike-offered
 
 begun-open : begun.ended ≡ false
@@ -238,7 +238,7 @@ over-strike = Step song bell ram []
 abbrev struck : Player
 struck = next_turn over-strike begun
 
-struck-is : struck ≡ coming (with_engine begun struck.engine) (handed_of song lent.cursor).cursor (Given leave)
+struck-is : struck ≡ coming (with_engine begun struck.engine) (handed_of song lent.cursor).cursor (Some leave)
 struck-is =
     (step-is-tested song bell ram [] begun).behind begun-open
     ∙ ap (λ (c : Cursor). cued (with_engine begun struck.engine) (handed_of song c)) (ap (λ (p : Player). p.cursor) begun-is)

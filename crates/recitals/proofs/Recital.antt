@@ -1,4 +1,5 @@
 -- A song that is started and played: each event once, in order, at its frame.
+use Rattle.std.proofs.Common.{Option, Some, None}
 use Prim.Native.Nat.{ℕ, zero, suc, ◌+◌, ◌%◌, ◌<◌, ◌≤◌}
 use mathlib.Core.Bool.{Bool, true, false, cond}
 use mathlib.Core.List.{List, [], ◌∷◌, ◌++◌, append-nil}
@@ -17,7 +18,6 @@ use Rattle.smf.specs.declared.Event.{Event}
 use Rattle.smf.specs.declared.Handed.{Handed}
 use Rattle.smf.specs.declared.Met.{Met}
 use Rattle.smf.specs.declared.Met.TheVariants.{Fault, End, Passed, Given}
-use Rattle.smf.specs.declared.Offer.{Offer}
 use Rattle.smf.specs.Head.{head_of}
 use Rattle.smf.specs.Reading.{InRange, event_at, entry, offered, cursor_after}
 use Rattle.smf.specs.Songs.{turns, events_of, opening_of, handed_of, track_cursor, first_cursor, test_of}
@@ -173,11 +173,11 @@ here n v vs h = (rw (le-ltb v.frame n (omega arith)) refl, rw (eq-eqb v.frame n 
 
 module _ (song : List ℕ) (vs : List Event) (is : events_of song ≡ Events vs) where
   -- what a next offers is the event
-  offers : (k : ℕ) (v : Event) → event_at vs k ≡ Offer.Given v → offered song k ≡ Offer.Given v
+  offers : (k : ℕ) (v : Event) → event_at vs k ≡ Some v → offered song k ≡ Some v
   offers k v h = reads_all song k ∙ ap (λ (s : Song). entry s k) is ∙ h
 
-  rises : (low : ℕ) (us : List Event) → ((j : ℕ) (f : Event) → event_at us j ≡ Offer.Given f → low ≤ f.frame)
-      → ((i j : ℕ) (e f : Event) → i ≤ j → event_at us i ≡ Offer.Given e → event_at us j ≡ Offer.Given f → e.frame ≤ f.frame) → Up low us
+  rises : (low : ℕ) (us : List Event) → ((j : ℕ) (f : Event) → event_at us j ≡ Some f → low ≤ f.frame)
+      → ((i j : ℕ) (e f : Event) → i ≤ j → event_at us i ≡ Some e → event_at us j ≡ Some f → e.frame ≤ f.frame) → Up low us
   rises low [] h k = tt
   rises low (u ∷ us) h k =
       (h 0 u refl, rises u.frame us (λ j f q. k 0 (suc j) u f (omega arith) refl q) (λ i j e f l p q. k (suc i) (suc j) e f (omega arith) p q))
@@ -191,7 +191,7 @@ module _ (song : List ℕ) (vs : List Event) (is : events_of song ≡ Events vs)
   unfolding offered
   song-each P h = go vs (λ j f q. h f (all-in-range song (cursor_after song j) f (offers j f q)))
     where
-      go : (us : List Event) → ((j : ℕ) (f : Event) → event_at us j ≡ Offer.Given f → P f) → Each P us
+      go : (us : List Event) → ((j : ℕ) (f : Event) → event_at us j ≡ Some f → P f) → Each P us
       go [] h = tt
       go (u ∷ us) h = (h 0 u refl, go us (λ j f q. h (suc j) f q))
 
@@ -226,11 +226,11 @@ Holds song (v ∷ vs) p = (p.ended ≡ false) × (p.event ≡ v) × (song_from (
 -- what is handed out of a song comes next
 cue-holds : (song : List ℕ) (vs : List Event) (p : Player) (h : Handed) → Hands song h (Events vs) → Holds song vs (cued p h)
 cue-holds song [] p h q = ap (λ (x : Handed). (cued p x).ended) q
-cue-holds song (v ∷ vs) p h q = by h.offer q.0
+cue-holds song (v ∷ vs) p h q = by h.event q.0
   where
-    by : (o : Offer) → o ≡ Offer.Given v → Holds song (v ∷ vs) (coming p h.cursor o)
-    by Offer.End r = let z : ◌≡◌ {A = ℕ} 0 1 = cc in absurd (omega arith)
-    by (Offer.Given w) r = let same : w ≡ v = cc in (refl, same, q.1)
+    by : (o : Option Event) → o ≡ Some v → Holds song (v ∷ vs) (coming p h.cursor o)
+    by None r = let z : ◌≡◌ {A = ℕ} 0 1 = cc in absurd (omega arith)
+    by (Some w) r = let same : w ≡ v = cc in (refl, same, q.1)
 
 -- whatever the engine does
 engine-holds : (song : List ℕ) (vs : List Event) (p : Player) (e : Engine) → Holds song vs p → Holds song vs (with_engine p e)
@@ -239,11 +239,11 @@ engine-holds song (v ∷ vs) p e h = h
 
 -- the clock value at which the song began stays
 cued-began : (p : Player) (h : Handed) → (cued p h).began ≡ p.began
-cued-began p h = by h.offer
+cued-began p h = by h.event
   where
-    by : (o : Offer) → (coming p h.cursor o).began ≡ p.began
-    by Offer.End = refl
-    by (Offer.Given v) = refl
+    by : (o : Option Event) → (coming p h.cursor o).began ≡ p.began
+    by None = refl
+    by (Some v) = refl
 
 module _ (song bank : List ℕ) (ram rom : List ℤ) (n : ℕ) where
   -- one event applied

@@ -1,5 +1,5 @@
 // The lines of a file: its refusal, or its channel events and how many there are.
-use smf::{Cursor, Event, Offer};
+use smf::{Cursor, Event};
 
 // A byte behind a space, in two hex digits.
 fn byte(text: &mut [u8; 65536], at: usize, b: u8) -> usize {
@@ -29,19 +29,15 @@ fn last_line(text: &mut [u8; 65536], at: usize, number: u8, n: u64) -> usize {
 fn events(file: &[u8], text: &mut [u8; 65536], at: usize, from: Cursor) -> usize {
     let mut c = from;
     let mut to = at;
-    let mut count = 0;
-    while count < file.len() {
+    for count in 0..file.len() {
         let h = smf::next(file, c);
-        let offer = h.offer;
-        match offer {
-            Offer::End => return last_line(text, to, 0, count as u64),
-            Offer::Given { event } => to = event_line(text, to, event),
-        }
-        let further = h.cursor;
-        c = further;
-        count += 1;
+        let Some(event) = h.event else {
+            return last_line(text, to, 0, count as u64);
+        };
+        to = event_line(text, to, event);
+        c = h.cursor;
     }
-    last_line(text, to, 0, count as u64)
+    last_line(text, to, 0, file.len() as u64)
 }
 
 // The lines of a file.

@@ -4,7 +4,7 @@
 
 #![tactic(auto)]
 
-use smf::{Cursor, Event, Offer};
+use smf::{Cursor, Event};
 
 // What the last round gave, and the sum of all of them.
 #[derive(Clone, Copy)]
@@ -29,25 +29,21 @@ fn with_event(sum: u32, e: Event) -> u32 {
 fn events(file: &[u8], number: u8, from: Cursor, before: u32) -> Heard {
     let mut c = from;
     let mut sum = before;
-    let mut count = 0;
-    while count < file.len() {
+    for count in 0..file.len() {
         let h = smf::next(file, c);
-        let offer = h.offer;
-        match offer {
-            Offer::End => return Heard {
+        let Some(event) = h.event else {
+            return Heard {
                 number,
                 count: count as u64,
                 sum,
-            },
-            Offer::Given { event } => sum = with_event(sum, event),
-        }
-        let further = h.cursor;
-        c = further;
-        count += 1;
+            };
+        };
+        sum = with_event(sum, event);
+        c = h.cursor;
     }
     Heard {
         number,
-        count: count as u64,
+        count: file.len() as u64,
         sum,
     }
 }
@@ -65,10 +61,8 @@ fn play(file: &[u8], rounds: u32) -> Heard {
         count: 0,
         sum: 0,
     };
-    let mut i: u32 = 0;
-    while i < rounds {
+    for _ in 0..rounds {
         heard = round(file, heard.sum);
-        i = i + 1;
     }
     heard
 }

@@ -3,8 +3,6 @@
 #![tactic(auto)]
 
 ghost use Rattle.std.specs.Prelude.{◌≡◌, ◌<◌, ◌≤◌, length};
-ghost use Rattle.curves.specs.Levels.{gains};
-ghost use Rattle.curves.specs.Octave.{octaves};
 ghost use Rattle.voice.specs.Internal.Sums.{Small};
 
 use curves::{GainTable, OctaveTable};
@@ -145,7 +143,7 @@ fn weigh(acc: &[i32]) -> u64
 
 // One round into the sums.
 fn round(g: &GainTable, o: &OctaveTable, w: &[i16], acc: &mut [i32], r: u64) -> u64
-    requires { (g.now ≡ gains) × (o.now ≡ octaves) × (8192 ≤ length acc.old) × Small 0 acc.old }
+    requires { (8192 ≤ length acc.old) × Small 0 acc.old }
 {
     let c = Channel {
         program: 0,
@@ -168,17 +166,15 @@ fn round(g: &GainTable, o: &OctaveTable, w: &[i16], acc: &mut [i32], r: u64) -> 
 }
 
 // One round, from sums of zeros.
-fn one(g: &GainTable, o: &OctaveTable, w: &[i16], r: u64) -> u64
-    requires { (g.now ≡ gains) × (o.now ≡ octaves) }
-{
+fn one(g: &GainTable, o: &OctaveTable, w: &[i16], r: u64) -> u64 {
     let mut acc = [0i32; 8192];
     round(g, o, w, &mut acc, r)
 }
 
 // All rounds, each with its number.
 fn play(rounds: u64) -> u64 {
-    let g = curves::gains();
-    let o = curves::octaves();
+    let g = curves::GainTable::new();
+    let o = curves::OctaveTable::new();
     let w = samples();
     let mut h: u64 = 0;
     let mut r: u64 = 0;

@@ -1,5 +1,5 @@
 -- A sum of 33 bits times a number of 14.
-use Rattle.std.proofs.Common.{◌-◌, lt_of_le_of_lt, mul-le-mul, arith, lit<}
+use Rattle.std.proofs.Common.{lt_of_le_of_lt, mul-le-mul, arith, lit<}
 use Rattle.voice_bench.proofs.weigh.Goals as goal
 
 pub overflow_mul-lift : goal.overflow_mul-lift

@@ -1,11 +1,9 @@
 -- The lines of the steps.
 use Prim.Native.Nat.{◌-◌, ◌≤◌}
-use mathlib.Core.Path.{◌≡◌}
-use Rattle.curves.specs.Octave.{octaves}
 use Rattle.numbers.proofs.columns.steps.Given as goal
 
 abbrev pub invariant-loop-i : goal.invariant-loop-i
-invariant-loop-i l = (l.t ≡ octaves) × (l.i ≤ 161)
+invariant-loop-i l = (l.i ≤ 161)
 
 abbrev pub decreases-loop-i : goal.decreases-loop-i
 decreases-loop-i l = 161 - l.i
