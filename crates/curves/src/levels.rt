@@ -22,7 +22,9 @@ fn joined(high: u16, low: u8) -> u32
 
 impl GainTable {
     // The table, put together once by whoever reads it often.
-    pub fn new() -> GainTable {
+    pub fn new() -> GainTable
+        ensures { result.entries ≡ gains }
+    {
         let highs = HIGHS;
         let lows = LOWS;
         let mut entries = [0u32; 200];

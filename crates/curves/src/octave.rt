@@ -14,7 +14,9 @@ pub struct OctaveTable {
 
 impl OctaveTable {
     // The table, made once by whoever reads it often.
-    pub fn new() -> OctaveTable {
+    pub fn new() -> OctaveTable
+        ensures { result.entries ≡ octaves }
+    {
         OctaveTable { entries: OCTAVES }
     }
 
