@@ -1,7 +1,7 @@
 -- The bytes of the first i sums stand in front, two for each.
 use mathlib.Core.Path.{◌≡◌}
 use mathlib.Core.List.{◌++◌}
-use Prim.Native.Nat.{◌+◌, ◌-◌, ◌*◌, ◌≤◌}
+use Prim.Native.Nat.{◌*◌}
 use lib.ListN.{length, take, drop}
 use Rattle.wave.specs.Lowering.{poured_sums}
 use Rattle.wave.proofs.lowering.fill.Given as goal

@@ -1,6 +1,6 @@
 -- The held ones of the first k frames are counted.
 use mathlib.Core.Path.{◌≡◌}
-use Prim.Native.Nat.{◌-◌, ◌*◌, ◌≤◌}
+use Prim.Native.Nat.{◌*◌, ◌≤◌}
 use lib.ListN.{length, take}
 use Rattle.wave.specs.Lowering.{frames_past}
 use Rattle.wave.proofs.lowering.frames_past.Given as goal

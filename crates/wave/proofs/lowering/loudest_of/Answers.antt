@@ -1,7 +1,7 @@
 -- The largest of the first i sizes.
 use mathlib.Core.Path.{◌≡◌, ap, ap₂, sym, ◌∙◌}
 use native.Mathlib.Omega.{arith}
-use Prim.Native.Nat.{ℕ, ◌-◌, max}
+use Prim.Native.Nat.{ℕ, max}
 use lib.IntN.{pos, nat_abs}
 use lib.ListN.{length, get_or, take}
 use lib.Seq.{take-length}

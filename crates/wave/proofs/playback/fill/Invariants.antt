@@ -1,7 +1,6 @@
 -- The first i numbers are the file's, the others as they were.
 use mathlib.Core.Path.{◌≡◌}
 use mathlib.Core.List.{◌++◌}
-use Prim.Native.Nat.{◌≤◌, ◌-◌}
 use lib.ListN.{length, take, drop}
 use Rattle.wave.specs.Playback.{pcms_in}
 use Rattle.wave.proofs.playback.fill.Given as goal

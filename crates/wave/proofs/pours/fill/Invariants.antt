@@ -1,6 +1,5 @@
 -- The bytes of the first i numbers are poured, two for each.
 use mathlib.Core.Path.{◌≡◌}
-use Prim.Native.Nat.{◌≤◌, ◌-◌}
 use lib.ListN.{length}
 use Rattle.wave.proofs.PoursLaws.{poured_upto}
 use Rattle.wave.proofs.pours.fill.Given as goal
