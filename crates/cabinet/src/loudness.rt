@@ -43,10 +43,18 @@ pub fn thularek_wave_sums(
 ) -> u32
     ensures { (result ≡ (sums_poured attenuation sums.now (length out.old)).number) × (held.new ≡ (sums_poured attenuation sums.now (length out.old)).held) × (loudest.new ≡ (sums_poured attenuation sums.now (length out.old)).loudest) × (out.new ≡ sums_into attenuation sums.now out.old) }
 {
-    let p = wave::pour_sums(sums, attenuation, out);
-    *held = p.held;
-    *loudest = p.loudest;
-    number(p.number)
+    match wave::pour_sums(sums, attenuation, out) {
+        Ok(poured) => {
+            *held = poured.held;
+            *loudest = poured.loudest;
+            0
+        }
+        Err(refusal) => {
+            *held = 0;
+            *loudest = 0;
+            number(refusal.number())
+        }
+    }
 }
 
 // The least attenuation with which no sum of at most this size is held.

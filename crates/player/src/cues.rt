@@ -57,14 +57,19 @@ pub fn with_engine(p: Player, e: Engine) -> Player
 pub fn cue(p: Player, h: Handed) -> Player
     ensures { result ≡ cued p h }
 {
-    let engine = p.engine;
-    let cursor = h.cursor;
-    Player {
-        engine,
-        cursor,
-        event: h.event.unwrap_or(no_event()),
-        began: p.began,
-        ended: h.event.is_none(),
+    match h.event {
+        None => Player {
+            cursor: h.cursor,
+            event: no_event(),
+            ended: true,
+            ..p
+        },
+        Some(event) => Player {
+            cursor: h.cursor,
+            event,
+            ended: false,
+            ..p
+        },
     }
 }
 

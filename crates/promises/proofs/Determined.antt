@@ -36,6 +36,7 @@ use Rattle.smf.specs.declared.Opening.{Opening}
 use Rattle.smf.specs.declared.Tested.{Tested}
 use Rattle.smf.specs.Songs.{test_of, opening_of, handed_of, bytes_of}
 use Rattle.wave.specs.Lowering.{attenuation_for}
+use Rattle.wave.proofs.ToldLaws.{number-told-apart, heard-told-apart, sums-told-apart}
 use Rattle.promises.specs.Determined as D
 use Rattle.state.specs.Board as StateBoard
 use Rattle.state.specs.Quiet as StateQuiet
@@ -136,6 +137,15 @@ read-determined file out o p h k = ends o p (h.0 ∙ sym k.0) (h.1 ∙ sym k.1)
 
 pub pour-sums-determined : D.PourSumsDetermined
 pour-sums-determined sums attenuation out o p h k = ends o p (h.0 ∙ sym k.0) (h.1 ∙ sym k.1)
+
+pub told-number-apart : D.ToldNumberApart
+told-number-apart = number-told-apart
+
+pub told-heard-apart : D.ToldHeardApart
+told-heard-apart = heard-told-apart
+
+pub told-sums-apart : D.ToldSumsApart
+told-sums-apart = sums-told-apart
 
 pub attenuation-for-determined : D.AttenuationForDetermined
 attenuation-for-determined loudest = equation ℕ (attenuation_for loudest)

@@ -41,8 +41,9 @@ use Rattle.player.specs.Stepping.{step_taken, next_event, next_frame}
 use Rattle.engine.specs.Presets.{sought_program, sought_bank}
 use Rattle.engine.specs.Rendering.{render}
 use Rattle.engine.specs.Summing.{summed}
-use Rattle.wave.specs.declared.Heard.{Heard}
-use Rattle.wave.specs.declared.Poured.{Poured}
+use Rattle.wave.specs.declared.answers.Poured.{Poured}
+use Rattle.wave.specs.declared.answers.Refusal as WaveRefusal
+use Rattle.wave.specs.Answers.{Heard, SumsTold, told_number, told_heard, told_sums}
 use Rattle.wave.specs.Headings.{heading_number, headed}
 use Rattle.wave.specs.Pours.{pour_number, poured_into}
 use Rattle.wave.specs.Recording.{write_number, recorded}
@@ -198,6 +199,21 @@ pub record Ends (A B : Type 0) : Type 0 where
   pub answer : A
   pub output : B
 
+-- what is told of an answer is one only for one answer
+-- tells apart wave::told_number
+abbrev pub ToldNumberApart : Type 0
+ToldNumberApart = (x y : Result (Unit {0}) WaveRefusal.Refusal) → told_number x ≡ told_number y → x ≡ y
+
+-- .. of the reader
+-- tells apart wave::told_heard
+abbrev pub ToldHeardApart : Type 0
+ToldHeardApart = (x y : Result ℕ WaveRefusal.Refusal) → told_heard x ≡ told_heard y → x ≡ y
+
+-- .. of a pour of sums
+-- tells apart wave::told_sums
+abbrev pub ToldSumsApart : Type 0
+ToldSumsApart = (x y : Result Poured WaveRefusal.Refusal) → told_sums x ≡ told_sums y → x ≡ y
+
 -- 02's number, and the heading in the output
 -- contract of wave::heading(frames, out)
 abbrev pub HeadingDetermined : Type 0
@@ -230,7 +246,7 @@ ReadDetermined =
 -- contract of wave::pour_sums(sums, attenuation, out)
 abbrev pub PourSumsDetermined : Type 0
 PourSumsDetermined =
-    (sums : List ℤ) (attenuation : ℕ) (out : List ℕ) → Settles (Ends Poured (List ℕ))
+    (sums : List ℤ) (attenuation : ℕ) (out : List ℕ) → Settles (Ends SumsTold (List ℕ))
     (λ o. (o.answer ≡ sums_poured attenuation sums (length out)) × (o.output ≡ sums_into attenuation sums out))
 
 -- the least attenuation for a size

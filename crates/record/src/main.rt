@@ -77,7 +77,7 @@ fn run(
 // The heading for so many frames; whether it was written.
 fn begin_file(frames: u64) -> bool {
     let mut heading = [0u8; 44];
-    if wave::heading(frames, &mut heading) != 0 {
+    if wave::heading(frames, &mut heading).is_err() {
         return false;
     }
     io::write_all(STDOUT, &heading)

@@ -24,7 +24,7 @@ fn first_numbers(numbers: &[f32], n: usize) -> &[f32] {
 fn pour(out: &[f32], frames: u32) -> bool {
     let mut bytes = [0u8; 16896];
     let n = frames as usize;
-    if wave::pour(first_numbers(out, 2 * n), &mut bytes) != 0 {
+    if wave::pour(first_numbers(out, 2 * n), &mut bytes).is_err() {
         return false;
     }
     io::write_all(STDOUT, cases::first_bytes(&bytes, 4 * n))

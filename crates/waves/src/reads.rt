@@ -3,9 +3,12 @@ use cases::{Line, Place};
 
 // The file is read into the output that is lent, and the line has the hash of all of that.
 fn line(file: &[u8], out: &mut [i16], text: &mut [u8; 65536], at: usize) -> usize {
-    let heard = wave::read(file, out);
-    let mut to = cases::called(text, at, b'R', heard.number);
-    to = cases::spaced(text, to, heard.frames as u64);
+    let (number, frames) = match wave::read(file, out) {
+        Ok(frames) => (0, frames),
+        Err(refusal) => (refusal.number(), 0),
+    };
+    let mut to = cases::called(text, at, b'R', number);
+    to = cases::spaced(text, to, frames as u64);
     to = cases::hashed(text, to, cases::fnv_samples(out));
     cases::put(text, to, b'\n')
 }

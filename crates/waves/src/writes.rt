@@ -4,7 +4,10 @@ use cases::{Line, Place};
 
 // The file is written into the output that is lent, and the line has the hash of all of that.
 fn line(numbers: &[f32], out: &mut [u8], text: &mut [u8; 65536], at: usize) -> usize {
-    let number = wave::write(numbers, out);
+    let number = match wave::write(numbers, out) {
+        Ok(()) => 0,
+        Err(refusal) => refusal.number(),
+    };
     let mut to = cases::called(text, at, b'W', number);
     to = cases::hashed(text, to, cases::fnv_bytes(out));
     cases::put(text, to, b'\n')
