@@ -59,20 +59,12 @@ pub fn next_pace(c: Pace) -> Pace
     let value = c.value + c.by;
     let over = c.over + c.more;
     if over < c.frames {
-        return Pace {
-            value,
-            over,
-            by: c.by,
-            more: c.more,
-            frames: c.frames,
-        };
+        return Pace { value, over, ..c };
     }
     Pace {
         value: value + 1,
         over: over - c.frames,
-        by: c.by,
-        more: c.more,
-        frames: c.frames,
+        ..c
     }
 }
 
