@@ -73,7 +73,7 @@ fn run(room: &mut [u8; 4194304], n: usize, tape: &mut Tape) -> Result<(), Compla
 // The heading for so many frames.
 fn begin_file(frames: u64) -> Result<(), Complaint> {
     let mut heading = [0u8; 44];
-    if wave::heading(frames, &mut heading) == 0 && io::write_all(STDOUT, &heading) {
+    if wave::heading(frames, &mut heading).is_ok() && io::write_all(STDOUT, &heading) {
         Ok(())
     } else {
         Err(Complaint::Lost)

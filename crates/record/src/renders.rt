@@ -16,7 +16,7 @@ pub struct Tape {
 fn pour(out: &[f32], frames: u32) -> Result<(), Complaint> {
     let mut bytes = [0u8; 16896];
     let n = frames as usize;
-    let refused = wave::pour(cases::first(out, 2 * n), &mut bytes) != 0;
+    let refused = wave::pour(cases::first(out, 2 * n), &mut bytes).is_err();
     if refused || !io::write_all(STDOUT, cases::first(&bytes, 4 * n)) {
         return Err(Complaint::Lost);
     }

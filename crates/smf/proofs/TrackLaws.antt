@@ -1,4 +1,5 @@
 -- Laws of a track from a cursor on: each event leads further, so the turns are enough, and what a turn of a loop may use.
+use Rattle.smf.specs.declared.Quantity.{Quantity}
 use Rattle.smf.specs.declared.Event.{Event}
 use Rattle.std.proofs.Common.{Option, Some, None}
 use mathlib.Core.Bool.{Bool, true, false, cond}
@@ -15,8 +16,6 @@ use Rattle.smf.specs.declared.Item.{Item}
 use Rattle.smf.specs.declared.Message.{Message}
 use Rattle.smf.specs.declared.Met.{Met}
 use Rattle.smf.specs.declared.Met.TheVariants.{Fault, End, Passed, Given}
-use Rattle.smf.specs.declared.Quantity.{Quantity}
-use Rattle.smf.specs.declared.Quantity.TheVariants.{Bad, Good}
 use Rattle.smf.specs.Quantities.{quantity_at}
 use Rattle.smf.specs.Items.{is_short, item_at}
 use Rattle.smf.specs.Ticks.{sum_after, is_late}
@@ -92,11 +91,11 @@ module _ (b : List ℕ) (c : Cursor) where
   unfolding meet_at
   meet-led = go (quantity_at b (edge_of b c) c.at) refl
     where
-      go : (q : Quantity) → quantity_at b (edge_of b c) c.at ≡ q → Led b c (elim q [ Bad ↦ Fault 9 c.at | Good ticks place ↦ obeyed (item_at b (edge_of b c) c.running place) c (sum_after c ticks) place ])
-      go Bad e = omega arith
-      go (Good ticks place) e =
-          obeyed-led (item_at b (edge_of b c) c.running place) (sum_after c ticks) place (quantity-behind b (edge_of b c) c.at ticks place e).0 (omega arith)
-          (item-placed b (edge_of b c) c.running place)
+      go : (q : Option Quantity) → quantity_at b (edge_of b c) c.at ≡ q → Led b c (elim q [ None ↦ Fault 9 c.at | Some q ↦ obeyed (item_at b (edge_of b c) c.running q.behind) c (sum_after c q.value) q.behind ])
+      go None e = omega arith
+      go (Some q) e =
+          obeyed-led (item_at b (edge_of b c) c.running q.behind) (sum_after c q.value) q.behind (quantity-behind b (edge_of b c) c.at q.value q.behind e).0 (omega arith)
+          (item-placed b (edge_of b c) c.running q.behind)
 
   -- an event that gives none
   pub meet-passed : (further : Cursor) → meet_at b c ≡ Passed further → Further b c further

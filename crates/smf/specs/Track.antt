@@ -6,7 +6,6 @@ use Rattle.smf.specs.declared.Handed.{Handed}
 use Rattle.smf.specs.declared.Item.{Item}
 use Rattle.smf.specs.declared.Message.{Message}
 use Rattle.smf.specs.declared.Met.{Met}
-use Rattle.smf.specs.declared.Quantity.TheVariants.{Bad, Good}
 use Rattle.smf.specs.declared.Met.TheVariants.{Fault, End, Passed, Given}
 use Rattle.smf.specs.Quantities.{quantity_at}
 use Rattle.smf.specs.Items.{item_at}
@@ -50,8 +49,8 @@ obeyed item c sum place = cond (is_bad item) (Fault 9 place) (cond (is_late c.di
 unfoldable pub meet_at : List ℕ → Cursor → Met
 meet_at b c =
     elim (quantity_at b (edge_of b c) c.at) [
-      | Bad ↦ Fault 9 c.at
-      | Good ticks place ↦ obeyed (item_at b (edge_of b c) c.running place) c (sum_after c ticks) place
+      | None ↦ Fault 9 c.at
+      | Some q ↦ obeyed (item_at b (edge_of b c) c.running q.behind) c (sum_after c q.value) q.behind
     ]
 
 -- a song: its channel events in the file's order, or the first fault with its number and place

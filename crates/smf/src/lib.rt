@@ -14,9 +14,9 @@ pub mod track;
 
 // A variable-length quantity and the place behind it.
 #[derive(Clone, Copy)]
-pub enum Quantity {
-    Bad,
-    Good { value: u32, behind: u32 },
+pub struct Quantity {
+    pub value: u32,
+    pub behind: u32,
 }
 
 // The head's first fault, or where the track's events begin and end.

@@ -3,9 +3,12 @@ use cases::{Bad, Held, Input, Text};
 
 // The file is read into the output that is lent, and the line has the hash of all of that.
 fn line(file: &[u8], out: &mut [i16], text: &mut Text) {
-    let heard = wave::read(file, out);
-    text.called(b'R', heard.number);
-    text.spaced(heard.frames as u64);
+    let (number, frames) = match wave::read(file, out) {
+        Ok(frames) => (0, frames),
+        Err(refusal) => (refusal.number(), 0),
+    };
+    text.called(b'R', number);
+    text.spaced(u64::from(frames));
     text.hashed(cases::fnv(out));
     text.put(b'\n');
 }

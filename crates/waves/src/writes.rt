@@ -3,7 +3,10 @@ use cases::{Bad, Held, Input, Text};
 
 // The file is written into the output that is lent, and the line has the hash of all of that.
 fn line(numbers: &[f32], out: &mut [u8], text: &mut Text) {
-    let number = wave::write(numbers, out);
+    let number = match wave::write(numbers, out) {
+        Ok(()) => 0,
+        Err(refusal) => refusal.number(),
+    };
     text.called(b'W', number);
     text.hashed(cases::fnv(out));
     text.put(b'\n');
