@@ -24,18 +24,11 @@ struct Row {
     next: usize,
 }
 
-// A number of a document, widened.
-pub fn number(n: u8) -> u32
-    ensures { result ≡ n }
-{
-    n as u32
-}
-
 // 0 where the bank is admitted, else 1.
 pub fn thularek_admit(bank: &[u8]) -> u32
     ensures { result ≡ fault_number (fault_of bank.now) }
 {
-    number(engine::admit(bank))
+    u32::from(engine::admit(bank))
 }
 
 // A fault's kind as a number, 0 where there is none.
@@ -127,7 +120,7 @@ pub fn thularek_font(
 {
     let (font, fault_at, answer) = match riff::find(file) {
         Ok(font) => (font, 0, 0),
-        Err(fault) => (Font::default(), fault.place, number(fault.kind.number())),
+        Err(fault) => (Font::default(), fault.place, u32::from(fault.kind.number())),
     };
     *bank = font.bank.at;
     *bank_size = font.bank.size;
@@ -143,7 +136,7 @@ pub fn thularek_song_test(song: &[u8], place: &mut u32) -> u32
 {
     let t = smf::test(song);
     *place = t.place;
-    number(t.number)
+    u32::from(t.number)
 }
 
 // A song of several tracks as one of one track: its number (0: written), how many bytes were written, and the place of its first fault.
@@ -153,7 +146,7 @@ pub fn thularek_merge(file: &[u8], out: &mut [u8], size: &mut usize, place: &mut
     let m = merge::merge(file, out);
     *size = m.size;
     *place = m.place;
-    number(m.number)
+    u32::from(m.number)
 }
 
 // 0 where a wave is written, else the number of the refusal.
@@ -162,7 +155,7 @@ fn done_or_refused(answer: Result<(), Refusal>) -> u32
 {
     match answer {
         Ok(()) => 0,
-        Err(refusal) => number(refusal.number()),
+        Err(refusal) => u32::from(refusal.number()),
     }
 }
 
@@ -191,7 +184,7 @@ pub fn thularek_wave_read(file: &[u8], out: &mut [i16], frames: &mut u32) -> u32
         }
         Err(refusal) => {
             *frames = 0;
-            number(refusal.number())
+            u32::from(refusal.number())
         }
     }
 }

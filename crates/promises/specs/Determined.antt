@@ -12,7 +12,8 @@ use Rattle.bank.specs.Listing.{listed}
 use Rattle.bank.specs.declared.Fault.{Fault}
 use Rattle.bank.specs.Past.{past_memory}
 use Rattle.layers.specs.declared.Sheet.{Sheet}
-use Rattle.layers.specs.Spans.{sheet_of}
+use Rattle.layers.specs.declared.NoSheet.{NoSheet}
+use Rattle.layers.specs.Spans.{SheetNumbers, sheet_of, told}
 use Rattle.reader.specs.declared.Opened.{Opened}
 use Rattle.reader.specs.Reader.{opened_of, next_of, nth_listed, further}
 use Rattle.reader.specs.declared.Reader.{Reader}
@@ -34,7 +35,7 @@ use Rattle.player.specs.declared.Begun.{Begun}
 use Rattle.player.specs.declared.Player.{Player}
 use Rattle.player.specs.declared.Stepped.{Stepped}
 use Rattle.player.specs.Asking.{is_silent, held_count}
-use Rattle.player.specs.Cues.{idle, with_engine, gap_of}
+use Rattle.player.specs.Cues.{song_over, idle, with_engine, gap_of}
 use Rattle.player.specs.Pauses.{started, stopped}
 use Rattle.player.specs.Playing.{answered, sounded_into}
 use Rattle.player.specs.Stepping.{step_taken, next_event, next_frame}
@@ -142,10 +143,14 @@ PastMemoryDetermined = (bank : List ℕ) (ram rom : ℕ) → Settles (Option ℕ
 
 -- ---- layers
 
--- what is told of the preset at a place
+-- what is told of the preset at a place, by its numbers, which `told` gives of an answer
 -- contract of layers::preset_sheet(bank, place)
 abbrev pub PresetSheetDetermined : Type 0
-PresetSheetDetermined = (bank : List ℕ) (place : ℕ) → Settles Sheet (λ r. r ≡ sheet_of bank place)
+PresetSheetDetermined = (bank : List ℕ) (place : ℕ) → Settles SheetNumbers (λ r. r ≡ sheet_of bank place)
+
+-- the numbers of two answers are one only where the answers are: tells apart layers::told
+abbrev pub ToldTellsApart : Type 0
+ToldTellsApart = (a b : Result Sheet NoSheet) → told a ≡ told b → a ≡ b
 
 -- ---- reader
 
@@ -336,7 +341,7 @@ NextFrameDetermined = (p : Player) → Settles ℕ (λ r. r ≡ next_frame p)
 -- whether no event is left
 -- contract of player::is_over(p)
 abbrev pub OverDetermined : Type 0
-OverDetermined = (p : Player) → Settles Bool (λ r. r ≡ p.ended)
+OverDetermined = (p : Player) → Settles Bool (λ r. r ≡ song_over p)
 
 -- whether no voice sounds
 -- contract of player::is_silent(p)

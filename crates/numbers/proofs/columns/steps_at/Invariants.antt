@@ -1,9 +1,0 @@
--- The lines of the steps of one pitch.
-use Prim.Native.Nat.{◌-◌, ◌≤◌}
-use Rattle.numbers.proofs.columns.steps_at.Given as goal
-
-abbrev pub invariant-loop-i : goal.invariant-loop-i
-invariant-loop-i l = (l.i ≤ 10)
-
-abbrev pub decreases-loop-i : goal.decreases-loop-i
-decreases-loop-i l = 10 - l.i
