@@ -10,9 +10,8 @@ use lib.Dec.{T, T_not, eqb, eqb→eq, leb, leb→le, le→leb, ltb, ltb→lt, nl
 use lib.IntN.{ℤ, pos, neg_ℤ}
 use lib.Pow.{pow-add, pow_mono, pow_pos, shl_lt, shl-shr, shr_mono}
 use lib.Arith.{lt→nleb}
-use lib.Ieee.{Float, nan, inf, fin, binary32, up, down, odd, of_fields, of_bits, to_bits, fits, is_nan, ne}
+use lib.Ieee.{Float, nan, inf, fin, binary32, up, down, odd, of_fields, of_bits, to_bits, fits, is_nan}
 use lib.Ieee.Bits.{is_true, is_false, of_bits-to_bits}
-use lib.Ieee.Compare.{differs_from_itself, nan_differs}
 use lib.Ieee.Exact.{HasValue, odd_sign}
 use lib.Ieee.Fits.{down_pos, eq→eqb}
 use lib.Ieee.Nearest.{div_same}
