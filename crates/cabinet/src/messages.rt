@@ -23,11 +23,9 @@ fn note_on<'a>(
     ensures { result ≡ kept_answer (note_on (bank_from bank.now) ram.now rom.now channel key velocity (engine_in s)) s }
 {
     let p = player_in(s);
-    let e = p.engine;
-    keep_answer(
-        engine::note_on(e, bank, ram, rom, channel, key, velocity),
-        s,
-    )
+    let mut e = p.engine;
+    let a = engine::note_on(&mut e, bank, ram, rom, channel, key, velocity);
+    keep_answer(a, e, s)
 }
 
 // A key is struck.
@@ -51,8 +49,9 @@ fn note_off(s: Flat, channel: u8, key: u8) -> Flat
     ensures { result ≡ kept_answer (note_off channel key (engine_in s)) s }
 {
     let p = player_in(s);
-    let e = p.engine;
-    keep_answer(engine::note_off(e, channel, key), s)
+    let mut e = p.engine;
+    let a = engine::note_off(&mut e, channel, key);
+    keep_answer(a, e, s)
 }
 
 // A key is let go.
@@ -68,8 +67,9 @@ fn control_change(s: Flat, channel: u8, control: u8, value: u8) -> Flat
     ensures { result ≡ kept_answer (control_change channel control value (engine_in s)) s }
 {
     let p = player_in(s);
-    let e = p.engine;
-    keep_answer(engine::control_change(e, channel, control, value), s)
+    let mut e = p.engine;
+    let a = engine::control_change(&mut e, channel, control, value);
+    keep_answer(a, e, s)
 }
 
 // A control is set.
@@ -85,8 +85,9 @@ fn program_change(s: Flat, channel: u8, program: u8) -> Flat
     ensures { result ≡ kept_answer (program_change channel program (engine_in s)) s }
 {
     let p = player_in(s);
-    let e = p.engine;
-    keep_answer(engine::program_change(e, channel, program), s)
+    let mut e = p.engine;
+    let a = engine::program_change(&mut e, channel, program);
+    keep_answer(a, e, s)
 }
 
 // A program is chosen.
@@ -102,8 +103,9 @@ fn pitch_bend(s: Flat, channel: u8, bend: u16) -> Flat
     ensures { result ≡ kept_answer (pitch_bend channel bend (engine_in s)) s }
 {
     let p = player_in(s);
-    let e = p.engine;
-    keep_answer(engine::pitch_bend(e, channel, bend), s)
+    let mut e = p.engine;
+    let a = engine::pitch_bend(&mut e, channel, bend);
+    keep_answer(a, e, s)
 }
 
 // A channel is bent.

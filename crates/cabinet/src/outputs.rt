@@ -12,9 +12,9 @@ fn render<'a>(s: Flat, ram: &'a [i16], rom: &'a [i16], out: &mut [f32], to: u32)
     ensures { (result ≡ kept_answer (render to ram.now rom.now (length out.old) (engine_in s)) s) × (out.new ≡ rendered to ram.now rom.now out.old (engine_in s)) }
 {
     let p = player_in(s);
-    let e = p.engine;
-    let a = engine::render(e, ram, rom, out, to);
-    keep_answer(a, s)
+    let mut e = p.engine;
+    let a = engine::render(&mut e, ram, rom, out, to);
+    keep_answer(a, e, s)
 }
 
 // Frames up to a clock value, with no song.

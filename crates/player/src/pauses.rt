@@ -10,10 +10,10 @@ use engine::Engine;
 fn hush(e: Engine, channel: u8) -> Engine
     ensures { result ≡ hushed channel e }
 {
-    let a = engine::control_change(e, channel, 64, 0);
-    let x = a.engine;
-    let b = engine::control_change(x, channel, 123, 0);
-    b.engine
+    let mut x = e;
+    let _ = engine::control_change(&mut x, channel, 64, 0);
+    let _ = engine::control_change(&mut x, channel, 123, 0);
+    x
 }
 
 // All channels let go, in order.
@@ -33,16 +33,13 @@ fn hush_all(e: Engine) -> Engine
 fn freshen(e: Engine, channel: u8) -> Engine
     ensures { result ≡ freshened channel e }
 {
-    let a = engine::control_change(e, channel, 0, 0);
-    let x = a.engine;
-    let b = engine::program_change(x, channel, 0);
-    let y = b.engine;
-    let c = engine::pitch_bend(y, channel, 8192);
-    let z = c.engine;
-    let d = engine::control_change(z, channel, 7, 100);
-    let w = d.engine;
-    let f = engine::control_change(w, channel, 11, 127);
-    f.engine
+    let mut x = e;
+    let _ = engine::control_change(&mut x, channel, 0, 0);
+    let _ = engine::program_change(&mut x, channel, 0);
+    let _ = engine::pitch_bend(&mut x, channel, 8192);
+    let _ = engine::control_change(&mut x, channel, 7, 100);
+    let _ = engine::control_change(&mut x, channel, 11, 127);
+    x
 }
 
 // .. of all channels.

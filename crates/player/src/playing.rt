@@ -32,14 +32,13 @@ fn apply<'a>(x: Tally, file: &[u8], bank: &[u8], ram: &'a [i16], rom: &'a [i16])
 {
     let p = x.player;
     let v = p.event;
-    let e = p.engine;
-    let a = heed(e, bank, ram, rom, v);
-    let y = a.engine;
+    let mut e = p.engine;
+    let a = heed(&mut e, bank, ram, rom, v);
     let cursor = p.cursor;
     Tally {
-        player: cue(with_engine(p, y), smf::next(file, cursor)),
+        player: cue(with_engine(p, e), smf::next(file, cursor)),
         applied: x.applied + 1,
-        refused: x.refused + one_unless_done(a.status),
+        refused: x.refused + one_unless_done(engine::status_of(a)),
     }
 }
 
@@ -121,22 +120,23 @@ pub fn render<'a>(
     ensures output { out.new ≡ sounded_into file.now bank.now ram.now rom.now to out.old p }
 {
     let e = p.engine;
-    let number = engine::rendering::render_number(e, to, ram, rom, out.len());
-    if number != 0 {
-        return Answer {
-            number,
+    match engine::rendering::render_number(e, to, ram, rom, out.len()) {
+        Err(refusal) => Answer {
+            number: refusal.number(),
             applied: 0,
             refused: 0,
             player: p,
-        };
-    }
-    let n = engine::rendering::distance_to(e, to);
-    let x = play_on(p, file, bank, ram, rom, out, n);
-    let q = x.player;
-    Answer {
-        number: 0,
-        applied: x.applied,
-        refused: x.refused,
-        player: q,
+        },
+        Ok(()) => {
+            let n = engine::rendering::distance_to(e, to);
+            let x = play_on(p, file, bank, ram, rom, out, n);
+            let q = x.player;
+            Answer {
+                number: 0,
+                applied: x.applied,
+                refused: x.refused,
+                player: q,
+            }
+        }
     }
 }

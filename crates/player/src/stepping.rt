@@ -18,14 +18,13 @@ pub fn step<'a>(p: Player, file: &[u8], bank: &[u8], ram: &'a [i16], rom: &'a [i
         };
     }
     let v = p.event;
-    let e = p.engine;
-    let a = heed(e, bank, ram, rom, v);
-    let y = a.engine;
+    let mut e = p.engine;
+    let a = heed(&mut e, bank, ram, rom, v);
     let cursor = p.cursor;
     Stepped {
-        number: a.status,
+        number: engine::status_of(a),
         applied: 1,
-        player: cue(with_engine(p, y), smf::next(file, cursor)),
+        player: cue(with_engine(p, e), smf::next(file, cursor)),
     }
 }
 

@@ -11,9 +11,7 @@ fn strike<'a>(first: Engine, bank: &[u8], ram: &'a [i16], rom: &'a [i16], strike
     let mut e = first;
     let mut i: u32 = 0;
     while i < strikes {
-        let a = engine::note_on(e, bank, ram, rom, 0, key_of(i), 100);
-        let x = a.engine;
-        e = x;
+        let _ = engine::note_on(&mut e, bank, ram, rom, 0, key_of(i), 100);
         i = i + 1;
     }
     e
@@ -40,9 +38,7 @@ fn play<'a>(
     while i < renders {
         e = strike(e, bank, ram, rom, strikes);
         let to = std::num::wrapping_add_u32(e.clock, frames);
-        let a = engine::render(e, ram, rom, out, to);
-        let x = a.engine;
-        e = x;
+        let _ = engine::render(&mut e, ram, rom, out, to);
         i = i + 1;
     }
     e.sounding
@@ -74,11 +70,12 @@ fn main() {
     let samples = cases::next_memory(&mut room, count.place, &mut ram, count.value);
     let lent = cases::first_samples(&ram, samples.count);
     let known = cases::first_bytes(&bank, held.count);
-    let e = strike(engine::fresh(), known, lent, lent, strikes.value);
+    let mut e = strike(engine::fresh(), known, lent, lent, strikes.value);
     // a second place that calls render, as a host has: so the compiler leaves it a function of its own
-    let ready = engine::render(e, lent, lent, &mut out, e.clock);
+    let now = e.clock;
+    let _ = engine::render(&mut e, lent, lent, &mut out, now);
     let sounding = play(
-        ready.engine,
+        e,
         known,
         lent,
         lent,

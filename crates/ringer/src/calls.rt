@@ -1,6 +1,6 @@
 // The calls that may change the state: those of the player's engine (n, o, c, p, b), a fresh player (F), a song's start and stop (G, H), and the renders (r, V).
 use cases::{Command, Lent};
-use engine::{Answered, Engine};
+use engine::{Engine, Refusal, status_of};
 use player::{Answer, Player};
 
 // What a call that is no render answers: the number of 01's table (0: done), a count or a place, and the player after.
@@ -18,8 +18,8 @@ fn note_on<'a>(
     rom: &'a [i16],
     lent: Lent,
     c: Command,
-    e: Engine,
-) -> Answered {
+    e: &mut Engine,
+) -> Result<u32, Refusal> {
     engine::note_on(
         e,
         cases::first_bytes(bank, lent.bank),
@@ -38,8 +38,8 @@ fn answer<'a>(
     rom: &'a [i16],
     lent: Lent,
     c: Command,
-    e: Engine,
-) -> Answered {
+    e: &mut Engine,
+) -> Result<u32, Refusal> {
     let letter = c.letter;
     match letter {
         b'n' => note_on(bank, ram, rom, lent, c, e),
@@ -51,12 +51,11 @@ fn answer<'a>(
 }
 
 // The player with the engine that a call of it has left.
-fn put_back(p: Player, a: Answered) -> Called {
-    let after = a.engine;
+fn put_back(p: Player, a: Result<u32, Refusal>, e: Engine) -> Called {
     Called {
-        number: a.status,
-        count: a.count,
-        player: player::with_engine(p, after),
+        number: status_of(a),
+        count: a.unwrap_or(0),
+        player: player::with_engine(p, e),
     }
 }
 
@@ -104,8 +103,9 @@ pub fn call<'a>(
         b'G' => start(song, lent, p),
         b'H' => made(player::stop(p)),
         _ => {
-            let e = p.engine;
-            put_back(p, answer(bank, ram, rom, lent, c, e))
+            let mut e = p.engine;
+            let a = answer(bank, ram, rom, lent, c, &mut e);
+            put_back(p, a, e)
         }
     }
 }
@@ -118,14 +118,13 @@ fn render_engine<'a>(
     clock: u32,
     p: Player,
 ) -> Answer {
-    let e = p.engine;
-    let a = engine::render(e, ram, rom, out, clock);
-    let after = a.engine;
+    let mut e = p.engine;
+    let a = engine::render(&mut e, ram, rom, out, clock);
     Answer {
-        number: a.status,
+        number: status_of(a),
         applied: 0,
         refused: 0,
-        player: player::with_engine(p, after),
+        player: player::with_engine(p, e),
     }
 }
 

@@ -9,7 +9,8 @@ use Rattle.engine.proofs.SummingLaws.{all-summed}
 use Rattle.engine.proofs.summing.add_up.Goals as goal
 
 pub run_all-requires : goal.run_all-requires
-run_all-requires c = let zeros = c.clear.ensures in
+run_all-requires c = let w = c.fill in
+    let zeros : c.fill.new.self ≡ replicate (length c.args.acc.now) (pos 0) = ? in
     let long = ap length zeros ∙ length-replicate (length c.args.acc.now) (pos 0) in
     record { tables = (search rules, search rules); sums = (omega (arith, long, c.requires), subst (Small 0) (sym zeros) (zeros-small (length c.args.acc.now))) }
 
@@ -19,7 +20,7 @@ returns c = let a = c.args in
     record {
       state = c.run_all.ensures.state;
       output = c.run_all.ensures.sums
-          ∙ ap (add_all f (slots_of a.e)) c.clear.ensures
+          ∙ ap (add_all f (slots_of a.e)) ?
           ∙ ap (λ (m : ℕ). add_all f (slots_of a.e) (replicate m (pos 0))) (sym c.requires)
           ∙ all-summed a.ram.now a.rom.now a.e a.n;
     }

@@ -1,5 +1,6 @@
 -- The call, the counts, and the next event.
-use Rattle.std.proofs.Common.{ℕ, ◌≤◌, Bool, true, false, cond, eqb, arith}
+use Rattle.state.specs.Answers.{Answered}
+use Rattle.std.proofs.Common.{ap, ◌∙◌, ℕ, ◌≤◌, Bool, true, false, cond, eqb, arith}
 use Rattle.player.specs.Playing.{refusal, applying}
 use Rattle.player.proofs.playing.apply.Goals as goal
 
@@ -15,8 +16,10 @@ pub overflow_add-result : goal.overflow_add-result
 overflow_add-result c = record { fits = omega (arith, c.requires.0) }
 
 pub overflow_add-result-2 : goal.overflow_add-result-2
-overflow_add-result-2 c = record { fits = omega (arith, c.requires.0, c.requires.1, c.one_unless_done.ensures, at_most_one c.heed-a.result.status) }
+overflow_add-result-2 c = record { fits = omega (arith, c.requires.0, c.requires.1, c.one_unless_done.ensures, at_most_one c.status_of.result) }
 
 pub returns : goal.returns
 unfolding applying
-returns c = simp (c.cue.ensures, c.next.ensures, c.with_engine.ensures, c.one_unless_done.ensures, c.heed-a.ensures)
+returns c = let state = ap (λ (x : Answered). x.engine) c.heed-a.ensures in
+    let status = c.status_of.ensures ∙ ap (λ (x : Answered). x.status) c.heed-a.ensures in
+    simp (c.cue.ensures, c.next.ensures, c.with_engine.ensures, c.one_unless_done.ensures, state, status)
