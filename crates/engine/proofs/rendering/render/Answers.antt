@@ -1,8 +1,9 @@
 -- Refused by its tests, else played, and the clock moved by wrapping addition.
-use Rattle.std.proofs.Common.{ℕ, ◌*◌, ◌<◌, eqb, ◌++◌, length, drop, sym, ap, ◌∙◌, ap₂, arith}
+use Rattle.std.proofs.Common.{◌≡◌, ℕ, Result, Err, rules, ◌*◌, ◌<◌, eqb, ◌++◌, length, drop, sym, ap, ◌∙◌, ap₂, arith}
 use Rattle.state.specs.declared.Engine.{Engine}
 use Rattle.state.specs.Slots.{with_clock}
-use Rattle.state.specs.Answers.{done, refused}
+use Rattle.state.specs.declared.Refusal.{Refusal}
+use Rattle.state.specs.Answers.{done, refused, answered}
 use Rattle.state.proofs.AnswersLaws.{refusal-numbered}
 use Rattle.engine.specs.Rendering.{output, played, render, rendered}
 use Rattle.engine.proofs.RenderingLaws.{zero-low, clock-there}
@@ -10,7 +11,12 @@ use Rattle.engine.proofs.rendering.render.Goals as goal
 
 pub returns-in_err-render_number : goal.returns-in_err-render_number
 unfolding render rendered
-returns-in_err-render_number c = let w = c.in_err-render_number in ?
+returns-in_err-render_number c = let a = c.args in
+    let refusal = c.in_err-render_number.field-0.0 in
+    let passed : c.from_residual.result ≡ Err refusal = search rules in
+    let q = c.in_err-render_number.ensures in
+    let z = sym (ap (λ (k : ℕ). eqb k 0) q) ∙ refusal-numbered refusal in
+    record { answer = ap (λ (r : Result ℕ Refusal). answered r a.e.now) passed ∙ ap (λ (k : ℕ). refused k a.e.now) q ∙ simp z; output = simp z }
 
 pub play-x-requires : goal.play-x-requires
 play-x-requires c = let a = c.args in

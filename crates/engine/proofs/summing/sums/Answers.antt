@@ -1,8 +1,9 @@
 -- Render's tests, else the sums into the first 2n numbers, and the clock moved by wrapping addition.
-use Rattle.std.proofs.Common.{ℕ, ◌*◌, ◌<◌, ◌≤◌, eqb, ◌++◌, length, drop, sym, ap, ◌∙◌, ap₂, arith, length-take-le}
+use Rattle.std.proofs.Common.{◌≡◌, ℕ, Result, Err, rules, ◌*◌, ◌<◌, ◌≤◌, eqb, ◌++◌, length, drop, sym, ap, ◌∙◌, ap₂, arith, length-take-le}
 use Rattle.state.specs.declared.Engine.{Engine}
 use Rattle.state.specs.Slots.{with_clock}
-use Rattle.state.specs.Answers.{done, refused}
+use Rattle.state.specs.declared.Refusal.{Refusal}
+use Rattle.state.specs.Answers.{done, refused, answered}
 use Rattle.state.proofs.AnswersLaws.{refusal-numbered}
 use Rattle.engine.specs.Rendering.{played, render}
 use Rattle.engine.specs.Summing.{sums_of, summed}
@@ -11,7 +12,12 @@ use Rattle.engine.proofs.summing.sums.Goals as goal
 
 pub returns-in_err-render_number : goal.returns-in_err-render_number
 unfolding render summed
-returns-in_err-render_number c = let w = c.in_err-render_number in ?
+returns-in_err-render_number c = let a = c.args in
+    let refusal = c.in_err-render_number.field-0.0 in
+    let passed : c.from_residual.result ≡ Err refusal = search rules in
+    let q = c.in_err-render_number.ensures in
+    let z = sym (ap (λ (k : ℕ). eqb k 0) q) ∙ refusal-numbered refusal in
+    record { answer = ap (λ (r : Result ℕ Refusal). answered r a.e.now) passed ∙ ap (λ (k : ℕ). refused k a.e.now) q ∙ simp z; output = simp z }
 
 pub slice_bounds-add_up-end : goal.slice_bounds-add_up-end
 slice_bounds-add_up-end c = let a = c.args in
