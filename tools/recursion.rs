@@ -29,7 +29,7 @@ const OF_THE_KIT: [&str; 29] = [
     "str", "Option", "Result", "Some", "Ok", "Err", "Vec", "String", "Box", "core", "Default", "From",
 ];
 /// Words that may stand in front of a bracket and call nothing.
-const KEYWORDS: [&str; 10] = ["if", "while", "match", "return", "in", "as", "else", "mut", "for", "move"];
+const KEYWORDS: [&str; 11] = ["if", "while", "match", "return", "in", "as", "else", "mut", "for", "move", "let"];
 
 /// Words by which a function may be called without its name.
 const INDIRECT: [&str; 3] = ["dyn", "macro_rules", "macro_rules!"];
@@ -127,7 +127,8 @@ impl Calls<'_> {
             let of = if of == "Self" { function.of.clone().unwrap_or_default() } else { of.clone() };
             let is_type = of.starts_with(char::is_uppercase);
             let of_type = if is_type { methods(method, Some(&of)) } else { Vec::new() };
-            if !of_type.is_empty() || is_type && of.len() == 1 {
+            // a derived `default` calls those of the fields' types
+            if !of_type.is_empty() || is_type && (of.len() == 1 || method == "default") {
                 return Ok(if of_type.is_empty() { methods(method, None) } else { of_type });
             }
         }

@@ -11,6 +11,7 @@ ghost use Rattle.wave.specs.Playback.{heard_of, replayed};
 ghost use Rattle.cabinet.specs.Files.{fault_kind, fault_place, row_kind, row_program, row_bank, row_next};
 
 use bank::{Fault, Listed};
+use riff::Font;
 
 // A row of the listing as numbers.
 #[derive(Clone, Copy)]
@@ -134,15 +135,16 @@ pub fn thularek_font(
 ) -> u32
     ensures { (result ≡ (find_of file.now).number) × (bank.new ≡ (find_of file.now).bank.at) × (bank_size.new ≡ (find_of file.now).bank.size) × (samples.new ≡ (find_of file.now).samples.at) × (samples_size.new ≡ (find_of file.now).samples.size) × (place.new ≡ (find_of file.now).place) }
 {
-    let f = riff::find(file);
-    let b = f.bank;
-    let s = f.samples;
-    *bank = b.at;
-    *bank_size = b.size;
-    *samples = s.at;
-    *samples_size = s.size;
-    *place = f.place;
-    number(f.number)
+    let (font, fault_at, answer) = match riff::find(file) {
+        Ok(font) => (font, 0, 0),
+        Err(fault) => (Font::default(), fault.place, number(fault.kind.number())),
+    };
+    *bank = font.bank.at;
+    *bank_size = font.bank.size;
+    *samples = font.samples.at;
+    *samples_size = font.samples.size;
+    *place = fault_at;
+    answer
 }
 
 // Whether a song can be played: its number (0: yes), and the place of its first fault.

@@ -9,15 +9,16 @@ fn part(text: &mut [u8; 65536], at: usize, p: Part) -> usize {
 
 // The line of a file.
 pub fn font(file: &[u8], text: &mut [u8; 65536], at: usize) -> usize {
-    let f = riff::find(file);
-    let mut to = cases::decimal(text, at, f.number as u64);
-    if f.number != 0 {
-        to = cases::spaced(text, to, f.place as u64);
-        return cases::put(text, to, b'\n');
-    }
-    let bank = f.bank;
-    to = part(text, to, bank);
-    let samples = f.samples;
-    to = part(text, to, samples);
+    let to = match riff::find(file) {
+        Ok(font) => {
+            let to = cases::decimal(text, at, 0);
+            let to = part(text, to, font.bank);
+            part(text, to, font.samples)
+        }
+        Err(fault) => {
+            let to = cases::decimal(text, at, fault.kind.number() as u64);
+            cases::spaced(text, to, fault.place as u64)
+        }
+    };
     cases::put(text, to, b'\n')
 }

@@ -5,7 +5,7 @@ ghost use Rattle.totals.specs.Internal.Values.{total_in};
 ghost use Rattle.layers.specs.Envelope.{envelope_of};
 
 use curves::{OctaveTable, long_frames, short_frames};
-use totals::{keyed_time, sustain_of, time_of};
+use totals::LayerValues;
 
 // The frames of each stage, and the sustain's attenuation in cB.
 #[derive(Clone, Copy)]
@@ -19,16 +19,16 @@ pub struct Envelope {
 }
 
 // The envelope by a layer's values, struck with key.
-pub fn envelope_of(own: &[i16; 61], added: &[i16; 61], key: u8, t: &OctaveTable) -> Envelope
+pub fn envelope_of(values: &LayerValues, key: u8, t: &OctaveTable) -> Envelope
     requires { t.now ≡ octaves }
-    ensures { result ≡ envelope_of (total_in own.now added.now) key }
+    ensures { result ≡ envelope_of (total_in values.now.own values.now.added) key }
 {
     Envelope {
-        delay: short_frames(t, time_of(own, added, 33)),
-        attack: long_frames(t, time_of(own, added, 34)),
-        hold: short_frames(t, keyed_time(own, added, key, 35, 39)),
-        decay: long_frames(t, keyed_time(own, added, key, 36, 40)),
-        sustain: sustain_of(own, added),
-        release: long_frames(t, time_of(own, added, 38)),
+        delay: short_frames(t, values.time_of(33)),
+        attack: long_frames(t, values.time_of(34)),
+        hold: short_frames(t, values.keyed_time(key, 35, 39)),
+        decay: long_frames(t, values.keyed_time(key, 36, 40)),
+        sustain: values.sustain_of(),
+        release: long_frames(t, values.time_of(38)),
     }
 }

@@ -10,16 +10,15 @@ use crate::{Layers, Pair};
 use records::{Found, Parts, Side, Zone};
 
 // Whether a zone, with the global one of its head, is sounding and matches.
+#[tactic(auto, unfolding(crate::specs::LayerSearch::picked))]
 fn picked(b: &[u8], s: Side, zone: Zone, global: Zone, key: u8, velocity: u8) -> bool
     ensures { result ≡ picked b.now s zone global key velocity }
 {
-    if zone.sounding {
-        return matches(b, s, zone, global, key, velocity);
-    }
-    false
+    zone.sounding && matches(b, s, zone, global, key, velocity)
 }
 
 // Whether the search goes into the instrument of a preset zone: the zone is picked, and its instrument is not remembered as barren.
+#[tactic(auto, unfolding(crate::specs::Internal::Barren::entered))]
 fn enters(
     b: &[u8],
     p: Side,
@@ -31,10 +30,7 @@ fn enters(
 ) -> bool
     ensures { result ≡ entered b.now p zone global key velocity barren.now }
 {
-    if picked(b, p, zone, global, key, velocity) {
-        return !is_barren(barren, zone.link);
-    }
-    false
+    picked(b, p, zone, global, key, velocity) && !is_barren(barren, zone.link)
 }
 
 // The layers of preset h: the search stops at the thirty-third. An instrument in which nothing matches is gone through once only; a bank has fewer than 3,072.
@@ -46,35 +42,31 @@ pub fn search(b: &[u8], m: Parts, key: u8, velocity: u8, h: u32) -> Layers
     let mut pairs = [Pair { outer: 0, inner: 0 }; 33];
     let mut barren = [false; 3072];
     let mut found: usize = 0;
-    let from = records::bag_of(b, p, h as usize) as u32;
-    let count = records::zone_count(b, p, h) as u32;
+    let from = u32::from(records::bag_of(b, p, h as usize));
+    let count = u32::from(records::zone_count(b, p, h));
     let above = records::global_of(b, p, h);
-    let mut n: u32 = 0;
-    'search: while n < count {
+    'search: for n in 0..count {
         let z = from + n;
         let zone = records::zone_at(b, p, z);
         if enters(b, p, zone, above, key, velocity, &barren) {
             let before = found;
-            let k = zone.link as u32;
-            let low = records::bag_of(b, i, k as usize) as u32;
-            let many = records::zone_count(b, i, k) as u32;
+            let k = u32::from(zone.link);
+            let low = u32::from(records::bag_of(b, i, k as usize));
+            let many = u32::from(records::zone_count(b, i, k));
             let beside = records::global_of(b, i, k);
-            let mut j: u32 = 0;
-            while j < many {
+            for j in 0..many {
                 let y = low + j;
                 let inner = records::zone_at(b, i, y);
                 if picked(b, i, inner, beside, key, velocity) {
                     pairs[found] = Pair { outer: z, inner: y };
-                    found = found + 1;
+                    found += 1;
                     if found == 33 {
                         break 'search;
                     }
                 }
-                j = j + 1;
             }
             note_barren(&mut barren, zone.link, found == before);
         }
-        n = n + 1;
     }
     Layers {
         count: found as u32,
@@ -83,13 +75,11 @@ pub fn search(b: &[u8], m: Parts, key: u8, velocity: u8, h: u32) -> Layers
 }
 
 // Whether phdr record h has this bank and program.
+#[tactic(auto, unfolding(crate::specs::LayerSearch::is_preset))]
 fn is_preset(b: &[u8], m: Parts, bank: u16, program: u8, h: u32) -> bool
     ensures { result ≡ is_preset b.now m bank program h }
 {
-    if records::bank_of(b, m, h) == bank {
-        return records::program_of(b, m, h) == (program as u16);
-    }
-    false
+    records::bank_of(b, m, h) == bank && records::program_of(b, m, h) == u16::from(program)
 }
 
 // The first phdr record with bank and program; the terminal is not one.

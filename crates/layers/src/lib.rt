@@ -30,6 +30,15 @@ pub struct Range {
     pub high: u8,
 }
 
+impl Range {
+    // All keys, or all velocities.
+    pub(crate) const WHOLE: Range = Range { low: 0, high: 127 };
+    // The velocities of a note-on.
+    pub(crate) const STRUCK: Range = Range { low: 1, high: 127 };
+    // No key.
+    pub(crate) const NO_KEYS: Range = Range { low: 127, high: 0 };
+}
+
 // The keys and the velocities that match a zone.
 #[derive(Clone, Copy)]
 pub struct Area {

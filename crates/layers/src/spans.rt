@@ -1,6 +1,6 @@
 // What is told of a preset: its name's place, its zones, and the lowest and highest key of its layers.
-ghost use Rattle.std.specs.Prelude.{◌≡◌, min, max};
-ghost use Rattle.layers.specs.Spans.{common, joined, filled, area_of, layer_keys, keys_under, span_under, zone_span, span_of, sheet_of, no_sheet};
+ghost use Rattle.std.specs.Prelude.{◌≡◌};
+ghost use Rattle.layers.specs.Spans.{area_of, layer_keys, keys_under, span_under, zone_span, span_of, sheet_of, no_sheet};
 ghost use Rattle.records.specs.Zones.{zone_count};
 
 use crate::ranges::{key_range, velocity_range};
@@ -8,72 +8,28 @@ use crate::{Area, Range, Sheet};
 use arith::less;
 use records::{Parts, Side, Zone};
 
-// The lower of two.
-fn lower(a: u8, b: u8) -> u8
-    ensures { result ≡ min a b }
-{
-    if a < b { a } else { b }
-}
-
-// The higher of two.
-fn higher(a: u8, b: u8) -> u8
-    ensures { result ≡ max a b }
-{
-    if a < b { b } else { a }
-}
-
-// What two ranges have in common.
-fn common(r: Range, s: Range) -> Range
-    ensures { result ≡ common r s }
-{
-    Range {
-        low: higher(r.low, s.low),
-        high: lower(r.high, s.high),
-    }
-}
-
-// From the lower of two lows to the higher of two highs.
-fn joined(r: Range, s: Range) -> Range
-    ensures { result ≡ joined r s }
-{
-    Range {
-        low: lower(r.low, s.low),
-        high: higher(r.high, s.high),
-    }
-}
-
-// Whether there is something in a range.
-fn filled(r: Range) -> bool
-    ensures { result ≡ filled r }
-{
-    r.low <= r.high
-}
-
 // The keys and velocities that match a zone, with the global one of its head: those of a note-on.
 fn area(b: &[u8], s: Side, local: Zone, global: Zone) -> Area
     ensures { result ≡ area_of b.now s local global }
 {
-    let whole = Range { low: 0, high: 127 };
-    let struck = Range { low: 1, high: 127 };
-    let keys = key_range(b, s, local, key_range(b, s, global, whole));
-    let velocities = velocity_range(b, s, local, velocity_range(b, s, global, whole));
+    let keys = key_range(b, s, local, key_range(b, s, global, Range::WHOLE));
+    let velocities = velocity_range(b, s, local, velocity_range(b, s, global, Range::WHOLE));
     Area {
-        keys: common(whole, keys),
-        velocities: common(struck, velocities),
+        keys: Range::WHOLE.common(keys),
+        velocities: Range::STRUCK.common(velocities),
     }
 }
 
 // The keys of a layer of two zones; none where no key or no velocity is in both.
+#[tactic(auto, unfolding(crate::specs::Spans::layer_keys))]
 fn layer_keys(a: Area, c: Area) -> Range
     ensures { result ≡ layer_keys a c }
 {
-    let keys = common(a.keys, c.keys);
-    if filled(keys) {
-        if filled(common(a.velocities, c.velocities)) {
-            return keys;
-        }
+    let keys = a.keys.common(c.keys);
+    if keys.filled() && a.velocities.common(c.velocities).filled() {
+        return keys;
     }
-    Range { low: 127, high: 0 }
+    Range::NO_KEYS
 }
 
 // The keys of a preset zone's area with an instrument zone and the global one beside it.
@@ -83,22 +39,20 @@ fn keys_under(b: &[u8], i: Side, a: Area, zone: Zone, beside: Zone) -> Range
     if zone.sounding {
         return layer_keys(a, area(b, i, zone, beside));
     }
-    Range { low: 127, high: 0 }
+    Range::NO_KEYS
 }
 
 // From the lowest to the highest key of a preset zone's area with instrument k.
 fn span_under(b: &[u8], i: Side, a: Area, k: u32) -> Range
     ensures { result ≡ span_under b.now i a k (zone_count b.now i k) }
 {
-    let from = records::bag_of(b, i, k as usize) as u32;
-    let count = records::zone_count(b, i, k) as u32;
+    let from = u32::from(records::bag_of(b, i, k as usize));
+    let count = u32::from(records::zone_count(b, i, k));
     let beside = records::global_of(b, i, k);
-    let mut span = Range { low: 127, high: 0 };
-    let mut n: u32 = 0;
-    while n < count {
+    let mut span = Range::NO_KEYS;
+    for n in 0..count {
         let zone = records::zone_at(b, i, from + n);
-        span = joined(span, keys_under(b, i, a, zone, beside));
-        n = n + 1;
+        span = span.joined(keys_under(b, i, a, zone, beside));
     }
     span
 }
@@ -110,7 +64,7 @@ fn zone_span(b: &[u8], p: Side, i: Side, zone: Zone, above: Zone) -> Range
     if zone.sounding {
         return span_under(b, i, area(b, p, zone, above), zone.link as u32);
     }
-    Range { low: 127, high: 0 }
+    Range::NO_KEYS
 }
 
 // From the lowest to the highest key of the layers of preset h; 127..0 where it has none.
@@ -119,15 +73,13 @@ fn span_of(b: &[u8], m: Parts, h: u32) -> Range
 {
     let p = m.presets;
     let i = m.instruments;
-    let from = records::bag_of(b, p, h as usize) as u32;
-    let count = records::zone_count(b, p, h) as u32;
+    let from = u32::from(records::bag_of(b, p, h as usize));
+    let count = u32::from(records::zone_count(b, p, h));
     let above = records::global_of(b, p, h);
-    let mut span = Range { low: 127, high: 0 };
-    let mut n: u32 = 0;
-    while n < count {
+    let mut span = Range::NO_KEYS;
+    for n in 0..count {
         let zone = records::zone_at(b, p, from + n);
-        span = joined(span, zone_span(b, p, i, zone, above));
-        n = n + 1;
+        span = span.joined(zone_span(b, p, i, zone, above));
     }
     span
 }

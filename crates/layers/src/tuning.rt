@@ -4,7 +4,7 @@ ghost use Rattle.totals.specs.Internal.Values.{total_in};
 ghost use Rattle.layers.specs.Tuning.{tuning_of};
 
 use records::Parts;
-use totals::{attenuation_of, class_of, pan_of, pitch_of};
+use totals::LayerValues;
 
 // The exclusive class, the pitch total without the bend, the pan, and what stays of the attenuation.
 #[derive(Clone, Copy)]
@@ -16,23 +16,15 @@ pub struct Tuning {
 }
 
 // The tuning of sample k by a layer's values, struck with key and velocity.
-pub fn tuning_of(
-    b: &[u8],
-    m: Parts,
-    k: u32,
-    own: &[i16; 61],
-    added: &[i16; 61],
-    key: u8,
-    velocity: u8,
-) -> Tuning
-    ensures { result ≡ tuning_of b.now m k (total_in own.now added.now) key velocity }
+pub fn tuning_of(b: &[u8], m: Parts, k: u32, values: &LayerValues, key: u8, velocity: u8) -> Tuning
+    ensures { result ≡ tuning_of b.now m k (total_in values.now.own values.now.added) key velocity }
 {
     let root = records::root_byte(b, m, k);
     let correction = records::correction_of(b, m, k);
     Tuning {
-        class: class_of(own),
-        pitch: pitch_of(own, added, key, root, correction),
-        pan: pan_of(own, added),
-        attenuation: attenuation_of(own, added, velocity),
+        class: values.class_of(),
+        pitch: values.pitch_of(key, root, correction),
+        pan: values.pan_of(),
+        attenuation: values.attenuation_of(velocity),
     }
 }

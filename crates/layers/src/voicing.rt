@@ -12,7 +12,7 @@ use crate::tuning::tuning_of;
 use crate::{Pair, Struck};
 use curves::OctaveTable;
 use records::Parts;
-use totals::{Layer, added_values, own_values};
+use totals::{Layer, LayerValues};
 use voice::{Stage, Voice};
 
 // The four zones of a layer of preset h.
@@ -28,13 +28,6 @@ fn layer_of(b: &[u8], m: Parts, h: u32, p: Pair) -> Layer
     }
 }
 
-// The sample that a layer names.
-fn sample_of(l: Layer) -> u32
-    ensures { result ≡ l.instrument.link }
-{
-    l.instrument.link as u32
-}
-
 // The voice that a layer starts: its extent, its tuning and its envelope.
 fn voice_by(
     b: &[u8],
@@ -48,12 +41,11 @@ fn voice_by(
     requires { t.now ≡ octaves }
     ensures { result ≡ voice_by b.now m l channel key velocity }
 {
-    let own = own_values(b, m, l);
-    let added = added_values(b, m, l);
-    let k = sample_of(l);
-    let extent = extent_of(b, m, k, &own);
-    let tuning = tuning_of(b, m, k, &own, &added, key, velocity);
-    let envelope = envelope_of(&own, &added, key, t);
+    let values = LayerValues::of(b, m, l);
+    let k = u32::from(l.instrument.link);
+    let extent = extent_of(b, m, k, &values.own);
+    let tuning = tuning_of(b, m, k, &values, key, velocity);
+    let envelope = envelope_of(&values, key, t);
     Voice {
         stage: Stage::Delay {
             left: envelope.delay,

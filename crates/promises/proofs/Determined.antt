@@ -27,8 +27,8 @@ use Rattle.reader.specs.Reader.{opened_of, next_of, nth_listed}
 use Rattle.reader.specs.declared.Taken.{Taken}
 use Rattle.reader.specs.declared.Step.{Step}
 use lib.ListN.{length}
-use Rattle.riff.specs.declared.Found.{Found}
-use Rattle.riff.specs.Form.{find_of}
+use Rattle.riff.specs.Form.{Found, find_of}
+use Rattle.riff.proofs.ToldLaws.{font-told-apart}
 use Rattle.player.specs.declared.Begun.{Begun}
 use Rattle.player.specs.declared.Player.{Player}
 use Rattle.player.specs.declared.Stepped.{Stepped}
@@ -186,6 +186,9 @@ sums-determined e ram rom out to o p h k = ends o p (h.0 ∙ sym k.0) (h.1 ∙ s
 -- ---- riff
 pub find-determined : D.FindDetermined
 find-determined file = equation Found (find_of file)
+
+pub told-font-apart : D.ToldFontApart
+told-font-apart = font-told-apart
 
 -- ---- merge
 pub merge-determined : D.MergeDetermined

@@ -27,8 +27,9 @@ use Rattle.smf.specs.declared.Tested.{Tested}
 use Rattle.smf.specs.Songs.{test_of, opening_of, handed_of, bytes_of}
 use Rattle.merge.specs.declared.Merged.{Merged}
 use Rattle.merge.specs.Merging.{merged_of, room_of, answer_of, written_into}
-use Rattle.riff.specs.declared.Found.{Found}
-use Rattle.riff.specs.Form.{find_of}
+use Rattle.riff.specs.declared.Fault as RiffFault
+use Rattle.riff.specs.declared.Font.{Font}
+use Rattle.riff.specs.Form.{Found, find_of, told_font}
 use Rattle.player.specs.declared.Answer.{Answer}
 use Rattle.player.specs.declared.Begun.{Begun}
 use Rattle.player.specs.declared.Player.{Player}
@@ -263,6 +264,11 @@ SumsDetermined =
 -- contract of riff::find(file)
 abbrev pub FindDetermined : Type 0
 FindDetermined = (file : List ℕ) → Settles Found (λ r. r ≡ find_of file)
+
+-- what is told of a file is one only for one answer
+-- tells apart riff::told_font
+abbrev pub ToldFontApart : Type 0
+ToldFontApart = (x y : Result Font RiffFault.Fault) → told_font x ≡ told_font y → x ≡ y
 
 -- ---- merge
 

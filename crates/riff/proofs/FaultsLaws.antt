@@ -8,10 +8,9 @@ use borrow.Author.Tests.{eqb-true, eqb-false, leb-true, leb-false}
 use lib.Dec.{eqb, leb}
 use lib.ListN.{length}
 use Rattle.arith.specs.Bytes.{u32_at}
-use Rattle.riff.specs.declared.Found.{Found}
 use Rattle.riff.specs.declared.form.Span.{Span}
 use Rattle.riff.specs.Chunks.{list_name, body_end, stop_at, first_at}
-use Rattle.riff.specs.Form.{riff_name, font_type, bank_type, data_type, samples_name, refused_by, list_body, chunk_body, bank_at, data_at, data_span, samples_at, found_in, find_of}
+use Rattle.riff.specs.Form.{riff_name, font_type, bank_type, data_type, samples_name, refused_by, list_body, chunk_body, bank_at, data_at, data_span, samples_at, Found, found_in, find_of}
 use Rattle.riff.specs.Faults.{Broken, FirstOf, NoneOf, IsList, IsSamples, Formed, Amiss, no-riff, no-font, no-form, in-form, in-data, no-bank, no-data, no-samples, FirstFault, RefusalIsFirst, FirstIsRefused, FoundNotAmiss, NotAmissFound}
 use Rattle.riff.proofs.ChunksLaws
 use Rattle.riff.proofs.FormLaws

@@ -4,5 +4,6 @@ pub mod WalkLaws
 pub mod FaultsLaws
 pub mod PlacesLaws
 pub mod TailLaws
+pub mod ToldLaws
 pub mod WrittenLaws
 pub mod Examples

@@ -1,8 +1,11 @@
 -- SoundFont 2.01: a chunk RIFF of type sfbk. Its list pdta is the bank, and the chunk smpl of its list sdta the samples, 16 bits each; there is no chunk for samples in ROM.
 -- The first list of each type counts, and the first smpl in the first sdta; chunks and lists may stand in any order, and others are stepped over.
-use Rattle.std.specs.Prelude.{cond, not, ◌||◌, List, ℕ, ◌+◌, ◌-◌, eqb, ltb, length}
+use Rattle.std.specs.Prelude.{cond, not, ◌||◌, List, ℕ, ◌+◌, ◌-◌, eqb, ltb, length, Result, Ok, Err}
 use Rattle.arith.specs.Bytes.{u32_at}
-use Rattle.riff.specs.declared.Found.{Found}
+use Rattle.riff.specs.declared.Fault.{Fault}
+use Rattle.riff.specs.declared.FaultKind.{FaultKind}
+use Rattle.riff.specs.declared.FaultKind.TheVariants.{NotFont, Broken, Missing}
+use Rattle.riff.specs.declared.Font.{Font}
 use Rattle.riff.specs.declared.Part.{Part}
 use Rattle.riff.specs.declared.form.Span.{Span}
 use Rattle.riff.specs.Chunks.{list_name, size_at, body_end, stop_at, first_at}
@@ -27,10 +30,28 @@ data_type = 1635017843
 abbrev pub samples_name : ℕ
 samples_name = 1819307379
 
+-- what is told of a file: 0, and where the bank and the samples lie; or 40, 41 or 42 and the place of the first fault, with no parts
+pub record Found : Type 0 where
+  pub number : ℕ
+  pub place : ℕ
+  pub bank : Part
+  pub samples : Part
+
 -- a fault's number and place, and no parts
 unfoldable pub refused_by : ℕ → ℕ → Found
 refused_by number place =
     record { number = number; place = place; bank = record { at = 0; size = 0 }; samples = record { at = 0; size = 0 } }
+
+-- the number of a kind of fault
+abbrev pub kind_number : FaultKind → ℕ
+kind_number NotFont = 40
+kind_number Broken = 41
+kind_number Missing = 42
+
+-- an answer as it is told
+abbrev pub told_font : Result Font Fault → Found
+told_font (Ok f) = record { number = 0; place = 0; bank = f.bank; samples = f.samples }
+told_font (Err f) = refused_by (kind_number f.kind) f.place
 
 -- a list's body behind its type
 unfoldable pub list_body : List ℕ → ℕ → Part

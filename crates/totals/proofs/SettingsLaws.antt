@@ -7,14 +7,12 @@ use lib.Signed.{lt_z, non_neg}
 use borrow.Author.Tests.{ltb-true, lt-leb, ltb-false, le-leb}
 use lib.Dec.{T, lit<}
 use native.Mathlib.Nat.{lt_of_le_of_lt}
-use mir.Syntax.{w8}
-use mir.Val.{Fits}
+use mir.Syntax.{w8, w16}
+use mir.Val.{Fits, SFits, of_z}
 use native.Mathlib.Omega.{arith}
 use Rattle.arith.specs.Holds.{between_z, held_to}
 use Rattle.totals.specs.Settings.{if_midi}
 use Rattle.arith.specs.Floors.{mod_z}
-use Rattle.arith.proofs.FloorsLaws.{sub-pos}
-use Rattle.arith.specs.Within.{Within}
 
 and_no : (b : Bool) → (b && false) ≡ false
 and_no true = refl
@@ -42,11 +40,11 @@ pub midi-byte : (low : ℕ) (x : ℤ) → lt_z x (pos low) ≡ false → lt_z (p
 midi-byte low (pos a) t u = (tt, record { fits = lt_of_le_of_lt (ltb-false 127 a u) (lit< tt) })
 midi-byte low (negsuc a) t u = absurd (subst (λ (b : Bool). T b) t tt)
 
--- 65,536 added does not change the 16 bits
-pub bits-lift : (x : ℤ) → Within x 32768 → nat_abs (x +ℤ pos 65536) % 65536 ≡ mod_z x 65536
+-- the 16 bits of a number of 16 bits
+pub bits-mod : (x : ℤ) → SFits w16 x → of_z w16 x ≡ mod_z x 65536
 unfolding mod_z
-bits-lift (pos a) h = omega arith
-bits-lift (negsuc a) h = rw (sub-pos 65536 (suc a) (omega (arith, h.within))) (omega (arith, h.within))
+bits-mod (pos a) h = omega (arith, h.sfits)
+bits-mod (negsuc a) h = omega (arith, h.sfits)
 
 pub mod4-lt : (x : ℤ) → mod_z x 4 < 4
 unfolding mod_z

@@ -6,8 +6,6 @@ mod settings;
 mod values;
 
 use records::Zone;
-pub use settings::{attenuation_of, class_of, keyed_time, pan_of, pitch_of, sustain_of, time_of};
-pub use values::{added_values, own_values};
 
 // A layer's four zones: the preset's and the instrument's, each with the global one of its head.
 #[derive(Clone, Copy)]
@@ -16,4 +14,11 @@ pub struct Layer {
     pub above: Zone,
     pub instrument: Zone,
     pub beside: Zone,
+}
+
+// A layer's values, each zone read once: the instrument's own, and those that the preset adds. A generator's number is its place.
+#[derive(Clone, Copy)]
+pub struct LayerValues {
+    pub own: [i16; 61],
+    pub added: [i16; 61],
 }

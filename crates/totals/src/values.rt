@@ -5,9 +5,9 @@ ghost use Rattle.arith.specs.Within.{Within};
 ghost use Rattle.totals.specs.Internal.Values.{defaults, own_values, added_values};
 ghost use Rattle.records.specs.Internal.Amounts.{at};
 
-use crate::Layer;
+use crate::{Layer, LayerValues};
 use arith::hold;
-use records::{Parts, wide};
+use records::Parts;
 
 // What a generator has where no zone says anything.
 fn defaults() -> [i16; 61]
@@ -26,7 +26,7 @@ fn defaults() -> [i16; 61]
 }
 
 // The instrument's values: local, else global, else default.
-pub fn own_values(b: &[u8], m: Parts, l: Layer) -> [i16; 61]
+fn own_values(b: &[u8], m: Parts, l: Layer) -> [i16; 61]
     ensures { result ≡ own_values b.now m l }
 {
     let i = m.instruments;
@@ -35,7 +35,7 @@ pub fn own_values(b: &[u8], m: Parts, l: Layer) -> [i16; 61]
 }
 
 // The preset's values: local, else global, else 0.
-pub fn added_values(b: &[u8], m: Parts, l: Layer) -> [i16; 61]
+fn added_values(b: &[u8], m: Parts, l: Layer) -> [i16; 61]
     ensures { result ≡ added_values b.now m l }
 {
     let p = m.presets;
@@ -43,18 +43,31 @@ pub fn added_values(b: &[u8], m: Parts, l: Layer) -> [i16; 61]
     records::poured(b, p, l.preset, global)
 }
 
-// A generator's two values added.
-pub fn sum_at(own: &[i16; 61], added: &[i16; 61], g: usize) -> i64
-    requires { g < 61 }
-    ensures { (result ≡ at own.now g +ℤ at added.now g) × Within result 65536 }
-{
-    wide(own[g]) + wide(added[g])
-}
+impl LayerValues {
+    // A layer's values.
+    pub fn of(b: &[u8], m: Parts, l: Layer) -> LayerValues
+        ensures own { result.own ≡ own_values b.now m l }
+        ensures added { result.added ≡ added_values b.now m l }
+    {
+        LayerValues {
+            own: own_values(b, m, l),
+            added: added_values(b, m, l),
+        }
+    }
 
-// The same, held to low..high.
-pub fn held_at(own: &[i16; 61], added: &[i16; 61], g: usize, low: i64, high: i64) -> i64
-    requires { (g < 61) × Within low 1200 × Within high 1200 }
-    ensures { (result ≡ held_to low high (at own.now g +ℤ at added.now g)) × Within result 1200 }
-{
-    hold(low, high, sum_at(own, added, g))
+    // A generator's two values added.
+    pub(crate) fn sum_at(&self, g: usize) -> i64
+        requires { g < 61 }
+        ensures { (result ≡ at self.now.own g +ℤ at self.now.added g) × Within result 65536 }
+    {
+        i64::from(self.own[g]) + i64::from(self.added[g])
+    }
+
+    // The same, held to low..high.
+    pub(crate) fn held_at(&self, g: usize, low: i64, high: i64) -> i64
+        requires { (g < 61) × Within low 1200 × Within high 1200 }
+        ensures { (result ≡ held_to low high (at self.now.own g +ℤ at self.now.added g)) × Within result 1200 }
+    {
+        hold(low, high, self.sum_at(g))
+    }
 }

@@ -10,14 +10,8 @@ use Rattle.layers.proofs.layer_search.search.Given as goal
 
 abbrev pub invariant-loop-j : goal.invariant-loop-j
 invariant-loop-j l = let found = layers_below l.b l.p l.i l.key l.velocity l.h l.n ++ under l.b l.i l.key l.velocity l.z l.k l.j in
-    (l.pairs ≡ padded found) × (l.found ≡ length found) × (l.found < 33) × (l.j ≤ l.many)
-
-abbrev pub decreases-loop-j : goal.decreases-loop-j
-decreases-loop-j l = l.many - l.j
+    (l.pairs ≡ padded found) × (l.found ≡ length found) × (l.found < 33)
 
 abbrev pub invariant-search : goal.invariant-search
 invariant-search l = let found = layers_below l.b l.p l.i l.key l.velocity l.h l.n in
-    (l.pairs ≡ padded found) × (l.found ≡ length found) × (l.found < 33) × (l.n ≤ l.count) × (l.from < 65536) × (l.count < 65536) × (length l.barren ≡ 3072) × Known l.b l.i l.key l.velocity l.barren
-
-abbrev pub decreases-search : goal.decreases-search
-decreases-search l = l.count - l.n
+    (l.pairs ≡ padded found) × (l.found ≡ length found) × (l.found < 33) × (l.from < 65536) × (l.count < 65536) × (length l.barren ≡ 3072) × Known l.b l.i l.key l.velocity l.barren

@@ -5,7 +5,4 @@ use Rattle.layers.specs.Spans.{span_below}
 use Rattle.layers.proofs.spans.span_of.Given as goal
 
 abbrev pub invariant-loop-n : goal.invariant-loop-n
-invariant-loop-n l = (l.span ≡ span_below l.b l.p l.i l.h l.n) × (l.n ≤ l.count) × (l.from < 65536) × (l.count < 65536)
-
-abbrev pub decreases-loop-n : goal.decreases-loop-n
-decreases-loop-n l = l.count - l.n
+invariant-loop-n l = (l.span ≡ span_below l.b l.p l.i l.h l.n) × (l.from < 65536) × (l.count < 65536)

@@ -9,13 +9,13 @@ use Rattle.layers.proofs.spans.span_under.Goals as goal
 
 pub loop-n-init : goal.loop-n-init
 unfolding span_under
-loop-n-init c = (refl, search rules, search rules, search rules)
+loop-n-init c = (refl, search rules, search rules)
 
 pub loop-n-preserved : goal.loop-n-preserved
-loop-n-preserved c = let from = c.bag_of-from in
+loop-n-preserved c = let from = c.from-from in
     let a = c.args in
-    (under-turn a.b.now a.i a.a a.k c.loop-n.n from.result _ _ _ _ _ from.ensures c.zone_at-zone.ensures c.global_of-beside.ensures c.loop-n.invariant.0 c.keys_under.ensures c.joined-span.ensures, search rules, search rules, search rules)
+    (under-turn a.b.now a.i a.a a.k c.loop-n.n from.result _ _ _ _ _ (c.from-from.ensures ∙ c.bag_of.ensures) c.zone_at-zone.ensures c.global_of-beside.ensures c.loop-n.invariant.0 c.keys_under.ensures c.joined-span.ensures, search rules, search rules)
 
 pub returns : goal.returns
 returns c = let a = c.args in
-    c.loop-n.invariant.0 ∙ ap (span_under a.b.now a.i a.a a.k) (omega (arith, c.loop-n-test.false, c.loop-n.invariant.1, c.zone_count-count.ensures))
+    c.loop-n.invariant.0 ∙ ap (span_under a.b.now a.i a.a a.k) (omega (arith, c.loop-n-test.false, c.loop-n.auto.n-end, c.zone_count.ensures, c.from-count.ensures))

@@ -5,7 +5,4 @@ use Rattle.layers.specs.Spans.{span_under}
 use Rattle.layers.proofs.spans.span_under.Given as goal
 
 abbrev pub invariant-loop-n : goal.invariant-loop-n
-invariant-loop-n l = (l.span ≡ span_under l.b l.i l.a l.k l.n) × (l.n ≤ l.count) × (l.from < 65536) × (l.count < 65536)
-
-abbrev pub decreases-loop-n : goal.decreases-loop-n
-decreases-loop-n l = l.count - l.n
+invariant-loop-n l = (l.span ≡ span_under l.b l.i l.a l.k l.n) × (l.from < 65536) × (l.count < 65536)

@@ -27,6 +27,6 @@ returns c = let pan = c.pan_of in
     same c.class_of.ensures
     (to_z-of_z {w = w32} {z = pitch.result} (sfits_of pitch.type_inv)
     ∙ rw (to_z-of_z {w = w8} {z = correction.result} (sfits_of correction.type_inv)) at pitch.ensures
-    ∙ ap₂ (pitch_of (total_in a.own.now a.added.now) a.key) c.root_byte-root.ensures correction.ensures)
+    ∙ ap₂ (pitch_of (total_in a.values.now.own a.values.now.added) a.key) c.root_byte-root.ensures correction.ensures)
     (to_z-of_z {w = w16} {z = pan.result} (sfits_of pan.type_inv) ∙ pan.ensures)
     (to_z-of_z {w = w32} {z = c.attenuation_of.result} (sfits_of c.attenuation_of.type_inv) ∙ c.attenuation_of.ensures)

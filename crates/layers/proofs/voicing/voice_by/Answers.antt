@@ -13,5 +13,5 @@ returns c = let envelope = c.envelope_of-envelope in
     let pitch = to_z-of_z {w = w32} {z = tuning.result.pitch} (sfits_of tuning.type_inv.1.1.1.0.1) in
     let pan = to_z-of_z {w = w16} {z = tuning.result.pan} (sfits_of tuning.type_inv.1.1.1.1.0.1) in
     let attenuation = to_z-of_z {w = w32} {z = tuning.result.attenuation} (sfits_of tuning.type_inv.1.1.1.1.1.0.1) in
-    rw (pitch, pan, attenuation, envelope.ensures, tuning.ensures, extent.ensures, c.sample_of-k.ensures, c.added_values-added.ensures, c.own_values-own.ensures)
+    rw (pitch, pan, attenuation, envelope.ensures, tuning.ensures, extent.ensures, c.from-k.ensures, c.of-values.ensures.added, c.of-values.ensures.own)
     (voice-in a.b.now a.m a.l a.channel a.key a.velocity)

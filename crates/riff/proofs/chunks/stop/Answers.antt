@@ -1,7 +1,6 @@
 -- `stop` meets its contract.
 use mathlib.Core.Path.{refl, sym, ◌∙◌}
 use native.Mathlib.Omega.{arith}
-use Prim.Native.Nat.{◌-◌}
 use Rattle.riff.proofs.ChunksLaws.{next-in, stop-further, stop-done}
 use Rattle.riff.proofs.chunks.stop.Goals as goal
 

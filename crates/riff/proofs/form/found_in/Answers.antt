@@ -1,71 +1,33 @@
--- `found_in` meets its contract.
-use mathlib.Core.Path.{sym, ◌∙◌}
-use native.Mathlib.Omega.{arith}
-use Rattle.riff.specs.Form.{bank_at, samples_at, bank_type}
+-- The chunks of the sdta list lie in the form, and a list that is found has room for its type.
+use Rattle.std.proofs.Common.{◌≡◌, ◌≤◌, ◌<◌, ℕ, List, arith, rules}
+use Rattle.riff.specs.Chunks.{size_at, list_name, first_at}
+use Rattle.riff.specs.Form.{bank_at, bank_type}
 use Rattle.riff.proofs.ChunksLaws.{list-typed}
-use Rattle.riff.proofs.FormLaws.{span-in, bank-hit, in-broken, in-form-broken, in-silent, in-bankless, in-found}
-use borrow.Author.Rules.{rules}
+use Rattle.riff.proofs.FormLaws.{span-in, bank-hit}
 use Rattle.riff.proofs.form.found_in.Goals as goal
 
-pub stop-inner-requires : goal.stop-inner-requires
-stop-inner-requires c = let a = c.args in
-    let s = c.data_span-data.result in
-    let e = c.data_span-data.ensures in
-    let i = rw (← e) at (span-in a.b.now a.end) in
-    (i.0, omega (arith, i))
-
-pub returns-then-inner-edge : goal.returns-then-inner-edge
-returns-then-inner-edge c = let a = c.args in
-    let s = c.data_span-data.result in
-    let e = c.data_span-data.ensures in
-    rw (← e, c.refused.ensures, c.stop-inner.ensures) (sym (in-broken a.b.now a.end s (λ z. c.if-inner-edge.true (c.stop-inner.ensures ∙ z))))
-
-pub returns-then-outer-end : goal.returns-then-outer-end
-returns-then-outer-end c = let a = c.args in
-    let s = c.data_span-data.result in
-    let e = c.data_span-data.ensures in
-    rw (← e, c.refused-then-outer-end.ensures, c.stop-outer.ensures) (sym (in-form-broken a.b.now a.end s (sym c.stop-inner.ensures ∙ c.if-inner-edge.false) (λ z. c.if-outer-end.true (c.stop-outer.ensures ∙ z))))
-
-pub first-samples-requires : goal.first-samples-requires
-first-samples-requires c = let a = c.args in
-    let s = c.data_span-data.result in
-    let e = c.data_span-data.ensures in
-    let i = rw (← e) at (span-in a.b.now a.end) in
-    (i.0, omega (arith, i))
-
-pub returns-then-samples-edge : goal.returns-then-samples-edge
-unfolding samples_at
-returns-then-samples-edge c = let a = c.args in
-    let s = c.data_span-data.result in
-    let e = c.data_span-data.ensures in
-    rw (← e, c.refused-then-samples-edge.ensures) (sym (in-silent a.b.now a.end s (sym c.stop-inner.ensures ∙ c.if-inner-edge.false) (sym c.stop-outer.ensures ∙ c.if-outer-end.false) (sym c.first-samples.ensures.0 ∙ c.if-samples-edge.true)))
-
-pub returns-then-bank-end : goal.returns-then-bank-end
-unfolding samples_at bank_at
-returns-then-bank-end c = let a = c.args in
-    let s = c.data_span-data.result in
-    let e = c.data_span-data.ensures in
-    rw (← e, c.refused-then-bank-end.ensures) (sym (in-bankless a.b.now a.end s (sym c.stop-inner.ensures ∙ c.if-inner-edge.false) (sym c.stop-outer.ensures ∙ c.if-outer-end.false) (λ z. c.if-samples-edge.false (c.first-samples.ensures.0 ∙ z)) (sym c.first-bank.ensures.0 ∙ c.if-bank-end.true)))
-
-pub list_body-requires : goal.list_body-requires
+-- the pdta list that is found has room for its type
+bank_typed : (b : List ℕ) (end at : ℕ) → at ≡ first_at b end list_name bank_type 12 → at < end → 4 ≤ size_at b at
 unfolding bank_at
-list_body-requires c = let a = c.args in
-    let s = c.data_span-data.result in
-    let e = c.data_span-data.ensures in
-    let h = bank-hit a.b.now a.end (λ z. c.if-bank-end.false (c.first-bank.ensures.0 ∙ z)) in
-    let t = list-typed a.b.now a.end bank_type _ h.whole h.named in
-    record { at_bound = search rules; typed = rw c.first-bank.ensures.0 t }
+bank_typed b end at e h =
+    let k = bank-hit b end (omega (arith, e, h)) in
+    rw e (list-typed b end bank_type _ k.whole k.named)
+
+pub all_whole-requires : goal.all_whole-requires
+all_whole-requires c =
+    let within = rw (← c.data_span-data.ensures) at (span-in c.args.b.now c.args.end) in
+    (within.0, omega (arith, within))
+
+pub sought-requires : goal.sought-requires
+sought-requires c =
+    let within = rw (← c.data_span-data.ensures) at (span-in c.args.b.now c.args.end) in
+    (within.0, omega (arith, within))
+
+pub list_body-requires-clause-typed : goal.list_body-requires-clause-typed
+list_body-requires-clause-typed c = search (rules, bank_typed)
 
 pub chunk_body-requires : goal.chunk_body-requires
-chunk_body-requires c = let a = c.args in
-    let s = c.data_span-data.result in
-    let e = c.data_span-data.ensures in
-    let i = rw (← e) at (span-in a.b.now a.end) in
-    omega (arith, i, c.first-samples.ensures.1)
-
-pub returns : goal.returns
-unfolding samples_at bank_at
-returns c = let a = c.args in
-    let s = c.data_span-data.result in
-    let e = c.data_span-data.ensures in
-    rw (← e, c.chunk_body.ensures, c.list_body.ensures, c.first-samples.ensures.0, c.first-bank.ensures.0) (sym (in-found a.b.now a.end s (sym c.stop-inner.ensures ∙ c.if-inner-edge.false) (sym c.stop-outer.ensures ∙ c.if-outer-end.false) (λ z. c.if-samples-edge.false (c.first-samples.ensures.0 ∙ z)) (λ z. c.if-bank-end.false (c.first-bank.ensures.0 ∙ z))))
+chunk_body-requires c =
+    let within = rw (← c.data_span-data.ensures) at (span-in c.args.b.now c.args.end) in
+    let inside : c.in_ok-samples.samples < c.data_span-data.result.end = search rules in
+    omega (arith, within, inside)
