@@ -1,7 +1,7 @@
 -- What a test's answer says of what it found, and the tests one after the other.
 use Rattle.std.proofs.Common.{◌≡◌, ℕ, refl, sym, ◌∙◌, arith, Option, Some, None, Result, Ok, Err}
 use Rattle.std.specs.Result.{result_and}
-use Rattle.bank.specs.Admission.{told}
+use Rattle.bank.specs.Admission.{fault_at}
 use Rattle.bank.specs.declared.Fault.{Fault}
 use Rattle.bank.specs.declared.FaultKind.{FaultKind}
 
@@ -9,12 +9,12 @@ abbrev pub Answer : Type 0
 Answer = Result (Unit {0}) Fault
 
 -- a test that tells no fault has found nothing
-pub told-none : (kind : FaultKind) (f : Option ℕ) → told kind f ≡ Ok tt → f ≡ None
-told-none kind None e = refl
-told-none kind (Some p) e = let z : ◌≡◌ {A = ℕ} 0 1 = cc in absurd (omega arith)
+pub fault-none : (kind : FaultKind) (f : Option ℕ) → fault_at kind f ≡ Ok tt → f ≡ None
+fault-none kind None e = refl
+fault-none kind (Some p) e = let z : ◌≡◌ {A = ℕ} 0 1 = cc in absurd (omega arith)
 
 -- what a test tells, where what it found is known
-pub tells : (kind : FaultKind) (f g : Option ℕ) {r x : Answer} → r ≡ told kind f → f ≡ g → r ≡ x → told kind g ≡ x
+pub tells : (kind : FaultKind) (f g : Option ℕ) {r x : Answer} → r ≡ fault_at kind f → f ≡ g → r ≡ x → fault_at kind g ≡ x
 tells kind f g a e w = rw e at (sym a ∙ w)
 
 -- a test that passes leaves it to those behind it, and one that fails is the last

@@ -1,5 +1,5 @@
 -- `fault_of` gives no fault exactly for the banks that 01's rules admit.
-use Rattle.bank.proofs.AdmissionLaws.{Answer, told-none}
+use Rattle.bank.proofs.AdmissionLaws.{Answer, fault-none}
 use Rattle.std.specs.Result.{result_and}
 use Rattle.std.specs.Prelude.{Result, Ok, Err, Option, None, Some, is_some}
 use mathlib.Core.Bool.{Bool, true, false, ◌||◌, ◌&&◌, not, and-false}
@@ -102,7 +102,7 @@ no-zone b s p e h z w =
 
 -- ---- the seven tests, one after the other
 
-step : (kind : FaultKind) (f : Option ℕ) (rest : Answer) → result_and (Admission.told kind f) rest ≡ Ok tt → (f ≡ None) × (rest ≡ Ok tt)
+step : (kind : FaultKind) (f : Option ℕ) (rest : Answer) → result_and (Admission.fault_at kind f) rest ≡ Ok tt → (f ≡ None) × (rest ≡ Ok tt)
 step kind None rest e = (refl, e)
 step kind (Some p) rest e = let z : ◌≡◌ {A = ℕ} 0 1 = cc in absurd (omega arith)
 
@@ -125,7 +125,7 @@ passed b e =
     let r4 = step Index (BankIndexes.index_fault b m) _ r3.1 in
     let r5 = step Number (BankLinks.number_fault b m) _ r4.1 in
     let r6 = step Rate (BankRates.rate_fault b m) _ r5.1 in
-    let window = told-none Window (BankBounds.window_fault b m) r6.1 in
+    let window = fault-none Window (BankBounds.window_fault b m) r6.1 in
     record { long = r1.0; chunk = r2.0; records = r3.0; index = r4.0; number = r5.0; rate = r6.0; window = window }
 
 -- ---- each test, and its rule

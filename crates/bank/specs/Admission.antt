@@ -17,21 +17,21 @@ unfoldable pub long_fault : List ℕ → Option ℕ
 long_fault b = given (ltb 65536 (length b)) 65536
 
 -- a test's answer: the place that it found is a fault of its kind
-abbrev pub told : FaultKind → Option ℕ → Result (Unit {0}) Fault
-told kind None = Ok tt
-told kind (Some p) = Err (record { kind = kind; place = p })
+abbrev pub fault_at : FaultKind → Option ℕ → Result (Unit {0}) Fault
+fault_at kind None = Ok tt
+fault_at kind (Some p) = Err (record { kind = kind; place = p })
 
 -- the first kind at fault, with its place
 unfoldable pub fault_of : List ℕ → Result (Unit {0}) Fault
 fault_of b =
     let m = parts_of b in
-    result_and (told Long (long_fault b))
-    (result_and (told Chunk (chunk_fault b))
-    (result_and (told Records (records_fault b))
-    (result_and (told Index (index_fault b m))
-    (result_and (told Number (number_fault b m))
-    (result_and (told Rate (rate_fault b m))
-    (told Window (window_fault b m)))))))
+    result_and (fault_at Long (long_fault b))
+    (result_and (fault_at Chunk (chunk_fault b))
+    (result_and (fault_at Records (records_fault b))
+    (result_and (fault_at Index (index_fault b m))
+    (result_and (fault_at Number (number_fault b m))
+    (result_and (fault_at Rate (rate_fault b m))
+    (fault_at Window (window_fault b m)))))))
 
 -- 01's number for each: 1 where the bank is not admitted
 abbrev pub fault_number : Result (Unit {0}) Fault → ℕ

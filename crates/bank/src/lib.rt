@@ -3,7 +3,7 @@
 #![tactic(auto)]
 
 ghost use Rattle.std.specs.Prelude.{◌≡◌};
-ghost use Rattle.bank.specs.Admission.{long_fault, told, fault_of, fault_number, admitted};
+ghost use Rattle.bank.specs.Admission.{long_fault, fault_at, fault_of, fault_number, admitted};
 
 mod bounds;
 mod framing;
@@ -48,8 +48,8 @@ pub enum Listed {
 }
 
 // A test's answer: the place that it found is a fault of its kind.
-fn told(kind: FaultKind, found: Option<usize>) -> Result<(), Fault>
-    ensures { result ≡ told kind found }
+fn fault_at(kind: FaultKind, found: Option<usize>) -> Result<(), Fault>
+    ensures { result ≡ fault_at kind found }
 {
     match found {
         None => Ok(()),
@@ -71,14 +71,14 @@ fn long_fault(b: &[u8]) -> Option<usize>
 pub fn admission(b: &[u8]) -> Result<(), Fault>
     ensures { result ≡ fault_of b.now }
 {
-    told(FaultKind::Long, long_fault(b))?;
-    told(FaultKind::Chunk, framing::chunk_fault(b))?;
-    told(FaultKind::Records, framing::records_fault(b))?;
+    fault_at(FaultKind::Long, long_fault(b))?;
+    fault_at(FaultKind::Chunk, framing::chunk_fault(b))?;
+    fault_at(FaultKind::Records, framing::records_fault(b))?;
     let m = records::parts_of(b);
-    told(FaultKind::Index, indexes::index_fault(b, m))?;
-    told(FaultKind::Number, links::number_fault(b, m))?;
-    told(FaultKind::Rate, rates::rate_fault(b, m))?;
-    told(FaultKind::Window, bounds::window_fault(b, m))
+    fault_at(FaultKind::Index, indexes::index_fault(b, m))?;
+    fault_at(FaultKind::Number, links::number_fault(b, m))?;
+    fault_at(FaultKind::Rate, rates::rate_fault(b, m))?;
+    fault_at(FaultKind::Window, bounds::window_fault(b, m))
 }
 
 // 01's number for what was found.

@@ -7,19 +7,19 @@ use Rattle.bank.specs.declared.Listed.{Listed}
 use Rattle.bank.specs.declared.Listed.TheVariants as on
 
 -- which of admission's seven tests finds a kind
-abbrev pub kind_number : FaultKind → ℕ
-kind_number of.Long = 1
-kind_number of.Chunk = 2
-kind_number of.Records = 3
-kind_number of.Index = 4
-kind_number of.Number = 5
-kind_number of.Rate = 6
-kind_number of.Window = 7
+abbrev pub test_number : FaultKind → ℕ
+test_number of.Long = 1
+test_number of.Chunk = 2
+test_number of.Records = 3
+test_number of.Index = 4
+test_number of.Number = 5
+test_number of.Rate = 6
+test_number of.Window = 7
 
 -- a fault's kind: 0 none, and else which test found it
 abbrev pub fault_kind : Result (Unit {0}) Fault → ℕ
 fault_kind (Ok u) = 0
-fault_kind (Err f) = kind_number f.kind
+fault_kind (Err f) = test_number f.kind
 
 -- its place, 0 where there is none
 abbrev pub fault_place : Result (Unit {0}) Fault → ℕ

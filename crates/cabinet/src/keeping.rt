@@ -2,8 +2,7 @@
 ghost use Rattle.std.specs.Prelude.{◌≡◌};
 ghost use Rattle.cabinet.specs.Keeping.{player_in, kept, kept_answer, kept_start, kept_play};
 
-use crate::Flat;
-use crate::twins::{player_of, player_to};
+use crate::{Flat, FlatPlayer};
 use engine::Answered;
 use player::{Answer, Begun, Player};
 
@@ -11,8 +10,7 @@ use player::{Answer, Begun, Player};
 pub fn player_in(s: Flat) -> Player
     ensures { result ≡ player_in s }
 {
-    let p = s.player;
-    player_of(p)
+    Player::from(s.player)
 }
 
 // C's memory, from the four numbers of an answer and a player.
@@ -20,11 +18,11 @@ pub fn keep(number: u8, count: u32, refused: u32, place: u32, p: Player) -> Flat
     ensures { result ≡ kept number count refused place p }
 {
     Flat {
-        number: number as u32,
+        number: u32::from(number),
         count,
         refused,
         place,
-        player: player_to(p),
+        player: FlatPlayer::from(p),
     }
 }
 
@@ -32,13 +30,12 @@ pub fn keep(number: u8, count: u32, refused: u32, place: u32, p: Player) -> Flat
 pub fn keep_answer(a: Answered, s: Flat) -> Flat
     ensures { result ≡ kept_answer a s }
 {
-    let e = a.engine;
     keep(
         a.status,
         a.count,
         0,
         0,
-        player::with_engine(player_in(s), e),
+        player::with_engine(player_in(s), a.engine),
     )
 }
 
@@ -46,14 +43,12 @@ pub fn keep_answer(a: Answered, s: Flat) -> Flat
 pub fn keep_start(b: Begun) -> Flat
     ensures { result ≡ kept_start b }
 {
-    let p = b.player;
-    keep(b.number, 0, 0, b.place, p)
+    keep(b.number, 0, 0, b.place, b.player)
 }
 
 // After a render of a song.
 pub fn keep_play(a: Answer) -> Flat
     ensures { result ≡ kept_play a }
 {
-    let p = a.player;
-    keep(a.number, a.applied, a.refused, 0, p)
+    keep(a.number, a.applied, a.refused, 0, a.player)
 }

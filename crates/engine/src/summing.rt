@@ -5,7 +5,7 @@ ghost use Rattle.engine.specs.Summing.{sums_of, summed};
 
 use crate::adding::run_all;
 use crate::rendering::{distance_to, render_number};
-use curves::{gains, octaves};
+use curves::{GainTable, OctaveTable};
 use state::{Answered, Engine, made, refuse};
 
 // Zeros, which voices are added to.
@@ -25,8 +25,8 @@ fn add_up<'a>(e: Engine, ram: &'a [i16], rom: &'a [i16], acc: &mut [i32], n: usi
     ensures state { result ≡ played ram.now rom.now n e }
     ensures output { acc.new ≡ sums_of ram.now rom.now e n }
 {
-    let g = gains();
-    let o = octaves();
+    let g = GainTable::new();
+    let o = OctaveTable::new();
     clear(acc);
     run_all(e, &g, &o, ram, rom, acc, n)
 }

@@ -5,7 +5,7 @@ ghost use Rattle.events.specs.Keys.{held, off};
 
 use crate::Whom;
 use crate::keys::{is_down, off_all};
-use curves::gains;
+use curves::GainTable;
 use state::{
     Answered, Engine, channel_of, flag, freed_if, made, of_channel, past_two, refuse, slot_of,
     with_channel, with_word,
@@ -31,7 +31,7 @@ fn silenced(e: Engine, channel: u8) -> Engine
 fn every_off(e: Engine, channel: u8) -> Engine
     ensures { result ≡ off channel (held channel) e }
 {
-    let g = gains();
+    let g = GainTable::new();
     let down = is_down(e, channel);
     let a = off_all(e, channel, Whom::Every, down, &g);
     a.engine
@@ -48,7 +48,7 @@ fn pedal_set(e: Engine, channel: u8, value: u8) -> Engine
     if 64 <= value {
         return x;
     }
-    let g = gains();
+    let g = GainTable::new();
     let a = off_all(x, channel, Whom::Marked, false, &g);
     a.engine
 }

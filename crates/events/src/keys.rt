@@ -1,12 +1,11 @@
 // Note-off, and which voices are let off.
 ghost use Rattle.std.specs.Prelude.{◌≡◌, cond};
-ghost use Rattle.curves.specs.Levels.{gains};
 ghost use Rattle.voice.specs.Release.{release};
 ghost use Rattle.events.specs.Keys.{held, held_key, pedal_down, mark, let_off, off_key, note_off, pedal_held};
 ghost use Rattle.events.specs.Internal.Keys.{picked, off_all};
 
 use crate::Whom;
-use curves::{GainTable, gains};
+use curves::GainTable;
 use state::{Answered, Engine, channel_of, flag, of_channel, past_one, refuse, slot_of, with_word};
 use voice::{Slot, Voice, is_released, let_off, with_moved};
 
@@ -60,7 +59,6 @@ fn is_picked(s: Slot, channel: u8, whom: Whom) -> bool
 
 // Marked while the pedal is down, else released.
 fn off_voice(v: Voice, down: bool, g: &GainTable) -> Voice
-    requires { g.now ≡ gains }
     ensures { result ≡ cond down (mark v) (release v) }
 {
     if down {
@@ -72,7 +70,6 @@ fn off_voice(v: Voice, down: bool, g: &GainTable) -> Voice
 
 // The slot let off where it is picked.
 fn off_one(s: Slot, channel: u8, whom: Whom, down: bool, g: &GainTable) -> Slot
-    requires { g.now ≡ gains }
     ensures { result ≡ let_off down (picked channel whom) s }
 {
     if !is_picked(s, channel, whom) {
@@ -94,7 +91,6 @@ fn one_if(b: bool) -> u32
 
 // All that are picked let off, and how many they were.
 pub fn off_all(e: Engine, channel: u8, whom: Whom, down: bool, g: &GainTable) -> Answered
-    requires { g.now ≡ gains }
     ensures { result ≡ off_all channel whom down e }
 {
     let mut x = e;
@@ -129,7 +125,7 @@ pub fn is_down(e: Engine, channel: u8) -> bool
 pub fn off_key(e: Engine, channel: u8, key: u8) -> Answered
     ensures { result ≡ off_key channel key e }
 {
-    let g = gains();
+    let g = GainTable::new();
     let down = is_down(e, channel);
     off_all(e, channel, Whom::Key { key }, down, &g)
 }

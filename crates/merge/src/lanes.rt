@@ -3,7 +3,7 @@ ghost use Rattle.std.specs.Prelude.{◌≡◌, ◌≤◌, length};
 ghost use Rattle.merge.specs.Lanes.{lanes_from, flaw_in};
 ghost use Rattle.merge.specs.Internal.Lanes.{no_lane, lanes_of, Lined};
 
-use crate::{Entry, Spot, Tracks, entries};
+use crate::{Entry, Tracks, entries};
 use smf::head::track_from;
 use smf::{Header, Item};
 
@@ -29,34 +29,32 @@ pub fn lanes(b: &[u8], count: u16, from: u32) -> Tracks
     let mut ticks = [entries::NO_TICK; 256];
     let mut entries = [no_lane(); 256];
     let mut at = from;
-    let mut k = 0;
-    while k < (count as usize) {
+    for k in 0..(count as usize) {
         let h = track_from(b, at as usize);
         match h {
-            Header::Refused { number: _, place } => {
+            Header::Refused { place, .. } => {
                 return Tracks {
                     ticks,
                     entries,
                     count: k,
-                    flaw: Spot::At { place },
+                    flaw: Some(place),
                 }
             }
             Header::Track { at: begin, end } => {
                 let e = entries::settled(b, end, 0, begin, 0);
                 ticks[k] = e.tick;
                 entries[k] = e;
-                k += 1;
                 let flaw = entries::flaw(b, e);
                 match flaw {
-                    Spot::At { place: _ } => {
+                    Some(_) => {
                         return Tracks {
                             ticks,
                             entries,
-                            count: k,
+                            count: k + 1,
                             flaw,
                         }
                     }
-                    Spot::None => at = end,
+                    None => at = end,
                 }
             }
         }
@@ -64,7 +62,7 @@ pub fn lanes(b: &[u8], count: u16, from: u32) -> Tracks
     Tracks {
         ticks,
         entries,
-        count: k,
-        flaw: Spot::None,
+        count: count as usize,
+        flaw: None,
     }
 }

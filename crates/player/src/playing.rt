@@ -1,11 +1,13 @@
 // Render: the engine's frames, with each event of the song before the frame that it names.
-ghost use Rattle.std.specs.Prelude.{◌≡◌, ◌+◌, ◌*◌, ◌<◌, ◌≤◌, ◌++◌, length, take, drop, if◌then◌else◌};
+ghost use Rattle.std.specs.Prelude.{◌≡◌, ◌+◌, ◌*◌, ◌<◌, ◌≤◌, ◌++◌, true, false, length, take, drop, if◌then◌else◌};
 ghost use Rattle.engine.specs.Rendering.{output};
-ghost use Rattle.player.specs.Playing.{opened, refusal, applying, forward, performed, numbers, answered, sounded_into};
+ghost use Rattle.player.specs.Cues.{song_over};
+ghost use Rattle.player.specs.Playing.{opened, applying, forward, performed, numbers, answered, sounded_into};
 
 use crate::acting::heed;
 use crate::cues::{cue, gap, with_engine};
 use crate::{Answer, Player, Tally};
+use smf::Event;
 
 // No event is applied yet.
 fn open(p: Player) -> Tally
@@ -18,28 +20,17 @@ fn open(p: Player) -> Tally
     }
 }
 
-// 1 where a call was refused.
-fn one_unless_done(status: u8) -> u32
-    ensures { result ≡ refusal status }
-{
-    if status == 0 { 0 } else { 1 }
-}
-
 // The event that comes next acts on the engine and is counted, and the one behind it is read.
-fn apply<'a>(x: Tally, file: &[u8], bank: &[u8], ram: &'a [i16], rom: &'a [i16]) -> Tally
-    requires { (x.applied < 4294967295) × (x.refused ≤ x.applied) }
+fn apply<'a>(x: Tally, v: Event, file: &[u8], bank: &[u8], ram: &'a [i16], rom: &'a [i16]) -> Tally
+    requires { (x.player.event ≡ Some v) × (x.applied < 4294967295) × (x.refused ≤ x.applied) }
     ensures { result ≡ applying file.now bank.now ram.now rom.now x }
 {
     let p = x.player;
-    let v = p.event;
-    let e = p.engine;
-    let a = heed(e, bank, ram, rom, v);
-    let y = a.engine;
-    let cursor = p.cursor;
+    let a = heed(p.engine, bank, ram, rom, v);
     Tally {
-        player: cue(with_engine(p, y), smf::next(file, cursor)),
+        player: cue(with_engine(p, a.engine), smf::next(file, p.cursor)),
         applied: x.applied + 1,
-        refused: x.refused + one_unless_done(a.status),
+        refused: x.refused + u32::from(a.status != 0),
     }
 }
 
@@ -52,13 +43,13 @@ fn apply_if<'a>(
     ram: &'a [i16],
     rom: &'a [i16],
 ) -> Tally
-    requires { (x.applied < 4294967295) × (x.refused ≤ x.applied) }
+    requires { (more ≡ true → song_over x.player ≡ false) × (x.applied < 4294967295) × (x.refused ≤ x.applied) }
     ensures { result ≡ (if more then applying file.now bank.now ram.now rom.now x else x) }
 {
-    if more {
-        return apply(x, file, bank, ram, rom);
+    match x.player.event {
+        Some(v) if more => apply(x, v, file, bank, ram, rom),
+        _ => x,
     }
-    x
 }
 
 // m frames of the engine alone, written from a place of the output on.
@@ -73,11 +64,10 @@ fn go_on<'a>(x: Tally, ram: &'a [i16], rom: &'a [i16], out: &mut [f32], at: usiz
     let p = x.player;
     let e = p.engine;
     let mut y = engine::rendering::play(e, ram, rom, &mut out[at..], m as usize);
-    y.clock = std::num::wrapping_add_u32(e.clock, m);
+    y.clock = e.clock.wrapping_add(m);
     Tally {
         player: with_engine(p, y),
-        applied: x.applied,
-        refused: x.refused,
+        ..x
     }
 }
 
@@ -98,10 +88,9 @@ fn play_on<'a>(
     let mut x = open(p);
     let mut k: u32 = 0;
     while k < n {
-        let q = x.player;
-        let m = gap(q, n - k);
+        let m = gap(x.player, n - k);
         x = go_on(x, ram, rom, out, 2 * (k as usize), m);
-        k = k + m;
+        k += m;
         x = apply_if(k < n, x, file, bank, ram, rom);
     }
     x
@@ -120,8 +109,7 @@ pub fn render<'a>(
     ensures answer { result ≡ answered file.now bank.now ram.now rom.now to (length out.old) p }
     ensures output { out.new ≡ sounded_into file.now bank.now ram.now rom.now to out.old p }
 {
-    let e = p.engine;
-    let number = engine::rendering::render_number(e, to, ram, rom, out.len());
+    let number = engine::rendering::render_number(p.engine, to, ram, rom, out.len());
     if number != 0 {
         return Answer {
             number,
@@ -130,13 +118,12 @@ pub fn render<'a>(
             player: p,
         };
     }
-    let n = engine::rendering::distance_to(e, to);
+    let n = engine::rendering::distance_to(p.engine, to);
     let x = play_on(p, file, bank, ram, rom, out, n);
-    let q = x.player;
     Answer {
         number: 0,
         applied: x.applied,
         refused: x.refused,
-        player: q,
+        player: x.player,
     }
 }

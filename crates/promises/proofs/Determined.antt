@@ -1,6 +1,7 @@
 -- Contracts that are equations determine what they speak of.
-use Rattle.std.specs.Prelude.{Option, Result}
-use mathlib.Core.Path.{◌≡◌, sym, ◌∙◌, ap₂}
+use mathlib.Core.Path.{◌≡◌, refl, sym, ◌∙◌, ap, ap₂}
+use native.Mathlib.Omega.{arith}
+use Rattle.std.specs.Prelude.{Result, Ok, Err, Option}
 use mathlib.Core.List.{List}
 use lib.Ieee.{Float}
 use Prim.Native.Nat.{ℕ}
@@ -14,8 +15,8 @@ use Rattle.bank.specs.declared.Listed.{Listed}
 use Rattle.bank.specs.Listing.{listed}
 use Rattle.bank.specs.declared.Fault.{Fault}
 use Rattle.bank.specs.Past.{past_memory}
-use Rattle.layers.specs.declared.Sheet.{Sheet}
-use Rattle.layers.specs.Spans.{sheet_of}
+use Rattle.layers.specs.declared.NoSheet.TheVariants.{NotAdmitted, AtEnd}
+use Rattle.layers.specs.Spans.{SheetNumbers, sheet_of}
 use Rattle.reader.specs.declared.Opened.{Opened}
 use Rattle.reader.specs.Reader.{opened_of, next_of, nth_listed}
 use Rattle.reader.specs.declared.Taken.{Taken}
@@ -27,7 +28,7 @@ use Rattle.player.specs.declared.Begun.{Begun}
 use Rattle.player.specs.declared.Player.{Player}
 use Rattle.player.specs.declared.Stepped.{Stepped}
 use Rattle.player.specs.Asking.{is_silent, held_count}
-use Rattle.player.specs.Cues.{idle, with_engine, gap_of}
+use Rattle.player.specs.Cues.{song_over, idle, with_engine, gap_of}
 use Rattle.player.specs.Pauses.{started, stopped}
 use Rattle.player.specs.Stepping.{step_taken, next_event, next_frame}
 use Rattle.engine.specs.Presets.{sought_program, sought_bank}
@@ -36,6 +37,7 @@ use Rattle.smf.specs.declared.Opening.{Opening}
 use Rattle.smf.specs.declared.Tested.{Tested}
 use Rattle.smf.specs.Songs.{test_of, opening_of, handed_of, bytes_of}
 use Rattle.wave.specs.Lowering.{attenuation_for}
+use Rattle.wave.proofs.ToldLaws.{number-told-apart, heard-told-apart, sums-told-apart}
 use Rattle.promises.specs.Determined as D
 use Rattle.state.specs.Board as StateBoard
 use Rattle.state.specs.Quiet as StateQuiet
@@ -86,8 +88,19 @@ pub past-memory-determined : D.PastMemoryDetermined
 past-memory-determined bank ram rom = equation (Option ℕ) (past_memory bank ram rom)
 
 -- ---- layers
+pub told-tells-apart : D.ToldTellsApart
+told-tells-apart (Ok s) (Ok t) e = cc
+told-tells-apart (Ok s) (Err NotAdmitted) e = absurd (omega (arith, ap (λ (x : SheetNumbers). x.kind) e))
+told-tells-apart (Ok s) (Err AtEnd) e = absurd (omega (arith, ap (λ (x : SheetNumbers). x.kind) e))
+told-tells-apart (Err NotAdmitted) (Ok t) e = absurd (omega (arith, ap (λ (x : SheetNumbers). x.kind) e))
+told-tells-apart (Err NotAdmitted) (Err NotAdmitted) e = refl
+told-tells-apart (Err NotAdmitted) (Err AtEnd) e = absurd (omega (arith, ap (λ (x : SheetNumbers). x.kind) e))
+told-tells-apart (Err AtEnd) (Ok t) e = absurd (omega (arith, ap (λ (x : SheetNumbers). x.kind) e))
+told-tells-apart (Err AtEnd) (Err NotAdmitted) e = absurd (omega (arith, ap (λ (x : SheetNumbers). x.kind) e))
+told-tells-apart (Err AtEnd) (Err AtEnd) e = refl
+
 pub preset-sheet-determined : D.PresetSheetDetermined
-preset-sheet-determined bank place = equation Sheet (sheet_of bank place)
+preset-sheet-determined bank place = equation SheetNumbers (sheet_of bank place)
 
 -- ---- reader
 pub open-determined : D.OpenDetermined
@@ -137,6 +150,15 @@ read-determined file out o p h k = ends o p (h.0 ∙ sym k.0) (h.1 ∙ sym k.1)
 pub pour-sums-determined : D.PourSumsDetermined
 pour-sums-determined sums attenuation out o p h k = ends o p (h.0 ∙ sym k.0) (h.1 ∙ sym k.1)
 
+pub told-number-apart : D.ToldNumberApart
+told-number-apart = number-told-apart
+
+pub told-heard-apart : D.ToldHeardApart
+told-heard-apart = heard-told-apart
+
+pub told-sums-apart : D.ToldSumsApart
+told-sums-apart = sums-told-apart
+
 pub attenuation-for-determined : D.AttenuationForDetermined
 attenuation-for-determined loudest = equation ℕ (attenuation_for loudest)
 
@@ -184,7 +206,7 @@ pub next-frame-determined : D.NextFrameDetermined
 next-frame-determined p = equation ℕ (next_frame p)
 
 pub over-determined : D.OverDetermined
-over-determined p = equation Bool p.ended
+over-determined p = equation Bool (song_over p)
 
 pub silent-determined : D.SilentDetermined
 silent-determined p = equation Bool (is_silent p)

@@ -2,8 +2,7 @@
 use Rattle.std.specs.Prelude.{ℕ, ◌<◌, ◌≤◌, ◌+◌, List, [], ◌⊎◌, ◌≡◌, ℤ, length, None}
 use Rattle.bank.specs.Past.{past_memory}
 use Rattle.layers.specs.LayerSearch.{layers_of}
-use Rattle.layers.specs.Spans.{sheet_of}
-use Rattle.layers.specs.declared.Sheet.{Sheet}
+use Rattle.layers.specs.Spans.{SheetNumbers, sheet_of}
 use Rattle.records.specs.Sides.{parts_of}
 use Rattle.state.specs.declared.Engine.{Engine}
 use Rattle.promises.specs.Calls.{does, NoteOn}
@@ -17,7 +16,7 @@ pub record HasLayer (b : List ℕ) (h key : ℕ) : Type 0 where
 
 -- a sheet tells what is so of preset h: the 20 bytes of its name lie in the bank; a key outside of low..high has no layer at any
 -- velocity of a note-on; and where low is not above high, both of them have one
-pub record SheetTells (b : List ℕ) (h : ℕ) (s : Sheet) : Type 0 where
+pub record SheetTells (b : List ℕ) (h : ℕ) (s : SheetNumbers) : Type 0 where
   pub name : s.name + 20 ≤ length b
   pub silent :
       (key velocity : ℕ) → key ≤ 127 → 1 ≤ velocity → velocity ≤ 127

@@ -7,16 +7,13 @@ ghost use Rattle.smf.specs.Songs.{verdict, turns};
 use crate::items::item_at;
 use crate::quantities::quantity_at;
 use crate::ticks::{frame_of, is_late, sum_after};
-use crate::{Cursor, Event, Handed, Item, Message, Met, Offer, Quantity, Tested};
+use crate::{Cursor, Event, Handed, Item, Message, Met, Tested};
 
 // Where the track ends in the file that is lent.
 fn edge_of(b: &[u8], end: u32) -> u32
     ensures { result ≡ min end (length b.now) }
 {
-    if b.len() < (end as usize) {
-        return b.len() as u32;
-    }
-    end
+    (end as usize).min(b.len()) as u32
 }
 
 // The cursor behind an event.
@@ -25,11 +22,10 @@ fn carried_to(c: Cursor, sum: u64, behind: u32, running: u8, tempo: u32) -> Curs
 {
     Cursor {
         at: behind,
-        end: c.end,
         running,
-        division: c.division,
         tempo,
         sum,
+        ..c
     }
 }
 
@@ -50,21 +46,7 @@ fn event_of(m: Message, further: Cursor) -> Event
 pub fn is_bad(it: Item) -> bool
     ensures { result ≡ is_bad it }
 {
-    match it {
-        Item::Bad => true,
-        Item::End => false,
-        Item::Passed { behind: _ } => false,
-        Item::Tempo {
-            tempo: _,
-            behind: _,
-        } => false,
-        Item::Channel {
-            status: _,
-            first: _,
-            second: _,
-            behind: _,
-        } => false,
-    }
+    matches!(it, Item::Bad)
 }
 
 // What an event does.
@@ -115,16 +97,14 @@ fn meet_at(b: &[u8], c: Cursor) -> Met
     ensures { result ≡ meet_at b.now c }
 {
     let edge = edge_of(b, c.end);
-    let q = quantity_at(b, edge, c.at);
-    match q {
-        Quantity::Bad => Met::Fault {
+    let Some(q) = quantity_at(b, edge, c.at) else {
+        return Met::Fault {
             number: 9,
             place: c.at,
-        },
-        Quantity::Good { value, behind } => {
-            obey(item_at(b, edge, c.running, behind), c, value, behind)
-        }
-    }
+        };
+    };
+    let item = item_at(b, edge, c.running, q.behind);
+    obey(item, c, q.value, q.behind)
 }
 
 // The test of the track from a cursor on.
@@ -144,10 +124,7 @@ pub fn test_from(b: &[u8], from: Cursor) -> Tested
                 }
             }
             Met::Passed { further } => c = further,
-            Met::Given {
-                message: _,
-                further,
-            } => c = further,
+            Met::Given { further, .. } => c = further,
         }
     }
     Tested {
@@ -175,7 +152,7 @@ fn no_event() -> Handed
     ensures { result ≡ nothing }
 {
     Handed {
-        offer: Offer::End,
+        event: None,
         cursor: no_cursor(),
     }
 }
@@ -189,16 +166,12 @@ pub fn next_from(b: &[u8], from: Cursor) -> Handed
     while c.at < edge {
         let m = meet_at(b, c);
         match m {
-            Met::Fault {
-                number: _,
-                place: _,
-            } => return no_event(),
+            Met::Fault { .. } => return no_event(),
             Met::End => return no_event(),
             Met::Passed { further } => c = further,
             Met::Given { message, further } => {
-                let event = event_of(message, further);
                 return Handed {
-                    offer: Offer::Given { event },
+                    event: Some(event_of(message, further)),
                     cursor: further,
                 };
             }

@@ -1,6 +1,5 @@
 // The step, the move by it, and the fold or the end.
 ghost use Rattle.std.specs.Prelude.{◌≡◌, ◌+ℤ◌, ◌+◌, ◌<◌};
-ghost use Rattle.curves.specs.Octave.{octaves};
 ghost use Rattle.curves.specs.Pitch.{bend_cents, pitch_held};
 ghost use Rattle.curves.specs.Internal.Pitch.{step_at};
 ghost use Rattle.voice.specs.Motion.{folds, fold, span};
@@ -9,7 +8,7 @@ ghost use Rattle.voice.specs.Frames.{go_on};
 
 use crate::stages::{age_by, is_released};
 use crate::{Slot, Stage, Voice, with_moved};
-use arith::{hold, less};
+use arith::hold;
 use curves::{OctaveTable, bend_cents};
 
 // The pitch total, held to -9,600..4,800.
@@ -29,11 +28,10 @@ fn tuned(pitch: i32, bend: u16) -> i32
 
 // The voice's step at a bend.
 pub fn step_of(v: Voice, bend: u16, o: &OctaveTable) -> u32
-    requires { o.now ≡ octaves }
     ensures { result ≡ step_at (v.pitch +ℤ bend_cents bend) v.rate }
 {
     let cents = tuned(v.pitch, bend);
-    curves::step(o, cents, v.rate)
+    o.step(cents, v.rate)
 }
 
 // Whether a voice folds in a stage.
@@ -106,5 +104,5 @@ pub fn go_on(v: Voice, s: Stage, step: u32) -> Slot
 pub fn span_of(v: Voice) -> u64
     ensures { (result ≡ span v) × (result < 4294967296) }
 {
-    less(v.end, v.start) as u64
+    u64::from(v.end.saturating_sub(v.start))
 }

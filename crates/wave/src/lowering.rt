@@ -2,9 +2,10 @@
 ghost use Rattle.std.specs.Prelude.{cond, ◌||◌, ◌++◌, ◌≡◌, pos, negsuc, nat_abs, length, drop, ◌≤◌, ◌*◌, ◌%◌, max};
 ghost use Rattle.arith.specs.Holds.{held_to};
 ghost use Rattle.arith.specs.Within.{Within};
+ghost use Rattle.wave.specs.Answers.{told_sums};
 ghost use Rattle.wave.specs.Lowering.{attenuation_for, frames_past, is_past, loudest_of, lowered_by, poured_sums, sum_word, sums_into, sums_poured};
 
-use crate::{Poured, pcm};
+use crate::{Poured, Refusal, pcm};
 
 // A sum times a gain of 2^-24, rounded down.
 fn lower(z: i32, g: u32) -> i64
@@ -44,13 +45,7 @@ fn one_if_past(l: i32, r: i32, g: u32) -> u64
     requires { g ≤ 16777216 }
     ensures { result ≡ cond (is_past (lowered_by g l) || is_past (lowered_by g r)) 1 0 }
 {
-    if is_past(l, g) {
-        return 1;
-    }
-    if is_past(r, g) {
-        return 1;
-    }
-    0
+    u64::from(is_past(l, g) || is_past(r, g))
 }
 
 // How many frames are held.
@@ -60,12 +55,10 @@ fn frames_past(sums: &[i32], g: u32) -> u64
 {
     let n = sums.len() / 2;
     let mut count: u64 = 0;
-    let mut k: usize = 0;
-    while k < n {
+    for k in 0..n {
         let l = sums[2 * k];
         let r = sums[2 * k + 1];
-        count = count + one_if_past(l, r, g);
-        k = k + 1;
+        count += one_if_past(l, r, g);
     }
     count
 }
@@ -74,8 +67,7 @@ fn frames_past(sums: &[i32], g: u32) -> u64
 fn louder(most: u32, z: i32) -> u32
     ensures { result ≡ max most (nat_abs z) }
 {
-    let size = pcm::size(z);
-    if most < size { size } else { most }
+    most.max(z.unsigned_abs())
 }
 
 // The largest size of a sum.
@@ -83,11 +75,8 @@ fn loudest_of(sums: &[i32]) -> u32
     ensures { result ≡ loudest_of sums.now }
 {
     let mut most: u32 = 0;
-    let mut i: usize = 0;
-    while i < sums.len() {
-        let z = sums[i];
-        most = louder(most, z);
-        i = i + 1;
+    for z in sums {
+        most = louder(most, *z);
     }
     most
 }
@@ -98,48 +87,33 @@ fn fill(sums: &[i32], g: u32, out: &mut [u8])
     requires room { 2 * length sums.now ≤ length out.old }
     ensures { out.new ≡ poured_sums g sums.now ++ drop (2 * length sums.now) out.old }
 {
-    let mut i: usize = 0;
-    while i < sums.len() {
-        let z = sums[i];
-        let w = word(z, g);
+    for (i, z) in sums.iter().enumerate() {
+        let w = word(*z, g);
         out[2 * i] = (w % 256) as u8;
         out[2 * i + 1] = (w / 256) as u8;
-        i = i + 1;
-    }
-}
-
-// A refusal: no frame is held, and no sum is heard.
-fn refuse(number: u8) -> Poured
-    ensures { result ≡ record { number = number; held = 0; loudest = 0 } }
-{
-    Poured {
-        number,
-        held: 0,
-        loudest: 0,
     }
 }
 
 // A run of sums as bytes at a lower level, for a host that streams.
-pub fn pour_sums(sums: &[i32], attenuation: u16, out: &mut [u8]) -> Poured
-    ensures value { result ≡ sums_poured attenuation sums.now (length out.old) }
+pub fn pour_sums(sums: &[i32], attenuation: u16, out: &mut [u8]) -> Result<Poured, Refusal>
+    ensures value { told_sums result ≡ sums_poured attenuation sums.now (length out.old) }
     ensures output { out.new ≡ sums_into attenuation sums.now out.old }
 {
     if sums.len() % 2 == 1 {
-        return refuse(13);
+        return Err(Refusal::NotOutput);
     }
     if out.len() / 2 < sums.len() {
-        return refuse(15);
+        return Err(Refusal::NoRoom);
     }
-    let table = curves::gains();
-    let g = curves::gain(&table, attenuation as u64);
+    let table = curves::GainTable::new();
+    let g = table.gain(attenuation as u64);
     fill(sums, g, out);
     // a slice may have more frames than 32 bits can count
     let held = arith::least(frames_past(sums, g), 4294967295) as u32;
-    Poured {
-        number: 0,
+    Ok(Poured {
         held,
         loudest: loudest_of(sums),
-    }
+    })
 }
 
 // The least attenuation, in cB, with which no sum of at most this size is held.
@@ -149,6 +123,6 @@ pub fn attenuation_for(loudest: u32) -> u16
     if loudest <= 8388608 {
         return 0;
     }
-    let table = curves::gains();
-    curves::least_cb(&table, (140737488355328 / (loudest as u64)) as u32)
+    let table = curves::GainTable::new();
+    table.least_cb((140737488355328 / (loudest as u64)) as u32)
 }
