@@ -12,7 +12,7 @@ use mathlib.Core.Logic.{◌⊎◌, inl, inr, ⊎_elim}
 use native.Mathlib.Omega.{arith}
 use native.Mathlib.Nat.{not-suc-le-zero, le_of_suc-le-suc}
 use Rattle.state.specs.declared.Engine.{Engine}
-use Rattle.state.specs.declared.Answered.{Answered}
+use Rattle.state.specs.Answers.{Answered}
 use Rattle.state.specs.Answers.{refused, answer, done, past_one, past_two, past_bend}
 use Rattle.events.specs.Keys.{off_key, note_off}
 use Rattle.engine.specs.Rendering.{output, distance, played, render_number, render, rendered, lacking}
