@@ -28,10 +28,8 @@ impl GainTable {
         let highs = HIGHS;
         let lows = LOWS;
         let mut entries = [0u32; 200];
-        let mut a: usize = 0;
-        while a < 200 {
+        for a in 0..200 {
             entries[a] = joined(highs[a], lows[a]);
-            a = a + 1;
         }
         GainTable { entries }
     }
@@ -68,19 +66,17 @@ impl GainTable {
         0
     }
 
-    // The least attenuation whose gain is at most the level, and 1,000 above that. `most` is the largest number that comes to the level in as many tenths as `a` has.
+    // The least attenuation whose gain is at most the level, and 1,000 above that. `most` is the largest number that comes to the level in so many tenths.
     pub fn least_cb(&self, l: u32) -> u16
         ensures { result ≡ least_cb l }
     {
         let mut most = l as u64;
-        let mut a: u16 = 0;
-        while a < 1000 {
+        for tenths in 0..5 {
             let i = self.louder(most);
             if i < 200 {
-                return a + i;
+                return 200 * tenths + i;
             }
             most = most * 10 + 9;
-            a = a + 200;
         }
         1000
     }
@@ -89,22 +85,13 @@ impl GainTable {
     fn louder(&self, m: u64) -> u16
         ensures { result ≡ louder m }
     {
-        let mut i: usize = 0;
-        while i < 200 {
-            if wide(self.entries[i]) <= m {
+        for i in 0..200 {
+            if u64::from(self.entries[i]) <= m {
                 return i as u16;
             }
-            i = i + 1;
         }
         200
     }
-}
-
-// A gain as a wider number.
-fn wide(g: u32) -> u64
-    ensures { result ≡ g }
-{
-    g as u64
 }
 
 // The attenuation of a velocity, or of control 7 or 11, in cB.

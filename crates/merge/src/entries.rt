@@ -60,13 +60,8 @@ pub fn advanced(b: &[u8], e: Entry) -> Entry
         Item::Bad => gone_from(e),
         Item::End => gone_from(e),
         Item::Passed { behind } => settled(b, e.end, 0, behind, e.tick),
-        Item::Tempo { tempo: _, behind } => settled(b, e.end, 0, behind, e.tick),
-        Item::Channel {
-            status,
-            first: _,
-            second: _,
-            behind,
-        } => settled(b, e.end, status, behind, e.tick),
+        Item::Tempo { behind, .. } => settled(b, e.end, 0, behind, e.tick),
+        Item::Channel { status, behind, .. } => settled(b, e.end, status, behind, e.tick),
     }
 }
 

@@ -29,11 +29,10 @@ pub fn lanes(b: &[u8], count: u16, from: u32) -> Tracks
     let mut ticks = [entries::NO_TICK; 256];
     let mut entries = [no_lane(); 256];
     let mut at = from;
-    let mut k = 0;
-    while k < (count as usize) {
+    for k in 0..(count as usize) {
         let h = track_from(b, at as usize);
         match h {
-            Header::Refused { number: _, place } => {
+            Header::Refused { place, .. } => {
                 return Tracks {
                     ticks,
                     entries,
@@ -45,14 +44,13 @@ pub fn lanes(b: &[u8], count: u16, from: u32) -> Tracks
                 let e = entries::settled(b, end, 0, begin, 0);
                 ticks[k] = e.tick;
                 entries[k] = e;
-                k += 1;
                 let flaw = entries::flaw(b, e);
                 match flaw {
                     Some(_) => {
                         return Tracks {
                             ticks,
                             entries,
-                            count: k,
+                            count: k + 1,
                             flaw,
                         }
                     }
@@ -64,7 +62,7 @@ pub fn lanes(b: &[u8], count: u16, from: u32) -> Tracks
     Tracks {
         ticks,
         entries,
-        count: k,
+        count: count as usize,
         flaw: None,
     }
 }

@@ -49,8 +49,8 @@ pub fn put_entry(out: &mut [u8], at: usize, l: Line, e: Entry) -> usize
     match item {
         Item::Bad => at,
         Item::End => at,
-        Item::Passed { behind: _ } => at,
-        Item::Tempo { tempo, behind: _ } => {
+        Item::Passed { .. } => at,
+        Item::Tempo { tempo, .. } => {
             let p = put_gap(out, at, l.tempo, ticks);
             put_tempo(out, p, tempo)
         }
@@ -58,7 +58,7 @@ pub fn put_entry(out: &mut [u8], at: usize, l: Line, e: Entry) -> usize
             status,
             first,
             second,
-            behind: _,
+            ..
         } => {
             let p = put_gap(out, at, l.tempo, ticks);
             put_channel(
@@ -81,19 +81,14 @@ pub fn line_after(l: Line, e: Entry) -> Line
     match item {
         Item::Bad => l,
         Item::End => Line { end: e.tick, ..l },
-        Item::Passed { behind: _ } => l,
-        Item::Tempo { tempo, behind: _ } => Line {
+        Item::Passed { .. } => l,
+        Item::Tempo { tempo, .. } => Line {
             tick: e.tick,
             tempo,
             running: 0,
             ..l
         },
-        Item::Channel {
-            status,
-            first: _,
-            second: _,
-            behind: _,
-        } => Line {
+        Item::Channel { status, .. } => Line {
             tick: e.tick,
             running: status,
             ..l

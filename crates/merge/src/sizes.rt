@@ -71,17 +71,10 @@ pub fn entry_size(l: Line, e: Entry) -> u64
     match item {
         Item::Bad => 0,
         Item::End => 0,
-        Item::Passed { behind: _ } => 0,
-        Item::Tempo {
-            tempo: _,
-            behind: _,
-        } => gap_size(ticks) + 6,
-        Item::Channel {
-            status,
-            first: _,
-            second: _,
-            behind: _,
-        } => gap_size(ticks) + channel_size(running_after(l.running, ticks), status),
+        Item::Passed { .. } => 0,
+        Item::Tempo { .. } => gap_size(ticks) + 6,
+        Item::Channel { status, .. } => gap_size(ticks)
+            + channel_size(running_after(l.running, ticks), status),
     }
 }
 

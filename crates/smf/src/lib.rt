@@ -151,10 +151,7 @@ fn first_cursor(file: &[u8]) -> Cursor
 {
     let h = head::head(file);
     match h {
-        Header::Refused {
-            number: _,
-            place: _,
-        } => track::no_cursor(),
+        Header::Refused { .. } => track::no_cursor(),
         Header::Track { at, end } => head::start(file, at, end),
     }
 }

@@ -13,10 +13,7 @@ use crate::{Cursor, Event, Handed, Item, Message, Met, Tested};
 fn edge_of(b: &[u8], end: u32) -> u32
     ensures { result ≡ min end (length b.now) }
 {
-    if b.len() < (end as usize) {
-        return b.len() as u32;
-    }
-    end
+    (end as usize).min(b.len()) as u32
 }
 
 // The cursor behind an event.
@@ -25,11 +22,10 @@ fn carried_to(c: Cursor, sum: u64, behind: u32, running: u8, tempo: u32) -> Curs
 {
     Cursor {
         at: behind,
-        end: c.end,
         running,
-        division: c.division,
         tempo,
         sum,
+        ..c
     }
 }
 
@@ -50,21 +46,7 @@ fn event_of(m: Message, further: Cursor) -> Event
 pub fn is_bad(it: Item) -> bool
     ensures { result ≡ is_bad it }
 {
-    match it {
-        Item::Bad => true,
-        Item::End => false,
-        Item::Passed { behind: _ } => false,
-        Item::Tempo {
-            tempo: _,
-            behind: _,
-        } => false,
-        Item::Channel {
-            status: _,
-            first: _,
-            second: _,
-            behind: _,
-        } => false,
-    }
+    matches!(it, Item::Bad)
 }
 
 // What an event does.
@@ -131,6 +113,7 @@ pub fn test_from(b: &[u8], from: Cursor) -> Tested
 {
     let edge = edge_of(b, from.end);
     let mut c = from;
+    // Each event says where the next one begins, so no index counts them.
     while c.at < edge {
         let m = meet_at(b, c);
         match m {
@@ -142,10 +125,7 @@ pub fn test_from(b: &[u8], from: Cursor) -> Tested
                 }
             }
             Met::Passed { further } => c = further,
-            Met::Given {
-                message: _,
-                further,
-            } => c = further,
+            Met::Given { further, .. } => c = further,
         }
     }
     Tested {
@@ -184,13 +164,11 @@ pub fn next_from(b: &[u8], from: Cursor) -> Handed
 {
     let edge = edge_of(b, from.end);
     let mut c = from;
+    // Each event says where the next one begins, so no index counts them.
     while c.at < edge {
         let m = meet_at(b, c);
         match m {
-            Met::Fault {
-                number: _,
-                place: _,
-            } => return no_event(),
+            Met::Fault { .. } => return no_event(),
             Met::End => return no_event(),
             Met::Passed { further } => c = further,
             Met::Given { message, further } => {

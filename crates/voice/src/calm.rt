@@ -6,7 +6,6 @@ ghost use Rattle.voice.specs.Internal.Stages.{RoomBy};
 
 use crate::stages::decay_at;
 use crate::{Stage, Voice};
-use arith::{least, less};
 
 // Frames until floor(1,000 * t / n) changes.
 fn until_change(n: u32, t: u32) -> u32
@@ -23,8 +22,7 @@ fn until_change(n: u32, t: u32) -> u32
 fn calm_count(n: u32, t: u32) -> u32
     ensures { Steady n t result × (t + result < 4294967296) }
 {
-    let m = until_change(n, t);
-    least(m as u64, (4294967295 - t) as u64) as u32
+    until_change(n, t).min(u32::MAX - t)
 }
 
 // No frame of an attack is calm: its level moves.
@@ -49,11 +47,11 @@ pub fn calm(v: Voice, s: Stage) -> u32
     ensures { Calms v s result × RoomBy result s }
 {
     match s {
-        Stage::Delay { left: _ } => 0,
+        Stage::Delay { .. } => 0,
         Stage::Attack { t } => calm_attack(t),
-        Stage::Hold { t } => less(v.hold, t),
+        Stage::Hold { t } => v.hold.saturating_sub(t),
         Stage::Decay { t } => calm_decay(v.decay, v.sustain, t),
         Stage::Sustain => 4294967295,
-        Stage::Release { from: _, t } => calm_count(v.release, t),
+        Stage::Release { t, .. } => calm_count(v.release, t),
     }
 }

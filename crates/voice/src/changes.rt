@@ -11,26 +11,8 @@ pub fn with_moved(v: Voice, s: Stage, p: u64, m: bool) -> Voice
     Voice {
         stage: s,
         place: p,
-        channel: v.channel,
-        key: v.key,
-        velocity: v.velocity,
         marked: m,
-        class: v.class,
-        rom: v.rom,
-        start: v.start,
-        end: v.end,
-        mode: v.mode,
-        loopfrom: v.loopfrom,
-        loopto: v.loopto,
-        rate: v.rate,
-        pitch: v.pitch,
-        pan: v.pan,
-        attenuation: v.attenuation,
-        attack: v.attack,
-        hold: v.hold,
-        decay: v.decay,
-        sustain: v.sustain,
-        release: v.release,
+        ..v
     }
 }
 

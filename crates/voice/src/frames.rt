@@ -19,7 +19,6 @@ use crate::stretch::{Reached, add_pair, glide, is_uneven, limit_of};
 use crate::wait::wait;
 use crate::way::way_of;
 use crate::{Channel, Framed, Slot, Stage, Voice, with_moved};
-use arith::least;
 use curves::{GainTable, OctaveTable};
 
 // A slot that adds nothing.
@@ -88,8 +87,7 @@ fn ahead(v: Voice, s: Stage, limit: u64, most: usize) -> usize
     if limit <= v.place {
         return 0;
     }
-    let n = least(calm(v, s) as u64, 65536);
-    least(n, most as u64) as usize
+    (calm(v, s) as usize).min(65536).min(most)
 }
 
 // One frame of a slot, into frame k of the sums.
@@ -112,9 +110,9 @@ fn few(v: Voice, s: Stage, st: u32, most: usize) -> usize
     ensures { (result ≤ most) × (result ≤ 65536) }
 {
     if is_uneven(v, s, st) {
-        return least(most as u64, 65536) as usize;
+        return most.min(65536);
     }
-    least(most as u64, 8) as usize
+    most.min(8)
 }
 
 // The next frames of a voice in stage s: a stretch if one may begin, else rounds; none where neither may.
@@ -210,6 +208,7 @@ pub fn run_at(
 {
     let mut s = s0;
     let mut k: usize = 0;
+    // A `while`, since each turn makes as many frames as it can, and no range has such steps.
     while k < n {
         if !s.sounding {
             return s;

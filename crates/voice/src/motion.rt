@@ -8,7 +8,7 @@ ghost use Rattle.voice.specs.Frames.{go_on};
 
 use crate::stages::{age_by, is_released};
 use crate::{Slot, Stage, Voice, with_moved};
-use arith::{hold, less};
+use arith::hold;
 use curves::{OctaveTable, bend_cents};
 
 // The pitch total, held to -9,600..4,800.
@@ -104,5 +104,5 @@ pub fn go_on(v: Voice, s: Stage, step: u32) -> Slot
 pub fn span_of(v: Voice) -> u64
     ensures { (result ≡ span v) × (result < 4294967296) }
 {
-    less(v.end, v.start) as u64
+    u64::from(v.end.saturating_sub(v.start))
 }

@@ -2,9 +2,7 @@
 ghost use Rattle.std.specs.Prelude.{◌≡◌, ℕ, ◌+◌, ◌*◌, ◌-◌, ◌<◌, ◌≤◌};
 ghost use Rattle.voice.specs.Internal.Pace.{some, stop_if, stop_in, level_in, cb_in, Paced, PaceAt};
 
-use crate::stages::wide;
 use crate::{Stage, Voice};
-use arith::{least, less};
 
 // A quotient over the stage's frames, what is left over of it, and what one frame more adds to both.
 #[derive(Clone, Copy)]
@@ -44,12 +42,12 @@ pub fn pace_of(v: Voice, s: Stage) -> Pace
     ensures { PaceAt v s result }
 {
     match s {
-        Stage::Delay { left: _ } => paced(0, 1, 0),
+        Stage::Delay { .. } => paced(0, 1, 0),
         Stage::Attack { t } => paced(16777216, v.attack, t),
         Stage::Hold { t } => paced(1, 1, t),
         Stage::Decay { t } => paced(1000, v.decay, t),
         Stage::Sustain => paced(0, 1, 0),
-        Stage::Release { from: _, t } => paced(1000, v.release, t),
+        Stage::Release { t, .. } => paced(1000, v.release, t),
     }
 }
 
@@ -61,20 +59,12 @@ pub fn next_pace(c: Pace) -> Pace
     let value = c.value + c.by;
     let over = c.over + c.more;
     if over < c.frames {
-        return Pace {
-            value,
-            over,
-            by: c.by,
-            more: c.more,
-            frames: c.frames,
-        };
+        return Pace { value, over, ..c };
     }
     Pace {
         value: value + 1,
         over: over - c.frames,
-        by: c.by,
-        more: c.more,
-        frames: c.frames,
+        ..c
     }
 }
 
@@ -89,7 +79,7 @@ fn stop_if(n: u32, stop: u64) -> u64
 fn left_of(cb: u16) -> u64
     ensures { result ≡ 1000 - cb }
 {
-    less(1000, cb as u32) as u64
+    u64::from(1000u16.saturating_sub(cb))
 }
 
 // From this value on the stage is spent, or the voice has died away.
@@ -97,12 +87,12 @@ pub fn stop_of(v: Voice, s: Stage) -> u64
     ensures { (result ≡ stop_in v s) × (result < 4294967296) }
 {
     match s {
-        Stage::Delay { left: _ } => 0,
-        Stage::Attack { t: _ } => stop_if(v.attack, 16777216),
-        Stage::Hold { t: _ } => v.hold as u64,
-        Stage::Decay { t: _ } => stop_if(v.decay, least(wide(v.sustain), 1000)),
+        Stage::Delay { .. } => 0,
+        Stage::Attack { .. } => stop_if(v.attack, 16777216),
+        Stage::Hold { .. } => v.hold as u64,
+        Stage::Decay { .. } => stop_if(v.decay, u64::from(v.sustain.min(1000))),
         Stage::Sustain => left_of(v.sustain),
-        Stage::Release { from, t: _ } => stop_if(v.release, left_of(from)),
+        Stage::Release { from, .. } => stop_if(v.release, left_of(from)),
     }
 }
 
@@ -111,12 +101,8 @@ pub fn level_in(s: Stage, value: u64) -> u64
     ensures { result ≡ level_in s value }
 {
     match s {
-        Stage::Delay { left: _ } => 16777216,
-        Stage::Attack { t: _ } => value,
-        Stage::Hold { t: _ } => 16777216,
-        Stage::Decay { t: _ } => 16777216,
-        Stage::Sustain => 16777216,
-        Stage::Release { from: _, t: _ } => 16777216,
+        Stage::Attack { .. } => value,
+        _ => 16777216,
     }
 }
 
@@ -134,11 +120,9 @@ pub fn cb_in(v: Voice, s: Stage, value: u64) -> u64
     ensures { (result ≡ cb_in v s value) × (result < 8796093022208) }
 {
     match s {
-        Stage::Delay { left: _ } => 0,
-        Stage::Attack { t: _ } => 0,
-        Stage::Hold { t: _ } => 0,
-        Stage::Decay { t: _ } => value,
-        Stage::Sustain => wide(v.sustain),
-        Stage::Release { from, t: _ } => fallen(from, value),
+        Stage::Delay { .. } | Stage::Attack { .. } | Stage::Hold { .. } => 0,
+        Stage::Decay { .. } => value,
+        Stage::Sustain => u64::from(v.sustain),
+        Stage::Release { from, .. } => fallen(from, value),
     }
 }

@@ -4,7 +4,7 @@ ghost use Rattle.arith.specs.Floats.{Over};
 ghost use Rattle.voice.specs.Panel.{level_of, stage_shown, shown};
 ghost use Rattle.curves.specs.Levels.{gain_of};
 
-use crate::stages::{decay_at, level_at, release_at, wide};
+use crate::stages::{decay_at, level_at, release_at};
 use crate::{Shown, Slot, Stage, Voice};
 use curves::GainTable;
 
@@ -21,16 +21,16 @@ fn show_stage(v: Voice, s: Stage, g: &GainTable) -> Shown
     ensures { result ≡ stage_shown v s }
 {
     match s {
-        Stage::Delay { left: _ } => Shown::Delay,
+        Stage::Delay { .. } => Shown::Delay,
         Stage::Attack { t } => Shown::Attack {
             level: level_unit(level_at(v.attack, t)),
         },
-        Stage::Hold { t: _ } => Shown::Hold,
+        Stage::Hold { .. } => Shown::Hold,
         Stage::Decay { t } => Shown::Decay {
-            level: gain_unit(g, wide(decay_at(v.decay, v.sustain, t))),
+            level: gain_unit(g, u64::from(decay_at(v.decay, v.sustain, t))),
         },
         Stage::Sustain => Shown::Sustain {
-            level: gain_unit(g, wide(v.sustain)),
+            level: gain_unit(g, u64::from(v.sustain)),
         },
         Stage::Release { from, t } => Shown::Release {
             level: gain_unit(g, release_at(v.release, from, t)),

@@ -47,10 +47,7 @@ fn rung_at(v: Voice, s: Stage, w: &[i16], gain: u32, p: u64, value: u64) -> i64
 fn is_over(limit: u64, p: u64, stop: u64, value: u64) -> bool
     ensures { result ≡ (leb limit p || leb stop value) }
 {
-    if limit <= p {
-        return true;
-    }
-    stop <= value
+    limit <= p || stop <= value
 }
 
 // Frames from the voice's place on, at most so many, while its way and its stage last.
@@ -80,8 +77,7 @@ pub fn ring(
     let mut c = pace_of(v, s);
     let mut cb: u64 = 0;
     let mut known = g.gain(total_of(l, 0));
-    let mut m: usize = 0;
-    while m < most {
+    for m in 0..most {
         if is_over(y.limit, p, stop, c.value) {
             return Reached {
                 frames: m,
@@ -96,12 +92,10 @@ pub fn ring(
         let b = part_of(u, sides.right);
         add_pair(acc, k + m, a, b);
         p = next_place(y, p);
-        let n = next_pace(c);
-        c = n;
-        m = m + 1;
+        c = next_pace(c);
     }
     Reached {
-        frames: m,
+        frames: most,
         place: p,
     }
 }

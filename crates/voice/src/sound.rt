@@ -59,12 +59,8 @@ fn shape(v: Voice, s: Stage, u: i64) -> i64
     ensures { (result ≡ shaped v s u) × Within result 8388610 }
 {
     match s {
-        Stage::Delay { left: _ } => u,
         Stage::Attack { t } => at_level(u, level_at(v.attack, t) as u64),
-        Stage::Hold { t: _ } => u,
-        Stage::Decay { t: _ } => u,
-        Stage::Sustain => u,
-        Stage::Release { from: _, t: _ } => u,
+        _ => u,
     }
 }
 

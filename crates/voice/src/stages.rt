@@ -4,7 +4,6 @@ ghost use Rattle.voice.specs.Internal.Stages.{RoomBy, Roomy};
 ghost use Rattle.voice.specs.Stages.{level_at, decay_at, release_at, envelope, from_decay, from_hold, from_attack, from_delay, entered, dead, waiting, released, spent_by};
 
 use crate::{Stage, Voice};
-use arith::{least, less};
 
 // The attack's level in frame t of n.
 pub fn level_at(n: u32, t: u32) -> u32
@@ -13,7 +12,7 @@ pub fn level_at(n: u32, t: u32) -> u32
     if n == 0 {
         return 0;
     }
-    least(16777216 * (t as u64) / (n as u64), 16777216) as u32
+    (16777216 * (t as u64) / (n as u64)).min(16777216) as u32
 }
 
 // The decay's cB in frame t of n.
@@ -23,7 +22,7 @@ pub fn decay_at(n: u32, z: u16, t: u32) -> u16
     if n == 0 {
         return z;
     }
-    least(1000 * (t as u64) / (n as u64), z as u64) as u16
+    (1000 * (t as u64) / (n as u64)).min(z as u64) as u16
 }
 
 // The release's cB in frame t of n, from a.
@@ -36,23 +35,14 @@ pub fn release_at(n: u32, a: u16, t: u32) -> u64
     (a as u64) + 1000 * (t as u64) / (n as u64)
 }
 
-// A cB as a wider number, as the table of gains takes it.
-pub fn wide(x: u16) -> u64
-    ensures { result ≡ x }
-{
-    x as u64
-}
-
 // The envelope's cB.
 pub fn envelope_of(v: Voice, s: Stage) -> u64
     ensures { (result ≡ envelope v s) × (result < 8796093022208) }
 {
     match s {
-        Stage::Delay { left: _ } => 0,
-        Stage::Attack { t: _ } => 0,
-        Stage::Hold { t: _ } => 0,
-        Stage::Decay { t } => wide(decay_at(v.decay, v.sustain, t)),
-        Stage::Sustain => wide(v.sustain),
+        Stage::Delay { .. } | Stage::Attack { .. } | Stage::Hold { .. } => 0,
+        Stage::Decay { t } => u64::from(decay_at(v.decay, v.sustain, t)),
+        Stage::Sustain => u64::from(v.sustain),
         Stage::Release { from, t } => release_at(v.release, from, t),
     }
 }
@@ -120,9 +110,7 @@ pub fn is_dead(v: Voice, s: Stage) -> bool
     ensures { result ≡ dead v s }
 {
     match s {
-        Stage::Delay { left: _ } => false,
-        Stage::Attack { t: _ } => false,
-        Stage::Hold { t: _ } => false,
+        Stage::Delay { .. } | Stage::Attack { .. } | Stage::Hold { .. } => false,
         Stage::Decay { t } => 1000 <= decay_at(v.decay, v.sustain, t),
         Stage::Sustain => 1000 <= v.sustain,
         Stage::Release { from, t } => 1000 <= release_at(v.release, from, t),
@@ -133,28 +121,14 @@ pub fn is_dead(v: Voice, s: Stage) -> bool
 pub fn is_waiting(s: Stage) -> bool
     ensures { result ≡ waiting s }
 {
-    match s {
-        Stage::Delay { left: _ } => true,
-        Stage::Attack { t: _ } => false,
-        Stage::Hold { t: _ } => false,
-        Stage::Decay { t: _ } => false,
-        Stage::Sustain => false,
-        Stage::Release { from: _, t: _ } => false,
-    }
+    matches!(s, Stage::Delay { .. })
 }
 
 // Released: a loop of mode 3 folds no longer.
 pub fn is_released(s: Stage) -> bool
     ensures { result ≡ released s }
 {
-    match s {
-        Stage::Delay { left: _ } => false,
-        Stage::Attack { t: _ } => false,
-        Stage::Hold { t: _ } => false,
-        Stage::Decay { t: _ } => false,
-        Stage::Sustain => false,
-        Stage::Release { from: _, t: _ } => true,
-    }
+    matches!(s, Stage::Release { .. })
 }
 
 // The stage with m frames more spent.
@@ -164,7 +138,7 @@ pub fn age_by(s: Stage, m: u32) -> Stage
 {
     match s {
         Stage::Delay { left } => Stage::Delay {
-            left: less(left, m),
+            left: left.saturating_sub(m),
         },
         Stage::Attack { t } => Stage::Attack { t: t + m },
         Stage::Hold { t } => Stage::Hold { t: t + m },

@@ -9,7 +9,6 @@ use crate::reading::reading_of;
 use crate::sides::{Sides, part_of};
 use crate::sound::scaled_by;
 use crate::{Stage, Voice};
-use arith::{least, less};
 
 // How far a stretch came.
 #[derive(Clone, Copy)]
@@ -24,7 +23,7 @@ fn bound(end: u64, len: u64, st: u64) -> u64
     ensures clear { (p : ℕ) → p < result → (p / 16777216 + 2 < end) × (p / 16777216 + 2 < len) × (p + st < end * 16777216) }
     ensures size { result ≤ 72057594037927936 }
 {
-    let last = least(end, len);
+    let last = end.min(len);
     if last < 2 {
         return 0;
     }
@@ -32,7 +31,7 @@ fn bound(end: u64, len: u64, st: u64) -> u64
     if all < st {
         return 0;
     }
-    least((last - 2) * 16777216, all - st)
+    ((last - 2) * 16777216).min(all - st)
 }
 
 // The loop's end, or the window's if it does not fold.
@@ -50,18 +49,16 @@ fn is_short(v: Voice, s: Stage, st: u32) -> bool {
     if !is_folding(v, s) {
         return false;
     }
-    (less(v.loopto, v.loopfrom) as u64) * 16777216 < 16 * (st as u64)
+    u64::from(v.loopto.saturating_sub(v.loopfrom)) * 16777216 < 16 * (st as u64)
 }
 
 // A stage in which the level rises, or the gain is another one after less than 16 frames.
 fn is_quick(v: Voice, s: Stage) -> bool {
     match s {
-        Stage::Delay { left: _ } => true,
-        Stage::Attack { t: _ } => true,
-        Stage::Hold { t: _ } => false,
-        Stage::Decay { t: _ } => v.decay < 16000,
-        Stage::Sustain => false,
-        Stage::Release { from: _, t: _ } => v.release < 16000,
+        Stage::Delay { .. } | Stage::Attack { .. } => true,
+        Stage::Hold { .. } | Stage::Sustain => false,
+        Stage::Decay { .. } => v.decay < 16000,
+        Stage::Release { .. } => v.release < 16000,
     }
 }
 
@@ -139,8 +136,9 @@ pub fn glide(
     ensures sums { acc.new ≡ add_at (2 * k) (plains gain sides.left sides.right w.now st from result.frames) acc.old }
     ensures small { Small 1 (plains gain sides.left sides.right w.now st from result.frames) }
 {
-    // one test a frame: the limit, or where the last of so many frames leads
-    let end = least(limit, from + (most as u64) * (st as u64));
+    // One test a frame: the limit, or where the last of so many frames leads. A `while`, since the place that was reached
+    // is wanted behind the loop, and `step_by` does not tell it.
+    let end = limit.min(from + (most as u64) * (st as u64));
     let mut p = from;
     let mut m: usize = 0;
     while p < end {

@@ -3,7 +3,6 @@ ghost use Rattle.std.specs.Prelude.{◌≡◌, ◌<◌, min};
 ghost use Rattle.voice.specs.Internal.Wait.{left_in};
 
 use crate::Stage;
-use arith::least;
 
 // The frames that a delay has left, none in other stages.
 fn left_in(s: Stage) -> u32
@@ -11,11 +10,7 @@ fn left_in(s: Stage) -> u32
 {
     match s {
         Stage::Delay { left } => left,
-        Stage::Attack { t: _ } => 0,
-        Stage::Hold { t: _ } => 0,
-        Stage::Decay { t: _ } => 0,
-        Stage::Sustain => 0,
-        Stage::Release { from: _, t: _ } => 0,
+        _ => 0,
     }
 }
 
@@ -23,5 +18,5 @@ fn left_in(s: Stage) -> u32
 pub fn wait(s: Stage, most: usize) -> usize
     ensures { (result ≡ min (left_in s) most) × (result < 4294967296) }
 {
-    least(left_in(s) as u64, most as u64) as usize
+    (left_in(s) as usize).min(most)
 }

@@ -1,7 +1,7 @@
 -- `lanes` meets its contract.
 use Rattle.std.proofs.Common.{Some, None}
 use mathlib.Core.List.{List, [], ◌∷◌, ◌++◌, map, append_assoc, append-nil}
-use mathlib.Core.Path.{◌≡◌, sym, ap, ◌∙◌}
+use mathlib.Core.Path.{◌≡◌, sym, subst, ap, ◌∙◌}
 use Prim.Native.Nat.{ℕ, suc, ◌+◌, ◌-◌, ◌<◌, ◌≤◌}
 use native.Mathlib.Omega.{arith}
 use native.Mathlib.Numerals.{add-one}
@@ -140,9 +140,6 @@ returns-in-Some c = let a = c.args in
     let r = flawed a.b.now a.count a.from c.loop-k.ticks c.loop-k.entries c.loop-k.at c.loop-k.k c.loop-k.invariant (omega arith) _ _ _ _ (omega arith) c.settled-e.ensures.value t (sym f ∙ g) in
     record { result_value = r.0; lined = lined-way a.b.now _ (way-more a.b.now c.loop-k.k c.loop-k.entries c.loop-k.ticks _ (omega arith) c.loop-k.invariant.way c.settled-e.ensures.settled); flaw = g ∙ r.1 }
 
-pub loop-k-smaller : goal.loop-k-smaller
-loop-k-smaller c = omega arith
-
 pub loop-k-preserved : goal.loop-k-preserved
 loop-k-preserved c = let a = c.args in
     let t = sym c.track_from-h.ensures ∙ c.in-Track.is in
@@ -151,6 +148,7 @@ loop-k-preserved c = let a = c.args in
 
 pub returns : goal.returns
 returns c = let a = c.args in
-    let s = c.loop-k.invariant in
-    let r = all_there a.b.now a.count a.from c.loop-k.ticks c.loop-k.entries c.loop-k.at c.loop-k.k s (omega arith) in
+    let all : c.loop-k.k ≡ a.count = omega arith in
+    let s = subst (λ (k : ℕ). Standing a.b.now a.count a.from c.loop-k.ticks c.loop-k.entries c.loop-k.at k) all c.loop-k.invariant in
+    let r = all_there a.b.now a.count a.from c.loop-k.ticks c.loop-k.entries c.loop-k.at a.count s (omega arith) in
     record { result_value = r.0; lined = lined-way a.b.now _ s.way; flaw = r.1 }

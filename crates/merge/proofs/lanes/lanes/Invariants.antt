@@ -18,6 +18,3 @@ pub record Standing (b : List ℕ) (count from : ℕ) (ticks : List ℕ) (entrie
 
 abbrev pub invariant-loop-k : goal.invariant-loop-k
 invariant-loop-k l = Standing l.b l.count l.from l.ticks l.entries l.at l.k
-
-abbrev pub decreases-loop-k : goal.decreases-loop-k
-decreases-loop-k l = l.count - l.k

@@ -19,10 +19,6 @@ returns-in-Delay c = seen _ _ c.in-Delay.is (none-calm _ _ 0 refl, tt)
 pub returns-in-Attack : goal.returns-in-Attack
 returns-in-Attack c = seen _ _ c.in-Attack.is (none-calm _ _ _ c.calm_attack.ensures.0, c.calm_attack.ensures.1)
 
-pub returns-in-Hold : goal.returns-in-Hold
-returns-in-Hold c = let e = c.less.ensures in
-    seen _ _ c.in-Hold.is (hold-calm _ _ _ (λ z. omega arith), omega arith)
-
 pub returns-in-Decay : goal.returns-in-Decay
 returns-in-Decay c = seen _ _ c.in-Decay.is (decay-calm _ _ _ c.calm_decay.ensures.2 c.calm_decay.ensures.0, c.calm_decay.ensures.1)
 
@@ -31,3 +27,7 @@ returns-in-Sustain c = seen _ _ c.in-Sustain.is (sustain-calm _ 4294967295, tt)
 
 pub returns-in-Release : goal.returns-in-Release
 returns-in-Release c = seen _ _ c.in-Release.is (release-calm _ _ _ _ c.calm_count.ensures.0, c.calm_count.ensures.1)
+
+pub returns-in-Hold : goal.returns-in-Hold
+returns-in-Hold c = let e = c.saturating_sub.ensures in
+    seen _ _ c.in-Hold.is (hold-calm _ _ _ (λ z. omega arith), omega arith)

@@ -2,8 +2,6 @@
 use mathlib.Core.Path.{◌≡◌}
 use Prim.Native.Nat.{◌-◌, ◌*◌, ◌≤◌}
 use lib.ListN.{length}
-use mir.Syntax.{w64}
-use mir.Val.{to_z}
 use Rattle.voice.specs.Internal.Frames.{after_at, heard_at}
 use Rattle.voice.specs.Internal.Sums.{add_to, Small}
 use Rattle.voice.proofs.frames.run_at.Given as goal

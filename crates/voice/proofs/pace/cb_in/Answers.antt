@@ -5,21 +5,8 @@ use Rattle.voice.specs.declared.Stage.{Stage}
 use Rattle.voice.specs.Internal.Pace.{cb_in}
 use Rattle.voice.proofs.pace.cb_in.Goals as goal
 
-pub returns-in-Delay : goal.returns-in-Delay
-returns-in-Delay c = let a = c.args in (sym (ap (λ (s : Stage). cb_in a.v s a.value) c.in-Delay.is), omega arith)
-
-pub returns-in-Attack : goal.returns-in-Attack
-returns-in-Attack c = let a = c.args in (sym (ap (λ (s : Stage). cb_in a.v s a.value) c.in-Attack.is), omega arith)
-
-pub returns-in-Hold : goal.returns-in-Hold
-returns-in-Hold c = let a = c.args in (sym (ap (λ (s : Stage). cb_in a.v s a.value) c.in-Hold.is), omega arith)
-
 pub returns-in-Decay : goal.returns-in-Decay
 returns-in-Decay c = let a = c.args in (sym (ap (λ (s : Stage). cb_in a.v s a.value) c.in-Decay.is), omega (arith, c.requires))
-
-pub returns-in-Sustain : goal.returns-in-Sustain
-returns-in-Sustain c = let a = c.args in
-    (c.wide.ensures ∙ sym (ap (λ (s : Stage). cb_in a.v s a.value) c.in-Sustain.is), omega arith)
 
 pub returns-in-Release : goal.returns-in-Release
 returns-in-Release c = let a = c.args in

@@ -1,7 +1,5 @@
 use mathlib.Core.Path.{refl}
 use native.Mathlib.Omega.{arith}
-use Rattle.voice.proofs.pace.fallen.Reads as reads
-use Rattle.voice.proofs.pace.fallen.Lts as lts
 use Rattle.voice.proofs.pace.fallen.Goals as goal
 
 -- src/pace.rt:125:1

@@ -1,6 +1,5 @@
 -- The stop, by the stage: each return by that case of `stop_in`.
 use mathlib.Core.Path.{sym, ap, ◌∙◌}
-use Prim.Native.Nat.{ℕ, min}
 use native.Mathlib.Omega.{arith}
 use Rattle.voice.specs.Internal.Pace.{stop_if, stop_in}
 use Rattle.voice.proofs.pace.stop_of.Goals as goal
@@ -15,13 +14,6 @@ returns-in-Attack c = let a = c.args in
 pub returns-in-Hold : goal.returns-in-Hold
 returns-in-Hold c = let a = c.args in
     (sym (ap (stop_in a.v) c.in-Hold.is), omega arith)
-
-pub returns-in-Decay : goal.returns-in-Decay
-returns-in-Decay c = let a = c.args in
-    let e = c.least.ensures ∙ ap (λ (n : ℕ). min n 1000) c.wide.ensures in (
-      c.stop_if-in-Decay.ensures.0 ∙ ap (stop_if a.v.decay) e ∙ sym (ap (stop_in a.v) c.in-Decay.is),
-      omega (arith, c.stop_if-in-Decay.ensures.1, c.least.ensures),
-    )
 
 pub returns-in-Sustain : goal.returns-in-Sustain
 returns-in-Sustain c = let a = c.args in

@@ -16,16 +16,6 @@ returns-in-Attack c = let v = c.args.v in
 pub returns-in-Hold : goal.returns-in-Hold
 returns-in-Hold c = sym (ap (stage_shown c.args.v) c.in-Hold.is)
 
-pub returns-in-Decay : goal.returns-in-Decay
-returns-in-Decay c = let v = c.args.v in
-    ap is.Decay (c.gain_unit.ensures ∙ ap (λ (a : ℕ). level_of (gain_of a)) (c.wide.ensures ∙ c.decay_at.ensures))
-    ∙ sym (ap (stage_shown v) c.in-Decay.is)
-
-pub returns-in-Sustain : goal.returns-in-Sustain
-returns-in-Sustain c = let v = c.args.v in
-    ap is.Sustain (c.gain_unit-in-Sustain.ensures ∙ ap (λ (a : ℕ). level_of (gain_of a)) c.wide-in-Sustain.ensures)
-    ∙ sym (ap (stage_shown v) c.in-Sustain.is)
-
 pub returns-in-Release : goal.returns-in-Release
 returns-in-Release c = let v = c.args.v in
     ap is.Release (c.gain_unit-in-Release.ensures ∙ ap (λ (a : ℕ). level_of (gain_of a)) c.release_at.ensures.0)

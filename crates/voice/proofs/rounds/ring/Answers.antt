@@ -3,7 +3,7 @@ use mathlib.Core.Path.{◌≡◌, refl, sym, ap, ap₂, ◌∙◌, subst}
 use mathlib.Core.Bool.{Bool, true, false, ◌||◌}
 use mathlib.Core.List.{List, [], ◌∷◌, ◌++◌}
 use mathlib.Core.Logic.{⊎_elim}
-use Prim.Native.Nat.{ℕ, ◌+◌, ◌-◌, ◌*◌, ◌<◌, ◌≤◌}
+use Prim.Native.Nat.{ℕ, ◌+◌, ◌*◌, ◌<◌, ◌≤◌}
 use native.Mathlib.Numerals.{add-one}
 use native.Mathlib.Omega.{arith}
 use borrow.Author.Tests.{leb-false}
@@ -56,7 +56,6 @@ more v s y m j h k q =
 pub loop-m-init : goal.loop-m-init
 unfolding rings place_on
 loop-m-init c = let a = c.args in (
-  omega arith,
   refl,
   λ j h. absurd (no j h),
   subst (λ (x : Stage). PaceAt a.v x c.pace_of-c.result) (sym (spent-none a.s)) c.pace_of-c.ensures,
@@ -71,9 +70,9 @@ loop-m-init c = let a = c.args in (
 pub returns-then-is_over : goal.returns-then-is_over
 returns-then-is_over c = let stage : Stage = spent_by c.loop-m.m c.args.s in
     let value : ℕ = c.loop-m.c.value in
-    let at : value ≡ value_in c.args.v stage = paced-value (whole_in stage) (frames_in c.args.v stage) (whole_in stage * spent_in stage) c.loop-m.c c.loop-m.invariant.3 in
+    let at : value ≡ value_in c.args.v stage = paced-value (whole_in stage) (frames_in c.args.v stage) (whole_in stage * spent_in stage) c.loop-m.c c.loop-m.invariant.2 in
     let b = w-back w64 c.requires.loss (lit< tt) in
-    record { count = c.loop-m.invariant.0; place = (c.loop-m.invariant.1, c.loop-m.invariant.2); sums = rw b at c.loop-m.invariant.6; small = rw b at c.loop-m.invariant.9 }
+    record { count = c.loop-m.auto.m-end; place = (c.loop-m.invariant.0, c.loop-m.invariant.1); sums = rw b at c.loop-m.invariant.5; small = rw b at c.loop-m.invariant.8 }
 
 pub cb_in-e-requires : goal.cb_in-e-requires
 cb_in-e-requires c = let value : ℕ = c.loop-m.c.value in
@@ -84,7 +83,7 @@ cb_in-e-requires c = let value : ℕ = c.loop-m.c.value in
 
 pub regain-known-requires : goal.regain-known-requires
 regain-known-requires c = let b = w-back w64 c.requires.loss (lit< tt) in
-    record { loss = (rw b c.requires.loss, c.cb_in-e.ensures.1); known = (c.loop-m.invariant.4, c.loop-m.invariant.5) }
+    record { loss = (rw b c.requires.loss, c.cb_in-e.ensures.1); known = (c.loop-m.invariant.3, c.loop-m.invariant.4) }
 
 pub rung_at-u-requires : goal.rung_at-u-requires
 rung_at-u-requires c = let value : ℕ = c.loop-m.c.value in
@@ -101,17 +100,17 @@ part_of-b-requires c = (rw (w-back w64 c.rung_at-u.ensures.1 (lit< tt)) c.rung_a
 pub overflow_add-k : goal.overflow_add-k
 overflow_add-k c = let long : length c.args.acc.now < 9223372036854775808 = omega arith in
     let turning : c.loop-m.m < c.args.most = c.loop-m-test.true in
-    let room : (2 * (c.args.k + c.loop-m.m) + 1 < length c.loop-m.acc) × (length c.loop-m.acc < 9223372036854775808) = (omega (arith, turning, c.loop-m.invariant.7, c.loop-m.invariant.8), omega (arith, c.loop-m.invariant.7, long)) in
+    let room : (2 * (c.args.k + c.loop-m.m) + 1 < length c.loop-m.acc) × (length c.loop-m.acc < 9223372036854775808) = (omega (arith, turning, c.loop-m.invariant.6, c.loop-m.invariant.7), omega (arith, c.loop-m.invariant.6, long)) in
     omega (arith, room)
 
 pub add_pair-requires : goal.add_pair-requires
 add_pair-requires c = let long : length c.args.acc.now < 9223372036854775808 = omega arith in
     let turning : c.loop-m.m < c.args.most = c.loop-m-test.true in
-    let room : (2 * (c.args.k + c.loop-m.m) + 1 < length c.loop-m.acc) × (length c.loop-m.acc < 9223372036854775808) = (omega (arith, turning, c.loop-m.invariant.7, c.loop-m.invariant.8), omega (arith, c.loop-m.invariant.7, long)) in
+    let room : (2 * (c.args.k + c.loop-m.m) + 1 < length c.loop-m.acc) × (length c.loop-m.acc < 9223372036854775808) = (omega (arith, turning, c.loop-m.invariant.6, c.loop-m.invariant.7), omega (arith, c.loop-m.invariant.6, long)) in
     let loss : ℤ = to_z w64 (of_z w64 c.args.l) in
     let xs : List ℤ = rings loss c.args.sides.left c.args.sides.right c.args.w.now c.args.v c.args.s c.args.y c.loop-m.m in
     let xs-length : length xs ≡ 2 * c.loop-m.m = rings-length loss c.args.sides.left c.args.sides.right c.args.w.now c.args.v c.args.s c.args.y c.loop-m.m in
-    let behind : (j : ℕ) → 2 * (c.args.k + c.loop-m.m) ≤ j → get_or c.loop-m.acc j (pos 0) ≡ get_or c.args.acc.now j (pos 0) = λ j h. ap (λ (q : List ℤ). get_or q j (pos 0)) c.loop-m.invariant.6
+    let behind : (j : ℕ) → 2 * (c.args.k + c.loop-m.m) ≤ j → get_or c.loop-m.acc j (pos 0) ≡ get_or c.args.acc.now j (pos 0) = λ j h. ap (λ (q : List ℤ). get_or q j (pos 0)) c.loop-m.invariant.5
     ∙ add-beyond (2 * c.args.k) xs c.args.acc.now j (omega (arith, xs-length)) in
     let u = c.part_of-b.ensures.1 in
     let t = c.part_of-a.ensures.1 in
@@ -124,38 +123,28 @@ next_place-p-requires c = let value : ℕ = c.loop-m.c.value in
     let k = c.requires.way in
     (omega (arith, below, k.0), k.1, k.2)
 
-pub next_pace-n-requires : goal.next_pace-n-requires
-next_pace-n-requires c = let stage : Stage = spent_by c.loop-m.m c.args.s in
+pub next_pace-c-requires : goal.next_pace-c-requires
+next_pace-c-requires c = let stage : Stage = spent_by c.loop-m.m c.args.s in
     let value : ℕ = c.loop-m.c.value in
     let tests : (leb c.args.y.limit c.loop-m.p ≡ false) × (leb c.stop_of-stop.result value ≡ false) = neither _ _ (sym c.is_over.ensures ∙ c.if-is_over.false) in
     let small : value < 4294967296 = let h : value < c.stop_of-stop.result = leb-false _ _ tests.1 in
     omega (arith, h, c.stop_of-stop.ensures.1) in
-    let i = c.loop-m.invariant.3 in
+    let i = c.loop-m.invariant.2 in
     let whole = whole_in (stage) in
     let b = by_le whole (frames_in c.args.v (stage)) (whole * spent_in (stage)) c.loop-m.c i in
     (omega (arith, small), omega (arith, i.over, i.size.1), omega (arith, b, whole_le (stage)), omega (arith, i.more, i.size.1))
-
-pub overflow_add-m : goal.overflow_add-m
-overflow_add-m c = let long : length c.args.acc.now < 9223372036854775808 = omega arith in
-    let turning : c.loop-m.m < c.args.most = c.loop-m-test.true in
-    let room : (2 * (c.args.k + c.loop-m.m) + 1 < length c.loop-m.acc) × (length c.loop-m.acc < 9223372036854775808) = (omega (arith, turning, c.loop-m.invariant.7, c.loop-m.invariant.8), omega (arith, c.loop-m.invariant.7, long)) in
-    omega (arith, room)
-
-pub loop-m-smaller : goal.loop-m-smaller
-loop-m-smaller c = let turning : c.loop-m.m < c.args.most = c.loop-m-test.true in
-    omega (arith, turning)
 
 pub loop-m-preserved : goal.loop-m-preserved
 unfolding place_on
 loop-m-preserved c = let stage : Stage = spent_by c.loop-m.m c.args.s in
     let value : ℕ = c.loop-m.c.value in
-    let at : value ≡ value_in c.args.v stage = paced-value (whole_in stage) (frames_in c.args.v stage) (whole_in stage * spent_in stage) c.loop-m.c c.loop-m.invariant.3 in
+    let at : value ≡ value_in c.args.v stage = paced-value (whole_in stage) (frames_in c.args.v stage) (whole_in stage * spent_in stage) c.loop-m.c c.loop-m.invariant.2 in
     let turning : c.loop-m.m < c.args.most = c.loop-m-test.true in
     let tests : (leb c.args.y.limit c.loop-m.p ≡ false) × (leb c.stop_of-stop.result value ≡ false) = neither _ _ (sym c.is_over.ensures ∙ c.if-is_over.false) in
     let below : c.loop-m.p < c.args.y.limit = leb-false _ _ tests.0 in
     let early : value < stop_in c.args.v c.args.s = subst (λ (x : ℕ). value < x) c.stop_of-stop.ensures.0 (leb-false _ _ tests.1) in
     let goes : Goes c.args.v c.args.s c.args.y c.loop-m.m = (
-      subst (λ (x : ℕ). x < c.args.y.limit) c.loop-m.invariant.1 below,
+      subst (λ (x : ℕ). x < c.args.y.limit) c.loop-m.invariant.0 below,
       subst (λ (x : ℕ). x < stop_in c.args.v c.args.s) at early,
     ) in
     let loss : ℤ = to_z w64 (of_z w64 c.args.l) in
@@ -169,7 +158,7 @@ loop-m-preserved c = let stage : Stage = spent_by c.loop-m.m c.args.s in
     let gain = c.regain-known.ensures.0 ∙ ap (λ (x : ℕ). gain_of (whole_loss loss x)) c.cb_in-e.ensures.0 in
     c.rung_at-u.ensures.0
     ∙ ap (λ (x : ℕ). rung x w v s c.loop-m.p (value)) gain
-    ∙ ap₂ (λ (p x : ℕ). rung (gain_of (whole_loss loss (cb_in v s x))) w v s p x) c.loop-m.invariant.1 (at) in
+    ∙ ap₂ (λ (p x : ℕ). rung (gain_of (whole_loss loss (cb_in v s x))) w v s p x) c.loop-m.invariant.0 (at) in
     let turn : rings loss c.args.sides.left c.args.sides.right c.args.w.now c.args.v c.args.s c.args.y (c.loop-m.m + 1) ≡ xs ++ (lefts ∷ rights ∷ []) = let b = w-back w64 c.rung_at-u.ensures.1 (lit< tt) in
     let x = rw b at c.part_of-a.ensures.0 ∙ ap (λ (z : ℤ). part z c.args.sides.left) rang in
     let y = rw b at c.part_of-b.ensures.0 ∙ ap (λ (z : ℤ). part z c.args.sides.right) rang in
@@ -181,25 +170,27 @@ loop-m-preserved c = let stage : Stage = spent_by c.loop-m.m c.args.s in
     let whole = whole_in (stage) in
     let e =
     rw (w-back w32 c.part_of-a.ensures.1 (lit< tt), w-back w32 c.part_of-b.ensures.1 (lit< tt)) at c.add_pair.ensures
-    ∙ ap (add_at n (lefts ∷ rights ∷ [])) c.loop-m.invariant.6
+    ∙ ap (add_at n (lefts ∷ rights ∷ [])) c.loop-m.invariant.5
     ∙ add-after (2 * a.k) n (xs) (lefts ∷ rights ∷ []) a.acc.now (omega (arith, xs-length))
     ∙ ap (λ (zs : List ℤ). add_at (2 * a.k) zs a.acc.now) (sym (turn)) in
-    let paced = pace-on a.v (stage) c.next_pace-n.result (c.next_pace-n.ensures whole (frames_in a.v (stage)) (whole * spent_in (stage)) c.loop-m.invariant.3) in (
-      omega (arith, turning),
-      c.next_place-p.ensures ∙ ap (next_place a.y) c.loop-m.invariant.1 ∙ ap (place_on a.y a.v.place) (sym (add-one m)),
-      λ j h. more a.v a.s a.y m j c.loop-m.invariant.2 (goes) h,
-      subst (λ (x : Stage). PaceAt a.v x c.next_pace-n.result) (spent-by m a.s ∙ ap (λ (x : ℕ). spent_by x a.s) (sym (add-one m))) paced,
+    let paced = pace-on a.v (stage) c.next_pace-c.result (c.next_pace-c.ensures whole (frames_in a.v (stage)) (whole * spent_in (stage)) c.loop-m.invariant.2) in (
+      c.next_place-p.ensures ∙ ap (next_place a.y) c.loop-m.invariant.0 ∙ ap (place_on a.y a.v.place) (sym (add-one m)),
+      λ j h. more a.v a.s a.y m j c.loop-m.invariant.1 (goes) h,
+      subst (λ (x : Stage). PaceAt a.v x c.next_pace-c.result) (spent-by m a.s ∙ ap (λ (x : ℕ). spent_by x a.s) (sym (add-one m))) paced,
       c.regain-known.ensures.0,
       c.regain-known.ensures.1,
       e,
       ap length e ∙ add_at-length (2 * a.k) (rings (loss) a.sides.left a.sides.right a.w.now a.v a.s a.y (m + 1)) a.acc.now,
-      c.loop-m.invariant.8,
-      subst (Small 1) (sym (turn)) (small-two (xs) (lefts) (rights) c.loop-m.invariant.9 c.part_of-a.ensures.1 c.part_of-b.ensures.1),
+      c.loop-m.invariant.7,
+      subst (Small 1) (sym (turn)) (small-two (xs) (lefts) (rights) c.loop-m.invariant.8 c.part_of-a.ensures.1 c.part_of-b.ensures.1),
     )
 
 pub returns : goal.returns
-returns c = let stage : Stage = spent_by c.loop-m.m c.args.s in
-    let value : ℕ = c.loop-m.c.value in
-    let at : value ≡ value_in c.args.v stage = paced-value (whole_in stage) (frames_in c.args.v stage) (whole_in stage * spent_in stage) c.loop-m.c c.loop-m.invariant.3 in
-    let b = w-back w64 c.requires.loss (lit< tt) in
-    record { count = c.loop-m.invariant.0; place = (c.loop-m.invariant.1, c.loop-m.invariant.2); sums = rw b at c.loop-m.invariant.6; small = rw b at c.loop-m.invariant.9 }
+returns c = let b = w-back w64 c.requires.loss (lit< tt) in
+    let e : c.loop-m.m ≡ c.args.most = omega arith in
+    record {
+      count = omega arith;
+      place = rw (← e) (c.loop-m.invariant.0, c.loop-m.invariant.1);
+      sums = rw (← e) (rw b at c.loop-m.invariant.5);
+      small = rw (← e) (rw b at c.loop-m.invariant.8);
+    }

@@ -2,8 +2,6 @@
 use mathlib.Core.Path.{◌≡◌}
 use Prim.Native.Nat.{ℕ, ◌+◌, ◌-◌, ◌*◌, ◌<◌, ◌≤◌}
 use lib.ListN.{length}
-use mir.Syntax.{w64}
-use mir.Val.{to_z}
 use Rattle.curves.specs.Levels.{gain_of}
 use Rattle.voice.specs.declared.Stage.{Stage}
 use Rattle.voice.specs.declared.Voice.{Voice}
@@ -21,8 +19,7 @@ abbrev pub Goes : Voice → Stage → Way → ℕ → Type 0
 Goes v s y j = (place_on y v.place j < y.limit) × (value_in v (spent_by j s) < stop_in v s)
 
 abbrev pub invariant-loop-m : goal.invariant-loop-m
-invariant-loop-m l = (l.m ≤ l.most)
-    × (l.p ≡ place_on l.y l.v.place l.m)
+invariant-loop-m l = (l.p ≡ place_on l.y l.v.place l.m)
     × ((j : ℕ) → j < l.m → Goes l.v l.s l.y j)
     × PaceAt l.v (spent_by l.m l.s) l.c
     × (l.known ≡ gain_of (whole_loss l.l l.cb))
@@ -31,6 +28,3 @@ invariant-loop-m l = (l.m ≤ l.most)
     × (length l.acc ≡ length l.initial.acc)
     × (2 * (l.k + l.most) ≤ length l.initial.acc)
     × Small 1 (rings l.l l.sides.left l.sides.right l.w l.v l.s l.y l.m)
-
-abbrev pub decreases-loop-m : goal.decreases-loop-m
-decreases-loop-m l = l.most - l.m

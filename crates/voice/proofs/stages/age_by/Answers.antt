@@ -1,7 +1,6 @@
 -- Frames more spent, by the stage: each return by that case of `spent_by`, and the count fits by `RoomBy`.
-use mathlib.Core.Path.{sym, ap, ◌∙◌, subst}
+use mathlib.Core.Path.{sym, ap, subst}
 use native.Mathlib.Omega.{arith}
-use Rattle.voice.specs.declared.Stage.TheVariants.{Delay}
 use Rattle.voice.specs.Internal.Stages.{RoomBy}
 use Rattle.voice.specs.Stages.{spent_by}
 use Rattle.voice.proofs.stages.age_by.Goals as goal
@@ -17,9 +16,6 @@ overflow_add-result-in-Decay c = let h = subst (RoomBy c.args.m) c.in-Decay.is c
 
 pub overflow_add-result-in-Release : goal.overflow_add-result-in-Release
 overflow_add-result-in-Release c = let h = subst (RoomBy c.args.m) c.in-Release.is c.requires in omega (arith, h)
-
-pub returns-in-Delay : goal.returns-in-Delay
-returns-in-Delay c = ap Delay c.less.ensures ∙ sym (ap (spent_by c.args.m) c.in-Delay.is)
 
 pub returns-in-Attack : goal.returns-in-Attack
 returns-in-Attack c = sym (ap (spent_by c.args.m) c.in-Attack.is)

@@ -9,4 +9,4 @@ returns-then-n-eq0 c = simp (eq-eqb _ _ c.if-n-eq0.true)
 
 pub returns : goal.returns
 unfolding decay_at
-returns c = simp (ne_eqb c.args.n 0 c.if-n-eq0.false) c.least.ensures
+returns c = simp (ne_eqb c.args.n 0 c.if-n-eq0.false) c.min.ensures

@@ -4,15 +4,6 @@ use mathlib.Core.Path.{sym, ap, ◌∙◌}
 use Rattle.voice.specs.Stages.{dead}
 use Rattle.voice.proofs.stages.is_dead.Goals as goal
 
-pub returns-in-Delay : goal.returns-in-Delay
-returns-in-Delay c = sym (ap (dead c.args.v) c.in-Delay.is)
-
-pub returns-in-Attack : goal.returns-in-Attack
-returns-in-Attack c = sym (ap (dead c.args.v) c.in-Attack.is)
-
-pub returns-in-Hold : goal.returns-in-Hold
-returns-in-Hold c = sym (ap (dead c.args.v) c.in-Hold.is)
-
 pub returns-in-Decay : goal.returns-in-Decay
 returns-in-Decay c = let a = c.args in
     ap (leb 1000) c.decay_at.ensures ∙ sym (ap (dead a.v) c.in-Decay.is)

@@ -13,4 +13,4 @@ returns-then-n-eq0 c = let a = c.args in
 
 pub returns : goal.returns
 unfolding level_at
-returns c = (c.least.ensures, omega (arith, c.least.ensures))
+returns c = (c.min.ensures, omega (arith, c.min.ensures))

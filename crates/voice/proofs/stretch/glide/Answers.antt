@@ -1,6 +1,6 @@
 -- A turn adds one plain frame behind those that are added.
 use mathlib.Core.Path.{◌≡◌, refl, sym, ap, ap₂, ◌∙◌, subst}
-use Prim.Native.Nat.{ℕ, zero, suc, ◌+◌, ◌-◌, ◌*◌, ◌/◌, ◌%◌, ◌<◌, ◌≤◌, min}
+use Prim.Native.Nat.{ℕ, zero, suc, ◌+◌, ◌*◌, ◌/◌, ◌%◌, ◌<◌, ◌≤◌, min}
 use mathlib.Core.List.{List, [], ◌∷◌, ◌++◌}
 use mathlib.Core.Logic.{⊎_elim}
 use native.Mathlib.Nat.{zero-mul, suc-mul, zero-lt-suc, mul-pos, mul-le-mul, lt_of_mul-lt-mul_right}
@@ -68,7 +68,7 @@ loop-p-init c = let a = c.args in
 
 pub read_on-x-requires : goal.read_on-x-requires
 read_on-x-requires c = let a = c.args in
-    let t : c.loop-p.p < a.limit = omega (arith, c.loop-p-test.true, c.least-end.ensures) in
+    let t : c.loop-p.p < a.limit = omega (arith, c.loop-p-test.true, c.min-end.ensures) in
     (omega (arith, c.loop-p.invariant.1, c.requires.begins.1), c.requires.window.1 c.loop-p.p t)
 
 pub scaled_by-u-requires : goal.scaled_by-u-requires
@@ -81,16 +81,16 @@ pub part_of-b-requires : goal.part_of-b-requires
 part_of-b-requires c = (rw (w-back w64 c.scaled_by-u.ensures.1 (lit< tt)) (w_le c.scaled_by-u.ensures.1 (lit≤ tt)), c.requires.level.2)
 
 pub overflow_add-k : goal.overflow_add-k
-overflow_add-k c = let early : c.loop-p.p < c.least-end.result = c.loop-p-test.true in
+overflow_add-k c = let early : c.loop-p.p < c.min-end.result = c.loop-p-test.true in
     let turning : c.loop-p.m < c.args.most = let a = c.args in
-    sooner a.from a.st a.most c.loop-p.m c.loop-p.p c.loop-p.invariant.1 (omega (arith, early, c.least-end.ensures)) in
+    sooner a.from a.st a.most c.loop-p.m c.loop-p.p c.loop-p.invariant.1 (omega (arith, early, c.min-end.ensures)) in
     let room : (2 * (c.args.k + c.loop-p.m) + 1 < length c.loop-p.acc) × (length c.loop-p.acc < 9223372036854775808) = (omega (arith, turning, c.loop-p.invariant.4, c.loop-p.invariant.5), omega (arith, c.loop-p.invariant.4, c.loop-p.invariant.5)) in
     omega (arith, room)
 
 pub add_pair-requires : goal.add_pair-requires
-add_pair-requires c = let early : c.loop-p.p < c.least-end.result = c.loop-p-test.true in
+add_pair-requires c = let early : c.loop-p.p < c.min-end.result = c.loop-p-test.true in
     let turning : c.loop-p.m < c.args.most = let a = c.args in
-    sooner a.from a.st a.most c.loop-p.m c.loop-p.p c.loop-p.invariant.1 (omega (arith, early, c.least-end.ensures)) in
+    sooner a.from a.st a.most c.loop-p.m c.loop-p.p c.loop-p.invariant.1 (omega (arith, early, c.min-end.ensures)) in
     let room : (2 * (c.args.k + c.loop-p.m) + 1 < length c.loop-p.acc) × (length c.loop-p.acc < 9223372036854775808) = (omega (arith, turning, c.loop-p.invariant.4, c.loop-p.invariant.5), omega (arith, c.loop-p.invariant.4, c.loop-p.invariant.5)) in
     let xs : List ℤ = plains c.args.gain c.args.sides.left c.args.sides.right c.args.w.now c.args.st c.args.from c.loop-p.m in
     let xs-length : length xs ≡ 2 * c.loop-p.m = plains-length c.args.gain c.args.sides.left c.args.sides.right c.args.w.now c.args.st c.args.from c.loop-p.m in
@@ -101,19 +101,19 @@ add_pair-requires c = let early : c.loop-p.p < c.least-end.result = c.loop-p-tes
     record { sums = (omega (arith, room), λ j h. subst (λ (z : ℤ). Within z (31 * loudest)) (sym (behind j h)) (c.requires.sums.1 j (omega arith))); pair = (rw (w-back w32 t (lit< tt)) t, rw (w-back w32 u (lit< tt)) u) }
 
 pub overflow_add-p : goal.overflow_add-p
-overflow_add-p c = let early : c.loop-p.p < c.least-end.result = c.loop-p-test.true in
-    let below : c.loop-p.p < c.args.limit = omega (arith, early, c.least-end.ensures) in
+overflow_add-p c = let early : c.loop-p.p < c.min-end.result = c.loop-p-test.true in
+    let below : c.loop-p.p < c.args.limit = omega (arith, early, c.min-end.ensures) in
     omega (arith, below, c.requires.window.0)
 
 pub overflow_add-m : goal.overflow_add-m
-overflow_add-m c = let early : c.loop-p.p < c.least-end.result = c.loop-p-test.true in
+overflow_add-m c = let early : c.loop-p.p < c.min-end.result = c.loop-p-test.true in
     let turning : c.loop-p.m < c.args.most = let a = c.args in
-    sooner a.from a.st a.most c.loop-p.m c.loop-p.p c.loop-p.invariant.1 (omega (arith, early, c.least-end.ensures)) in
+    sooner a.from a.st a.most c.loop-p.m c.loop-p.p c.loop-p.invariant.1 (omega (arith, early, c.min-end.ensures)) in
     let room : (2 * (c.args.k + c.loop-p.m) + 1 < length c.loop-p.acc) × (length c.loop-p.acc < 9223372036854775808) = (omega (arith, turning, c.loop-p.invariant.4, c.loop-p.invariant.5), omega (arith, c.loop-p.invariant.4, c.loop-p.invariant.5)) in
     omega (arith, room)
 
 pub loop-p-smaller : goal.loop-p-smaller
-loop-p-smaller c = let early : c.loop-p.p < c.least-end.result = c.loop-p-test.true in
+loop-p-smaller c = let early : c.loop-p.p < c.min-end.result = c.loop-p-test.true in
     omega (arith, early, c.requires.begins.0)
 
 pub loop-p-preserved : goal.loop-p-preserved
@@ -122,10 +122,10 @@ loop-p-preserved c = let xs : List ℤ = plains c.args.gain c.args.sides.left c.
     let lefts : ℤ = c.part_of-a.result in
     let rights : ℤ = c.part_of-b.result in
     let xs-length : length xs ≡ 2 * c.loop-p.m = plains-length c.args.gain c.args.sides.left c.args.sides.right c.args.w.now c.args.st c.args.from c.loop-p.m in
-    let early : c.loop-p.p < c.least-end.result = c.loop-p-test.true in
-    let below : c.loop-p.p < c.args.limit = omega (arith, early, c.least-end.ensures) in
+    let early : c.loop-p.p < c.min-end.result = c.loop-p-test.true in
+    let below : c.loop-p.p < c.args.limit = omega (arith, early, c.min-end.ensures) in
     let turning : c.loop-p.m < c.args.most = let a = c.args in
-    sooner a.from a.st a.most c.loop-p.m c.loop-p.p c.loop-p.invariant.1 (omega (arith, early, c.least-end.ensures)) in
+    sooner a.from a.st a.most c.loop-p.m c.loop-p.p c.loop-p.invariant.1 (omega (arith, early, c.min-end.ensures)) in
     let value : c.scaled_by-u.result ≡ plain c.args.gain c.args.w.now (c.args.from + c.loop-p.m * c.args.st) = let g = c.args.gain in
     let w = c.args.w.now in
     rw (w-back w64 c.read_on-x.ensures.1 (lit< tt)) at c.scaled_by-u.ensures.0
@@ -156,4 +156,4 @@ loop-p-preserved c = let xs : List ℤ = plains c.args.gain c.args.sides.left c.
 
 pub returns : goal.returns
 returns c = let a = c.args in
-    record { count = (c.loop-p.invariant.0, λ z. first c.loop-p.m a.most c.loop-p.p a.from a.st a.limit c.least-end.result c.loop-p.invariant.1 c.least-end.ensures c.loop-p-test.false c.requires.begins.2 c.requires.begins.0 z); place = (c.loop-p.invariant.1, c.loop-p.invariant.2); sums = c.loop-p.invariant.3; small = c.loop-p.invariant.6 }
+    record { count = (c.loop-p.invariant.0, λ z. first c.loop-p.m a.most c.loop-p.p a.from a.st a.limit c.min-end.result c.loop-p.invariant.1 c.min-end.ensures c.loop-p-test.false c.requires.begins.2 c.requires.begins.0 z); place = (c.loop-p.invariant.1, c.loop-p.invariant.2); sums = c.loop-p.invariant.3; small = c.loop-p.invariant.6 }

@@ -6,7 +6,4 @@ use Rattle.curves.specs.Internal.Levels.{kept}
 use Rattle.curves.proofs.levels.GainTable.louder.Given as goal
 
 abbrev pub invariant-loop-i : goal.invariant-loop-i
-invariant-loop-i l = (l.i ≤ 200) × ((b : ℕ) → b < l.i → l.m < kept b)
-
-abbrev pub decreases-loop-i : goal.decreases-loop-i
-decreases-loop-i l = 200 - l.i
+invariant-loop-i l = (b : ℕ) → b < l.i → l.m < kept b

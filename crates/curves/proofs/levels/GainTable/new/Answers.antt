@@ -25,10 +25,10 @@ turn t₀ t a x n h e q =
     rw (e, put (take a gains) t₀ a x 0 l k, q, s)
 
 pub loop-a-init : goal.loop-a-init
-loop-a-init c = (refl, refl, omega arith)
+loop-a-init c = (refl, refl)
 
 pub loop-a-preserved : goal.loop-a-preserved
 unfolding high_of low_of
 loop-a-preserved c = let l = c.loop-a in
     let h : l.a < 200 = omega arith in
-    (l.invariant.0, turn _ l.entries l.a c.joined.result l.invariant.0 h l.invariant.1 (c.joined.ensures ∙ parts_join l.a h), omega arith)
+    (l.invariant.0, turn _ l.entries l.a c.joined.result l.invariant.0 h l.invariant.1 (c.joined.ensures ∙ parts_join l.a h))
