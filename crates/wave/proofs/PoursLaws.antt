@@ -17,6 +17,7 @@ use Rattle.arith.proofs.Loops.{any-turn}
 use Rattle.arith.proofs.Put.{put, put2}
 use Rattle.arith.specs.Floors.{mod_z}
 use Rattle.arith.specs.Lists.{any_of}
+use Rattle.std.specs.List.{list_any}
 use Rattle.wave.specs.Headings.{in_two}
 use Rattle.wave.specs.Pcm.{is_output, pcm_of}
 use Rattle.wave.specs.Pours.{is_broken, is_other, pcm_bytes, poured_into, poured_of, pour_number}
@@ -155,3 +156,8 @@ pub pour-done : (xs : List Float) (out o : List ℕ) → is_broken xs ≡ false 
 pour-done xs out o e h q =
     let n = pour-0 xs (length out) e h in
     (sym n, q ∙ ap (λ (k : ℕ). poured_of xs ++ drop k out) (zero-add (2 * length xs)) ∙ sym (poured-0 xs out n))
+
+-- whether one of the numbers is none, by the library's word
+pub any_is : (xs : List Float) → list_any is_other xs ≡ any_of is_other xs
+any_is [] = refl
+any_is (x ∷ xs) = ap (λ (b : Bool). is_other x || b) (any_is xs)

@@ -1,5 +1,5 @@
 -- What is told of a call tells its answers apart.
-use Rattle.std.proofs.Common.{◌≡◌, ℕ, Result, Ok, Err, refl, sym, ap, ap₂, arith}
+use Rattle.std.proofs.Common.{◌≡◌, ℕ, Result, Ok, Err, refl, sym, ap, arith}
 use Rattle.wave.specs.declared.answers.Poured.{Poured}
 use Rattle.wave.specs.declared.answers.Refusal.{Refusal}
 use Rattle.wave.specs.declared.answers.Refusal.TheVariants.{NotOutput, TooLong, NoRoom, NotRecording}

@@ -74,11 +74,7 @@ pub fn put(head: &[u8], out: &mut [u8])
     requires room { 44 ≤ length out.old }
     ensures { out.new ≡ head.now ++ drop 44 out.old }
 {
-    let mut i = 0;
-    while i < 44 {
-        out[i] = head[i];
-        i += 1;
-    }
+    out[..44].copy_from_slice(head);
 }
 
 // The heading for so many frames.

@@ -45,13 +45,7 @@ fn one_if_past(l: i32, r: i32, g: u32) -> u64
     requires { g ≤ 16777216 }
     ensures { result ≡ cond (is_past (lowered_by g l) || is_past (lowered_by g r)) 1 0 }
 {
-    if is_past(l, g) {
-        return 1;
-    }
-    if is_past(r, g) {
-        return 1;
-    }
-    0
+    u64::from(is_past(l, g) || is_past(r, g))
 }
 
 // How many frames are held.
@@ -61,12 +55,10 @@ fn frames_past(sums: &[i32], g: u32) -> u64
 {
     let n = sums.len() / 2;
     let mut count: u64 = 0;
-    let mut k: usize = 0;
-    while k < n {
+    for k in 0..n {
         let l = sums[2 * k];
         let r = sums[2 * k + 1];
-        count = count + one_if_past(l, r, g);
-        k = k + 1;
+        count += one_if_past(l, r, g);
     }
     count
 }
@@ -75,8 +67,7 @@ fn frames_past(sums: &[i32], g: u32) -> u64
 fn louder(most: u32, z: i32) -> u32
     ensures { result ≡ max most (nat_abs z) }
 {
-    let size = pcm::size(z);
-    if most < size { size } else { most }
+    most.max(z.unsigned_abs())
 }
 
 // The largest size of a sum.
@@ -84,11 +75,8 @@ fn loudest_of(sums: &[i32]) -> u32
     ensures { result ≡ loudest_of sums.now }
 {
     let mut most: u32 = 0;
-    let mut i: usize = 0;
-    while i < sums.len() {
-        let z = sums[i];
-        most = louder(most, z);
-        i = i + 1;
+    for z in sums {
+        most = louder(most, *z);
     }
     most
 }
@@ -99,13 +87,10 @@ fn fill(sums: &[i32], g: u32, out: &mut [u8])
     requires room { 2 * length sums.now ≤ length out.old }
     ensures { out.new ≡ poured_sums g sums.now ++ drop (2 * length sums.now) out.old }
 {
-    let mut i: usize = 0;
-    while i < sums.len() {
-        let z = sums[i];
-        let w = word(z, g);
+    for (i, z) in sums.iter().enumerate() {
+        let w = word(*z, g);
         out[2 * i] = (w % 256) as u8;
         out[2 * i + 1] = (w / 256) as u8;
-        i = i + 1;
     }
 }
 
@@ -124,7 +109,7 @@ pub fn pour_sums(sums: &[i32], attenuation: u16, out: &mut [u8]) -> Result<Poure
     let g = table.gain(attenuation as u64);
     fill(sums, g, out);
     // a slice may have more frames than 32 bits can count
-    let held = arith::least(frames_past(sums, g), 4294967295) as u32;
+    let held = frames_past(sums, g).min(4294967295) as u32;
     Ok(Poured {
         held,
         loudest: loudest_of(sums),

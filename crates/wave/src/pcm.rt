@@ -56,11 +56,7 @@ fn word_of(negative: bool, k: u32) -> u16
 pub fn size(z: i32) -> u32
     ensures { result ≡ nat_abs z }
 {
-    if z < 0 {
-        ((-1 - z) as u32) + 1
-    } else {
-        z as u32
-    }
+    z.unsigned_abs()
 }
 
 // The 16-bit number of a k, in two's complement.
@@ -75,7 +71,7 @@ pub fn word(k: i32) -> u16
 pub fn is_output(x: f32) -> bool
     ensures { result ≡ is_output x }
 {
-    if x != x {
+    if x.is_nan() {
         return false;
     }
     is_output_bits(f32::to_bits(x) % 2147483648)

@@ -11,12 +11,10 @@ fn begins(file: &[u8], head: &[u8]) -> bool
     requires room { 44 ≤ length file.now }
     ensures { result ≡ same_bytes (take 44 file.now) head.now }
 {
-    let mut i = 0;
-    while i < 44 {
+    for i in 0..44 {
         if file[i] != head[i] {
             return false;
         }
-        i += 1;
     }
     true
 }
@@ -46,10 +44,8 @@ fn fill(file: &[u8], out: &mut [i16])
     ensures { out.new ≡ pcms_in (drop 44 file.now) ++ drop (2 * frames_in file.now) out.old }
 {
     let count = (file.len() - 44) / 2;
-    let mut i = 0;
-    while i < count {
+    for i in 0..count {
         out[i] = arith::signed16(arith::u16_at(file, 44 + 2 * i));
-        i += 1;
     }
 }
 

@@ -1,6 +1,6 @@
 // Output numbers poured as bytes, two for each.
 ghost use Rattle.std.specs.Prelude.{false, ◌++◌, ◌≡◌, length, take, drop, ◌≤◌, ◌*◌, ◌+◌};
-ghost use Rattle.arith.specs.Lists.{any_of};
+ghost use Rattle.std.specs.List.{list_any};
 ghost use Rattle.wave.specs.Answers.{told_number};
 ghost use Rattle.wave.specs.Pours.{is_broken, is_other, poured_of, pour_number, poured_into};
 
@@ -8,16 +8,9 @@ use crate::{Refusal, pcm};
 
 // Whether one of the numbers is no output number.
 fn has_other(numbers: &[f32]) -> bool
-    ensures { result ≡ any_of is_other numbers.now }
+    ensures { result ≡ list_any is_other numbers.now }
 {
-    let mut i = 0;
-    while i < numbers.len() {
-        if !pcm::is_output(numbers[i]) {
-            return true;
-        }
-        i += 1;
-    }
-    false
+    numbers.iter().any(|x| !pcm::is_output(*x))
 }
 
 // 13: an odd count of numbers, or one that is no output number.
@@ -36,12 +29,10 @@ pub fn fill(numbers: &[f32], out: &mut [u8], from: usize)
     requires room { from + 2 * length numbers.now ≤ length out.old }
     ensures { out.new ≡ (take from out.old ++ poured_of numbers.now) ++ drop (from + 2 * length numbers.now) out.old }
 {
-    let mut i = 0;
-    while i < numbers.len() {
-        let word = pcm::pcm(numbers[i]);
+    for (i, x) in numbers.iter().enumerate() {
+        let word = pcm::pcm(*x);
         out[from + 2 * i] = (word % 256) as u8;
         out[from + 2 * i + 1] = (word / 256) as u8;
-        i += 1;
     }
 }
 

@@ -1,12 +1,8 @@
--- The largest of the first i sizes.
+-- The largest of the sizes so far.
 use mathlib.Core.Path.{◌≡◌}
-use Prim.Native.Nat.{◌-◌, ◌≤◌}
-use lib.ListN.{length, take}
+use lib.ListN.{take}
 use Rattle.wave.specs.Lowering.{loudest_of}
 use Rattle.wave.proofs.lowering.loudest_of.Given as goal
 
-abbrev pub invariant-loop-i : goal.invariant-loop-i
-invariant-loop-i l = (l.i ≤ length l.sums) × (l.most ≡ loudest_of (take l.i l.sums))
-
-abbrev pub decreases-loop-i : goal.decreases-loop-i
-decreases-loop-i l = length l.sums - l.i
+abbrev pub invariant-loop-z : goal.invariant-loop-z
+invariant-loop-z l = l.most ≡ loudest_of (take l.z-index l.sums)

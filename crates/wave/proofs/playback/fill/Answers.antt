@@ -1,5 +1,5 @@
 -- The first i numbers are the file's, the others as they were.
-use mathlib.Core.Path.{◌≡◌, refl, ap, ap₂, ◌∙◌}
+use mathlib.Core.Path.{◌≡◌, ap, ap₂, ◌∙◌}
 use mathlib.Core.List.{List, ◌++◌}
 use Prim.Native.Nat.{ℕ, ◌≤◌, ◌<◌, ◌-◌, ◌*◌, ◌/◌}
 use native.Mathlib.Nat.{le_of_eq}
@@ -18,32 +18,8 @@ use Rattle.wave.proofs.playback.fill.Goals as goal
 pub overflow_sub-count : goal.overflow_sub-count
 overflow_sub-count c = let whole = taken-length c.args.file.now c.requires.t in omega (arith, whole)
 
-pub loop-i-init : goal.loop-i-init
-loop-i-init c = (omega arith, refl, refl)
-
-pub overflow_mul-i : goal.overflow_mul-i
-overflow_mul-i c = let file = c.args.file.now in
-    let most : frames_in file ≤ 1073741814 = taken-frames file c.requires.t in
-    let numbers : (length file - 44) / 2 ≡ 2 * frames_in file = taken-numbers file c.requires.t in
-    omega arith
-
-pub overflow_add-i : goal.overflow_add-i
-overflow_add-i c = let file = c.args.file.now in
-    let most : frames_in file ≤ 1073741814 = taken-frames file c.requires.t in
-    let numbers : (length file - 44) / 2 ≡ 2 * frames_in file = taken-numbers file c.requires.t in
-    omega arith
-
 pub u16_at-requires : goal.u16_at-requires
 u16_at-requires c = let file = c.args.file.now in
-    let most : frames_in file ≤ 1073741814 = taken-frames file c.requires.t in
-    let numbers : (length file - 44) / 2 ≡ 2 * frames_in file = taken-numbers file c.requires.t in
-    omega arith
-
-pub signed16-requires : goal.signed16-requires
-signed16-requires c = tt
-
-pub offset_bounds-out-i : goal.offset_bounds-out-i
-offset_bounds-out-i c = let file = c.args.file.now in
     let most : frames_in file ≤ 1073741814 = taken-frames file c.requires.t in
     let numbers : (length file - 44) / 2 ≡ 2 * frames_in file = taken-numbers file c.requires.t in
     omega arith
@@ -52,13 +28,7 @@ pub bounds-out-i : goal.bounds-out-i
 bounds-out-i c = let file = c.args.file.now in
     let most : frames_in file ≤ 1073741814 = taken-frames file c.requires.t in
     let numbers : (length file - 44) / 2 ≡ 2 * frames_in file = taken-numbers file c.requires.t in
-    omega (arith, c.loop-i.invariant.1, c.requires.room)
-
-pub overflow_add-i-in-loop-i : goal.overflow_add-i-in-loop-i
-overflow_add-i-in-loop-i c = let file = c.args.file.now in
-    let most : frames_in file ≤ 1073741814 = taken-frames file c.requires.t in
-    let numbers : (length file - 44) / 2 ≡ 2 * frames_in file = taken-numbers file c.requires.t in
-    omega arith
+    omega (arith, c.loop-i.invariant.0, c.requires.room)
 
 pub loop-i-preserved : goal.loop-i-preserved
 loop-i-preserved c = let file = c.args.file.now in let vs = pcms_in (drop 44 file) in let i = c.loop-i.i in
@@ -67,18 +37,14 @@ loop-i-preserved c = let file = c.args.file.now in let vs = pcms_in (drop 44 fil
     let many : length vs ≡ (length file - 44) / 2 = numbers-length file in
     let v : to_z w16 (of_z w16 c.signed16.result) ≡ get_or vs i (pos 0) =
     to_z-of_z {w = w16} {z = c.signed16.result} (record { sfits = c.signed16.type_inv }) ∙ c.signed16.ensures ∙ ap (to_z w16) c.u16_at.ensures ∙ pcm-at file i (pos 0) (omega (arith, inside)) in (
-      omega arith,
-      length-set c.loop-i.out i (to_z w16 (of_z w16 c.signed16.result)) ∙ c.loop-i.invariant.1,
-      ap₂ (λ (o : List ℤ) (z : ℤ). set o i z) c.loop-i.invariant.2 v
+      length-set c.loop-i.out i (to_z w16 (of_z w16 c.signed16.result)) ∙ c.loop-i.invariant.0,
+      ap₂ (λ (o : List ℤ) (z : ℤ). set o i z) c.loop-i.invariant.1 v
           ∙ copy-turn vs c.args.out.now i (pos 0) (omega (arith, inside, many)) (omega (arith, inside, numbers, c.requires.room)),
     )
-
-pub shape_of-out : goal.shape_of-out
-shape_of-out c = c.loop-i.invariant.1
 
 pub returns : goal.returns
 returns c = let file = c.args.file.now in let vs = pcms_in (drop 44 file) in
     let all : c.loop-i.i ≡ 2 * frames_in file = omega (arith, taken-numbers file c.requires.t) in
     let many : length vs ≡ 2 * frames_in file = numbers-length file ∙ taken-numbers file c.requires.t in
-    c.loop-i.invariant.2 ∙ ap (λ (i : ℕ). take i vs ++ drop i c.args.out.now) all
+    c.loop-i.invariant.1 ∙ ap (λ (i : ℕ). take i vs ++ drop i c.args.out.now) all
     ∙ ap (λ (t : List ℤ). t ++ drop (2 * frames_in file) c.args.out.now) (take_all (2 * frames_in file) vs (le_of_eq many))
