@@ -1,6 +1,6 @@
 -- What C's memory holds: the last call's number, count, refused events and place, and the player's twin.
 use Rattle.std.specs.Prelude.{ℕ}
-use Rattle.state.specs.declared.Answered.{Answered}
+use Rattle.state.specs.Answers.{Answered}
 use Rattle.state.specs.declared.Engine.{Engine}
 use Rattle.player.specs.declared.Player.{Player}
 use Rattle.player.specs.declared.Begun.{Begun}

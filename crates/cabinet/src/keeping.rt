@@ -1,9 +1,10 @@
 // What C's memory holds: the last call's number, count, refused events and place, and the player's twin.
 ghost use Rattle.std.specs.Prelude.{◌≡◌};
+ghost use Rattle.state.specs.Answers.{answered};
 ghost use Rattle.cabinet.specs.Keeping.{player_in, kept, kept_answer, kept_start, kept_play};
 
 use crate::{Flat, FlatPlayer};
-use engine::Answered;
+use engine::{Engine, Refusal, status_of};
 use player::{Answer, Begun, Player};
 
 // The player in C's memory.
@@ -27,16 +28,11 @@ pub fn keep(number: u8, count: u32, refused: u32, place: u32, p: Player) -> Flat
 }
 
 // After a direct call.
-pub fn keep_answer(a: Answered, s: Flat) -> Flat
-    ensures { result ≡ kept_answer a s }
+pub fn keep_answer(a: Result<u32, Refusal>, e: Engine, s: Flat) -> Flat
+    ensures { result ≡ kept_answer (answered a e) s }
 {
-    keep(
-        a.status,
-        a.count,
-        0,
-        0,
-        player::with_engine(player_in(s), a.engine),
-    )
+    let p = player::with_engine(player_in(s), e);
+    keep(status_of(a), a.unwrap_or(0), 0, 0, p)
 }
 
 // After a start.

@@ -18,9 +18,9 @@ pub fn thularek_sums<'a>(
 ) -> u32
     ensures { (state.new ≡ kept_answer (render to ram.now rom.now (length out.old) (engine_in state.old)) state.old) × (result ≡ (render to ram.now rom.now (length out.old) (engine_in state.old)).status) × (out.new ≡ summed to ram.now rom.now out.old (engine_in state.old)) }
 {
-    let e = player_in(*state).engine;
-    let a = engine::sums(e, ram, rom, out, to);
-    *state = keep_answer(a, *state);
+    let mut e = player_in(*state).engine;
+    let a = engine::sums(&mut e, ram, rom, out, to);
+    *state = keep_answer(a, e, *state);
     state.number
 }
 

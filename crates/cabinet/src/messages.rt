@@ -22,9 +22,9 @@ pub fn thularek_note_on<'a>(
 ) -> u32
     ensures { (state.new ≡ kept_answer (note_on (bank_from bank.now) ram.now rom.now channel key velocity (engine_in state.old)) state.old) × (result ≡ (note_on (bank_from bank.now) ram.now rom.now channel key velocity (engine_in state.old)).status) }
 {
-    let e = player_in(*state).engine;
-    let a = engine::note_on(e, bank, ram, rom, channel, key, velocity);
-    *state = keep_answer(a, *state);
+    let mut e = player_in(*state).engine;
+    let a = engine::note_on(&mut e, bank, ram, rom, channel, key, velocity);
+    *state = keep_answer(a, e, *state);
     state.number
 }
 
@@ -32,9 +32,9 @@ pub fn thularek_note_on<'a>(
 pub fn thularek_note_off(state: &mut Flat, channel: u8, key: u8) -> u32
     ensures { (state.new ≡ kept_answer (note_off channel key (engine_in state.old)) state.old) × (result ≡ (note_off channel key (engine_in state.old)).status) }
 {
-    let e = player_in(*state).engine;
-    let a = engine::note_off(e, channel, key);
-    *state = keep_answer(a, *state);
+    let mut e = player_in(*state).engine;
+    let a = engine::note_off(&mut e, channel, key);
+    *state = keep_answer(a, e, *state);
     state.number
 }
 
@@ -42,9 +42,9 @@ pub fn thularek_note_off(state: &mut Flat, channel: u8, key: u8) -> u32
 pub fn thularek_control_change(state: &mut Flat, channel: u8, control: u8, value: u8) -> u32
     ensures { (state.new ≡ kept_answer (control_change channel control value (engine_in state.old)) state.old) × (result ≡ (control_change channel control value (engine_in state.old)).status) }
 {
-    let e = player_in(*state).engine;
-    let a = engine::control_change(e, channel, control, value);
-    *state = keep_answer(a, *state);
+    let mut e = player_in(*state).engine;
+    let a = engine::control_change(&mut e, channel, control, value);
+    *state = keep_answer(a, e, *state);
     state.number
 }
 
@@ -52,9 +52,9 @@ pub fn thularek_control_change(state: &mut Flat, channel: u8, control: u8, value
 pub fn thularek_program_change(state: &mut Flat, channel: u8, program: u8) -> u32
     ensures { (state.new ≡ kept_answer (program_change channel program (engine_in state.old)) state.old) × (result ≡ (program_change channel program (engine_in state.old)).status) }
 {
-    let e = player_in(*state).engine;
-    let a = engine::program_change(e, channel, program);
-    *state = keep_answer(a, *state);
+    let mut e = player_in(*state).engine;
+    let a = engine::program_change(&mut e, channel, program);
+    *state = keep_answer(a, e, *state);
     state.number
 }
 
@@ -62,8 +62,8 @@ pub fn thularek_program_change(state: &mut Flat, channel: u8, program: u8) -> u3
 pub fn thularek_pitch_bend(state: &mut Flat, channel: u8, bend: u16) -> u32
     ensures { (state.new ≡ kept_answer (pitch_bend channel bend (engine_in state.old)) state.old) × (result ≡ (pitch_bend channel bend (engine_in state.old)).status) }
 {
-    let e = player_in(*state).engine;
-    let a = engine::pitch_bend(e, channel, bend);
-    *state = keep_answer(a, *state);
+    let mut e = player_in(*state).engine;
+    let a = engine::pitch_bend(&mut e, channel, bend);
+    *state = keep_answer(a, e, *state);
     state.number
 }

@@ -17,9 +17,9 @@ pub fn thularek_render<'a>(
 ) -> u32
     ensures { (state.new ≡ kept_answer (render to ram.now rom.now (length out.old) (engine_in state.old)) state.old) × (result ≡ (render to ram.now rom.now (length out.old) (engine_in state.old)).status) × (out.new ≡ rendered to ram.now rom.now out.old (engine_in state.old)) }
 {
-    let e = player_in(*state).engine;
-    let a = engine::render(e, ram, rom, out, to);
-    *state = keep_answer(a, *state);
+    let mut e = player_in(*state).engine;
+    let a = engine::render(&mut e, ram, rom, out, to);
+    *state = keep_answer(a, e, *state);
     state.number
 }
 

@@ -1,5 +1,5 @@
 -- Laws of render: a free slot is skipped, what all slots add to the sums, and the output made of the sums.
-use Rattle.std.proofs.Common.{◌≡◌, ℕ, zero, suc, ◌+◌, ◌*◌, ◌%◌, ◌<◌, ◌≤◌, Bool, true, false, cond, ltb, leb, ◌⊎◌, List, [], ◌∷◌, ◌++◌, length, get_or, take, replicate, ℤ, pos, ◌+ℤ◌, sym, refl, ap, ◌∙◌, subst, ap₂, inl, inr, ⊎_elim, not-suc-le-zero, zero-add, suc-ne-zero, add-one, arith, length-append, take-suc, ltb-false, ltb-true}
+use Rattle.std.proofs.Common.{◌≡◌, ℕ, zero, suc, ◌+◌, ◌*◌, ◌%◌, ◌<◌, ◌≤◌, Bool, true, false, cond, ◌||◌, ltb, leb, ◌⊎◌, List, [], ◌∷◌, ◌++◌, length, get_or, take, replicate, ℤ, pos, ◌+ℤ◌, sym, refl, ap, ◌∙◌, subst, ap₂, inl, inr, ⊎_elim, not-suc-le-zero, zero-add, suc-ne-zero, add-one, arith, length-append, take-suc, ltb-false, ltb-true}
 use lib.IntN.{+ℤ_assoc, +ℤ_idr, +ℤ_idl}
 use lib.ListN.{get_or-append}
 use lib.Seq.{get_or_at}
@@ -23,7 +23,7 @@ use Rattle.voice.proofs.SumsLaws.{add_to-none, small-none, add_to-length}
 use Rattle.voice.specs.Changes.{blank, free}
 use Rattle.state.specs.Channels.{channel_at}
 use Rattle.engine.specs.Internal.Sums.{add_all, mixed_to, slot_heard}
-use Rattle.arith.specs.Lists.{sum_of}
+use Rattle.arith.specs.Lists.{sum_of, any_of}
 use Rattle.engine.specs.Mixer.{mixed}
 
 -- the window is the part that the voice names of its memory
@@ -44,6 +44,16 @@ zero-low to ram rom room e h = by (leb 2147483648 (distance e to)) (ltb 4096 (di
     by false true p c q h = absurd (suc-ne-zero 5 h)
     by false false p true q h = absurd (suc-ne-zero 6 h)
     by false false p false q h = (ltb-false 4096 (distance e to) p, ltb-false room (2 * distance e to) q)
+
+-- a slot that lacks its window is one that does
+pub lacks_at : (p : Slot → Bool) (ss : List Slot) (i : ℕ) (d : Slot) → i < length ss → p (get_or ss i d) ≡ true → any_of p ss ≡ true
+lacks_at p [] i d h e = absurd (omega arith)
+lacks_at p (s ∷ ss) zero d h e = simp e
+lacks_at p (s ∷ ss) (suc i) d h e = by (p s) (lacks_at p ss i d (omega arith) e)
+  where
+    by : (b : Bool) → any_of p ss ≡ true → (b || any_of p ss) ≡ true
+    by true q = refl
+    by false q = q
 
 -- the clock moved by the distance is the asked value
 pub clock-there : (e : Engine) (to n t : ℕ) → e.clock < 4294967296 → to < 4294967296 → n ≡ distance e to → t ≡ (e.clock + n) % 4294967296 → t ≡ to

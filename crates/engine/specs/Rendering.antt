@@ -10,7 +10,7 @@ use Rattle.state.specs.Slots.{slots_of, with_slots, with_clock}
 use Rattle.voice.specs.Frames.{after, left_in, right_in}
 use Rattle.state.specs.Channels.{channel_at}
 use Rattle.engine.specs.Mixer.{mixed}
-use Rattle.state.specs.declared.Answered.{Answered}
+use Rattle.state.specs.Answers.{Answered}
 use Rattle.state.specs.Answers.{done, answer}
 
 -- the distance to the asked clock value, modulo 2^32

@@ -52,14 +52,11 @@ pub fn run_all<'a>(
 {
     let mut x = e;
     let mut word: u32 = 0;
-    let mut i: usize = 0;
-    while i < 32 {
+    for i in 0..32 {
         let s = slot_of(e, i);
         let t = run_slot(e, g, o, ram, rom, s, acc, n);
-        let v = t.voice;
-        x.voices[i] = v;
-        word = word + flag(t.sounding, i as u32);
-        i = i + 1;
+        x.voices[i] = t.voice;
+        word += flag(t.sounding, i as u32);
     }
     with_word(x, word)
 }
@@ -69,13 +66,11 @@ pub fn mix_all(acc: &[i32], out: &mut [f32], n: usize)
     requires { (2 * n ≤ length acc.now) × (2 * n ≤ length out.old) }
     ensures { out.new ≡ mixed_to n acc.now ++ drop (2 * n) out.old }
 {
-    let mut k: usize = 0;
-    while k < n {
+    for k in 0..n {
         let l = acc[2 * k];
         let r = acc[2 * k + 1];
         let f = mix(l, r);
         out[2 * k] = f.left;
         out[2 * k + 1] = f.right;
-        k = k + 1;
     }
 }

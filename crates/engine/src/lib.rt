@@ -14,7 +14,7 @@ pub use banks::{admit, list};
 pub use events::{control_change, note_off, note_on, pitch_bend, program_change};
 pub use presets::{channel_bank, channel_program};
 pub use rendering::render;
-pub use state::{Answered, Engine, fresh, panel, voice_count};
+pub use state::{Engine, Refusal, fresh, panel, status_of, voice_count};
 pub use summing::sums;
 
 // A stereo frame.

@@ -2,11 +2,12 @@
 ghost use Rattle.std.specs.Prelude.{◌≡◌, ◌*◌, ◌≤◌, ◌&&◌, ◌||◌, ◌++◌, length, drop};
 ghost use Rattle.state.specs.Slots.{slots_of};
 ghost use Rattle.state.specs.Reach.{ends_past};
-ghost use Rattle.engine.specs.Rendering.{distance, lacking, render_number, output, played, render, rendered};
+ghost use Rattle.state.specs.Answers.{answered, status_of};
+ghost use Rattle.engine.specs.Rendering.{distance, lacks, lacking, render_number, output, played, render, rendered};
 
 use crate::adding::{mix_all, run_all};
 use curves::{GainTable, OctaveTable};
-use state::{Answered, Engine, ends_past, made, refuse, slot_of};
+use state::{Engine, Refusal, ends_past, slot_of};
 use voice::Slot;
 
 // The distance to the asked clock value, modulo 2^32.
@@ -16,52 +17,49 @@ pub fn distance_to(e: Engine, to: u32) -> u32
     std::num::wrapping_sub_u32(to, e.clock)
 }
 
-// Found before, or this slot sounds and its window ends past its memory.
-fn or_lacks<'a>(found: bool, ram: &'a [i16], rom: &'a [i16], s: Slot) -> bool
-    ensures { result ≡ (found || s.sounding && ends_past ram.now rom.now s.voice) }
+// The slot sounds, and its window ends past its memory.
+fn lacks_window<'a>(ram: &'a [i16], rom: &'a [i16], s: Slot) -> bool
+    ensures { result ≡ lacks ram.now rom.now s }
 {
-    if found {
-        return true;
-    }
-    if !s.sounding {
-        return false;
-    }
-    let v = s.voice;
-    ends_past(ram, rom, v)
+    s.sounding && ends_past(ram, rom, s.voice)
 }
 
 // One of the slots sounds and its window ends past its memory.
 fn lacks<'a>(e: Engine, ram: &'a [i16], rom: &'a [i16]) -> bool
     ensures { result ≡ lacking ram.now rom.now (slots_of e) }
 {
-    let mut found = false;
-    let mut i: usize = 0;
-    while i < 32 {
-        let s = slot_of(e, i);
-        found = or_lacks(found, ram, rom, s);
-        i = i + 1;
+    for i in 0..32 {
+        if lacks_window(ram, rom, slot_of(e, i)) {
+            return true;
+        }
     }
-    found
+    false
 }
 
 // The tests in order: 5, 6, 7, 8.
-pub fn render_number<'a>(e: Engine, to: u32, ram: &'a [i16], rom: &'a [i16], room: usize) -> u8
-    ensures { result ≡ render_number to ram.now rom.now room e }
+pub fn render_number<'a>(
+    e: Engine,
+    to: u32,
+    ram: &'a [i16],
+    rom: &'a [i16],
+    room: usize,
+) -> Result<(), Refusal>
+    ensures { status_of result ≡ render_number to ram.now rom.now room e }
 {
     let n = distance_to(e, to);
     if 2147483648 <= n {
-        return 5;
+        return Err(Refusal::ClockBehind);
     }
     if 4096 < n {
-        return 6;
+        return Err(Refusal::TooManyFrames);
     }
     if room < 2 * (n as usize) {
-        return 7;
+        return Err(Refusal::OutputTooShort);
     }
     if lacks(e, ram, rom) {
-        return 8;
+        return Err(Refusal::PastMemory);
     }
-    0
+    Ok(())
 }
 
 // n frames into the front of the output.
@@ -78,17 +76,21 @@ pub fn play<'a>(e: Engine, ram: &'a [i16], rom: &'a [i16], out: &mut [f32], n: u
     x
 }
 
-// Render to a clock value: the voices' frames into the first 2n numbers of the output.
-pub fn render<'a>(e: Engine, ram: &'a [i16], rom: &'a [i16], out: &mut [f32], to: u32) -> Answered
-    ensures answer { result ≡ render to ram.now rom.now (length out.old) e }
-    ensures output { out.new ≡ rendered to ram.now rom.now out.old e }
+// Render to a clock value: the voices' frames into the first 2n numbers of the output. It counts no voices.
+pub fn render<'a>(
+    e: &mut Engine,
+    ram: &'a [i16],
+    rom: &'a [i16],
+    out: &mut [f32],
+    to: u32,
+) -> Result<u32, Refusal>
+    ensures answer { answered result e.new ≡ render to ram.now rom.now (length out.old) e.old }
+    ensures output { out.new ≡ rendered to ram.now rom.now out.old e.old }
 {
-    let number = render_number(e, to, ram, rom, out.len());
-    if number != 0 {
-        return refuse(number, e);
-    }
-    let n = distance_to(e, to);
-    let mut x = play(e, ram, rom, out, n as usize);
+    render_number(*e, to, ram, rom, out.len())?;
+    let n = distance_to(*e, to);
+    let mut x = play(*e, ram, rom, out, n as usize);
     x.clock = std::num::wrapping_add_u32(e.clock, n);
-    made(x)
+    *e = x;
+    Ok(0)
 }

@@ -1,23 +1,13 @@
 // The sums of voices themselves: what a recorder measures, and lowers before it is held.
 ghost use Rattle.std.specs.Prelude.{◌≡◌, ◌*◌, length, replicate, pos};
 ghost use Rattle.engine.specs.Rendering.{played, render};
+ghost use Rattle.state.specs.Answers.{answered};
 ghost use Rattle.engine.specs.Summing.{sums_of, summed};
 
 use crate::adding::run_all;
 use crate::rendering::{distance_to, render_number};
 use curves::{GainTable, OctaveTable};
-use state::{Answered, Engine, made, refuse};
-
-// Zeros, which voices are added to.
-fn clear(acc: &mut [i32])
-    ensures { acc.new ≡ replicate (length acc.old) (pos 0) }
-{
-    let mut i: usize = 0;
-    while i < acc.len() {
-        acc[i] = 0;
-        i = i + 1;
-    }
-}
+use state::{Engine, Refusal};
 
 // n frames of all slots into an output of just their length.
 fn add_up<'a>(e: Engine, ram: &'a [i16], rom: &'a [i16], acc: &mut [i32], n: usize) -> Engine
@@ -27,22 +17,26 @@ fn add_up<'a>(e: Engine, ram: &'a [i16], rom: &'a [i16], acc: &mut [i32], n: usi
 {
     let g = GainTable::new();
     let o = OctaveTable::new();
-    clear(acc);
+    acc.fill(0);
     run_all(e, &g, &o, ram, rom, acc, n)
 }
 
 // Render to a clock value, but the sums of voices, not held, into the first 2n numbers of the output.
-pub fn sums<'a>(e: Engine, ram: &'a [i16], rom: &'a [i16], out: &mut [i32], to: u32) -> Answered
-    ensures answer { result ≡ render to ram.now rom.now (length out.old) e }
-    ensures output { out.new ≡ summed to ram.now rom.now out.old e }
+pub fn sums<'a>(
+    e: &mut Engine,
+    ram: &'a [i16],
+    rom: &'a [i16],
+    out: &mut [i32],
+    to: u32,
+) -> Result<u32, Refusal>
+    ensures answer { answered result e.new ≡ render to ram.now rom.now (length out.old) e.old }
+    ensures output { out.new ≡ summed to ram.now rom.now out.old e.old }
 {
-    let number = render_number(e, to, ram, rom, out.len());
-    if number != 0 {
-        return refuse(number, e);
-    }
-    let n = distance_to(e, to);
+    render_number(*e, to, ram, rom, out.len())?;
+    let n = distance_to(*e, to);
     let m = n as usize;
-    let mut x = add_up(e, ram, rom, &mut out[..2 * m], m);
+    let mut x = add_up(*e, ram, rom, &mut out[..2 * m], m);
     x.clock = std::num::wrapping_add_u32(e.clock, n);
-    made(x)
+    *e = x;
+    Ok(0)
 }

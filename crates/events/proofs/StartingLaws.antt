@@ -1,14 +1,22 @@
 -- Laws of a note-on's loops: each goes along the first layers of a list, and a turn is one layer more.
-use mathlib.Core.Path.{◌≡◌, refl}
+use mathlib.Core.Path.{◌≡◌, refl, ap}
+use mathlib.Core.Bool.{Bool, ◌||◌}
 use mathlib.Core.List.{List, [], ◌∷◌, ◌++◌}
 use Prim.Native.Nat.{ℕ, ◌+◌, ◌<◌}
 use lib.ListN.{take, length, get_or}
 use native.Mathlib.Numerals.{add-one}
 use lib.Seq.{take-suc}
+use Rattle.std.specs.List.{list_any}
+use Rattle.arith.specs.Lists.{any_of}
 use Rattle.voice.specs.declared.Voice.{Voice}
 use Rattle.events.specs.Starting.{rival, Started, start, start_all}
 use Rattle.voice.specs.Changes.{free, blank}
 use Rattle.state.specs.Slots.{of_channel, cut}
+
+-- what the library finds along a list is what the definitions find
+pub any_found : (p : Voice → Bool) (vs : List Voice) → list_any p vs ≡ any_of p vs
+any_found p [] = refl
+any_found p (v ∷ vs) = ap (λ (b : Bool). p v || b) (any_found p vs)
 
 -- a free slot is no rival
 pub rival-free : (channel : ℕ) (vs : List Voice) (v : Voice) → cut (rival channel vs) (free v) ≡ free v

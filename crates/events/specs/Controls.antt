@@ -5,7 +5,7 @@ use Rattle.events.specs.Keys.{let_off, pedal_held, held, off}
 use Rattle.state.specs.declared.Engine.{Engine}
 use Rattle.state.specs.Slots.{slots_of, with_slots, of_channel, cut}
 use Rattle.state.specs.Channels.{channel_at, with_channel}
-use Rattle.state.specs.declared.Answered.{Answered}
+use Rattle.state.specs.Answers.{Answered}
 use Rattle.state.specs.Answers.{done, answer, past_two}
 
 -- the bank that control 0 stores

@@ -9,7 +9,7 @@ use Rattle.voice.specs.declared.Voice.{Voice}
 use Rattle.voice.specs.Changes.{with_moved}
 use Rattle.voice.specs.Release.{release}
 use Rattle.arith.specs.Lists.{count_if}
-use Rattle.state.specs.declared.Answered.{Answered}
+use Rattle.state.specs.Answers.{Answered}
 use Rattle.state.specs.Answers.{done, answer, past_one}
 
 -- a held voice of the channel: neither released nor marked

@@ -2,7 +2,7 @@
 use Rattle.std.specs.Prelude.{ℕ, cond}
 use Rattle.voice.specs.declared.Channel.{Channel}
 use Rattle.state.specs.declared.Engine.{Engine}
-use Rattle.state.specs.declared.Answered.{Answered}
+use Rattle.state.specs.Answers.{Answered}
 use Rattle.state.specs.Channels.{channel_at, with_channel}
 use Rattle.state.specs.Answers.{done, answer, past_one}
 

@@ -7,7 +7,7 @@ use Rattle.state.specs.declared.Engine.{Engine}
 use Rattle.state.specs.Channels.{channel_at}
 use Rattle.events.specs.Starting.{any_past, struck}
 use Rattle.events.specs.Keys.{off_key}
-use Rattle.state.specs.declared.Answered.{Answered}
+use Rattle.state.specs.Answers.{Answered}
 use Rattle.state.specs.Answers.{done, answer, past_two}
 
 -- what a lent bank says: admitted or not, whether it has a preset (bank, program), and the voices that the layers of

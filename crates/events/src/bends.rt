@@ -1,17 +1,19 @@
 // Pitch bend.
 ghost use Rattle.std.specs.Prelude.{◌≡◌};
+ghost use Rattle.state.specs.Answers.{answered};
 ghost use Rattle.events.specs.Bends.{pitch_bend};
 
-use state::{Answered, Engine, channel_of, made, past_bend, refuse, with_channel};
+use state::{Engine, Refusal, channel_of, past_bend, with_channel};
 
-// Pitch bend.
-pub fn pitch_bend(e: Engine, channel: u8, bend: u16) -> Answered
-    ensures { result ≡ pitch_bend channel bend e }
+// Pitch bend. It counts no voices.
+pub fn pitch_bend(e: &mut Engine, channel: u8, bend: u16) -> Result<u32, Refusal>
+    ensures { answered result e.new ≡ pitch_bend channel bend e.old }
 {
     if past_bend(channel, bend) {
-        return refuse(2, e);
+        return Err(Refusal::OutOfRange);
     }
-    let mut c = channel_of(e, channel);
+    let mut c = channel_of(*e, channel);
     c.bend = bend;
-    made(with_channel(e, channel, c))
+    *e = with_channel(*e, channel, c);
+    Ok(0)
 }

@@ -1,5 +1,6 @@
 // Control change.
 ghost use Rattle.std.specs.Prelude.{◌≡◌, ◌<◌};
+ghost use Rattle.state.specs.Answers.{answered};
 ghost use Rattle.events.specs.Controls.{with_stored, with_volume, with_expression, silence, pedal, controlled, control_change};
 ghost use Rattle.events.specs.Keys.{held, off};
 
@@ -7,8 +8,8 @@ use crate::Whom;
 use crate::keys::{is_down, off_all};
 use curves::GainTable;
 use state::{
-    Answered, Engine, channel_of, flag, freed_if, made, of_channel, past_two, refuse, slot_of,
-    with_channel, with_word,
+    Engine, Refusal, channel_of, flag, freed_if, of_channel, past_two, slot_of, with_channel,
+    with_word,
 };
 use voice::Channel;
 
@@ -17,12 +18,10 @@ fn silenced(e: Engine, channel: u8) -> Engine
     ensures { result ≡ silence channel e }
 {
     let mut word: u32 = 0;
-    let mut i: usize = 0;
-    while i < 32 {
+    for i in 0..32 {
         let s = slot_of(e, i);
         let t = freed_if(of_channel(s, channel), s);
-        word = word + flag(t.sounding, i as u32);
-        i = i + 1;
+        word += flag(t.sounding, i as u32);
     }
     with_word(e, word)
 }
@@ -33,8 +32,7 @@ fn every_off(e: Engine, channel: u8) -> Engine
 {
     let g = GainTable::new();
     let down = is_down(e, channel);
-    let a = off_all(e, channel, Whom::Every, down, &g);
-    a.engine
+    off_all(e, channel, Whom::Every, down, &g).1
 }
 
 // Control 64: below 64 it releases the voices that the pedal holds.
@@ -49,8 +47,7 @@ fn pedal_set(e: Engine, channel: u8, value: u8) -> Engine
         return x;
     }
     let g = GainTable::new();
-    let a = off_all(x, channel, Whom::Marked, false, &g);
-    a.engine
+    off_all(x, channel, Whom::Marked, false, &g).1
 }
 
 // Control 0: a bank that the next program change takes.
@@ -97,12 +94,13 @@ fn control_one(e: Engine, channel: u8, control: u8, value: u8) -> Engine
     }
 }
 
-// Control change.
-pub fn control_change(e: Engine, channel: u8, control: u8, value: u8) -> Answered
-    ensures { result ≡ control_change channel control value e }
+// Control change. It counts no voices.
+pub fn control_change(e: &mut Engine, channel: u8, control: u8, value: u8) -> Result<u32, Refusal>
+    ensures { answered result e.new ≡ control_change channel control value e.old }
 {
     if past_two(channel, control, value) {
-        return refuse(2, e);
+        return Err(Refusal::OutOfRange);
     }
-    made(control_one(e, channel, control, value))
+    *e = control_one(*e, channel, control, value);
+    Ok(0)
 }

@@ -1,12 +1,13 @@
 // Note-off, and which voices are let off.
 ghost use Rattle.std.specs.Prelude.{◌≡◌, cond};
 ghost use Rattle.voice.specs.Release.{release};
+ghost use Rattle.state.specs.Answers.{answered, done};
 ghost use Rattle.events.specs.Keys.{held, held_key, pedal_down, mark, let_off, off_key, note_off, pedal_held};
 ghost use Rattle.events.specs.Internal.Keys.{picked, off_all};
 
 use crate::Whom;
 use curves::GainTable;
-use state::{Answered, Engine, channel_of, flag, of_channel, past_one, refuse, slot_of, with_word};
+use state::{Engine, Refusal, channel_of, flag, of_channel, past_one, slot_of, with_word};
 use voice::{Slot, Voice, is_released, let_off, with_moved};
 
 // A held voice of the channel: neither released nor marked.
@@ -82,35 +83,21 @@ fn off_one(s: Slot, channel: u8, whom: Whom, down: bool, g: &GainTable) -> Slot
     }
 }
 
-// 1 for a slot that counts.
-fn one_if(b: bool) -> u32
-    ensures { result ≡ cond b 1 0 }
-{
-    if b { 1 } else { 0 }
-}
-
-// All that are picked let off, and how many they were.
-pub fn off_all(e: Engine, channel: u8, whom: Whom, down: bool, g: &GainTable) -> Answered
-    ensures { result ≡ off_all channel whom down e }
+// How many are picked, and the state with all of them let off.
+pub fn off_all(e: Engine, channel: u8, whom: Whom, down: bool, g: &GainTable) -> (u32, Engine)
+    ensures { done result.0 result.1 ≡ off_all channel whom down e }
 {
     let mut x = e;
     let mut word: u32 = 0;
     let mut count: u32 = 0;
-    let mut i: usize = 0;
-    while i < 32 {
+    for i in 0..32 {
         let s = slot_of(e, i);
-        count = count + one_if(is_picked(s, channel, whom));
+        count += u32::from(is_picked(s, channel, whom));
         let t = off_one(s, channel, whom, down, g);
-        let v = t.voice;
-        x.voices[i] = v;
-        word = word + flag(t.sounding, i as u32);
-        i = i + 1;
+        x.voices[i] = t.voice;
+        word += flag(t.sounding, i as u32);
     }
-    Answered {
-        status: 0,
-        count,
-        engine: with_word(x, word),
-    }
+    (count, with_word(x, word))
 }
 
 // The pedal is down: control 64 is 64 or more.
@@ -121,21 +108,23 @@ pub fn is_down(e: Engine, channel: u8) -> bool
     64 <= c.pedal
 }
 
-// A note-off past its tests.
-pub fn off_key(e: Engine, channel: u8, key: u8) -> Answered
-    ensures { result ≡ off_key channel key e }
+// A note-off past its tests; how many voices it lets off.
+pub fn off_key(e: &mut Engine, channel: u8, key: u8) -> u32
+    ensures { done result e.new ≡ off_key channel key e.old }
 {
     let g = GainTable::new();
-    let down = is_down(e, channel);
-    off_all(e, channel, Whom::Key { key }, down, &g)
+    let down = is_down(*e, channel);
+    let (count, after) = off_all(*e, channel, Whom::Key { key }, down, &g);
+    *e = after;
+    count
 }
 
-// Note-off: releases each held voice of channel and key, or marks it while the pedal is down.
-pub fn note_off(e: Engine, channel: u8, key: u8) -> Answered
-    ensures { result ≡ note_off channel key e }
+// Note-off: releases each held voice of channel and key, or marks it while the pedal is down; how many they were.
+pub fn note_off(e: &mut Engine, channel: u8, key: u8) -> Result<u32, Refusal>
+    ensures { answered result e.new ≡ note_off channel key e.old }
 {
     if past_one(channel, key) {
-        return refuse(2, e);
+        return Err(Refusal::OutOfRange);
     }
-    off_key(e, channel, key)
+    Ok(off_key(e, channel, key))
 }

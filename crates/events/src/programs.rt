@@ -1,18 +1,20 @@
 // Program change.
 ghost use Rattle.std.specs.Prelude.{◌≡◌};
+ghost use Rattle.state.specs.Answers.{answered};
 ghost use Rattle.events.specs.Programs.{program_change};
 
-use state::{Answered, Engine, channel_of, made, past_one, refuse, with_channel};
+use state::{Engine, Refusal, channel_of, past_one, with_channel};
 
-// Program change: takes the stored bank.
-pub fn program_change(e: Engine, channel: u8, program: u8) -> Answered
-    ensures { result ≡ program_change channel program e }
+// Program change: takes the stored bank. It counts no voices.
+pub fn program_change(e: &mut Engine, channel: u8, program: u8) -> Result<u32, Refusal>
+    ensures { answered result e.new ≡ program_change channel program e.old }
 {
     if past_one(channel, program) {
-        return refuse(2, e);
+        return Err(Refusal::OutOfRange);
     }
-    let mut c = channel_of(e, channel);
+    let mut c = channel_of(*e, channel);
     c.program = program;
     c.bank = c.stored;
-    made(with_channel(e, channel, c))
+    *e = with_channel(*e, channel, c);
+    Ok(0)
 }

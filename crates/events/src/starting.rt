@@ -9,83 +9,36 @@ use arith::insert;
 use state::{Engine, ends_past, flag, freed_if, of_channel, seat_of, slot_of, start_in, with_word};
 use voice::{Slot, Voice};
 
-// Found before, or the window of this voice ends past its memory.
-fn or_past<'a>(found: bool, ram: &'a [i16], rom: &'a [i16], v: Voice) -> bool
-    ensures { result ≡ (found || ends_past ram.now rom.now v) }
+// The window of one of the voices ends past its memory.
+pub fn any_past(ram: &[i16], rom: &[i16], voices: &[Voice]) -> bool
+    ensures { result ≡ any_past ram.now rom.now voices.now }
 {
-    if found {
-        return true;
-    }
-    ends_past(ram, rom, v)
+    voices.iter().any(|v| ends_past(ram, rom, *v))
 }
 
-// One of the first n does.
-pub fn any_past<'a>(ram: &'a [i16], rom: &'a [i16], voices: [Voice; 32], n: usize) -> bool
-    requires { n ≤ 32 }
-    ensures { result ≡ any_past ram.now rom.now (take n voices) }
+// The class is one of the voices', and not 0.
+fn class_in(class: u16, voices: &[Voice]) -> bool
+    ensures { result ≡ class_in class voices.now }
 {
-    let mut found = false;
-    let mut i: usize = 0;
-    while i < n {
-        let v = voices[i];
-        found = or_past(found, ram, rom, v);
-        i = i + 1;
-    }
-    found
-}
-
-// Found before, or this voice has the class, which is not 0.
-fn or_class(found: bool, class: u16, v: Voice) -> bool
-    ensures { result ≡ (found || not (eqb class 0) && eqb v.class class) }
-{
-    if found {
-        return true;
-    }
-    if class == 0 {
-        return false;
-    }
-    v.class == class
-}
-
-// The class is one of the first n voices', and not 0.
-fn class_in(class: u16, voices: [Voice; 32], n: usize) -> bool
-    requires { n ≤ 32 }
-    ensures { result ≡ class_in class (take n voices) }
-{
-    let mut found = false;
-    let mut i: usize = 0;
-    while i < n {
-        let v = voices[i];
-        found = or_class(found, class, v);
-        i = i + 1;
-    }
-    found
+    voices.iter().any(|v| class != 0 && v.class == class)
 }
 
 // A voice of the channel that has the same nonzero class as one of the layers.
-fn is_rival(s: Slot, channel: u8, voices: [Voice; 32], n: usize) -> bool
-    requires { n ≤ 32 }
-    ensures { result ≡ rival channel (take n voices) s }
+fn is_rival(s: Slot, channel: u8, voices: &[Voice]) -> bool
+    ensures { result ≡ rival channel voices.now s }
 {
-    if !of_channel(s, channel) {
-        return false;
-    }
-    let v = s.voice;
-    class_in(v.class, voices, n)
+    of_channel(s, channel) && class_in(s.voice.class, voices)
 }
 
 // The rivals freed.
-fn clear_rivals(e: Engine, channel: u8, voices: [Voice; 32], n: usize) -> Engine
-    requires { n ≤ 32 }
-    ensures { result ≡ cleared channel (take n voices) e }
+fn clear_rivals(e: Engine, channel: u8, voices: &[Voice]) -> Engine
+    ensures { result ≡ cleared channel voices.now e }
 {
     let mut word: u32 = 0;
-    let mut i: usize = 0;
-    while i < 32 {
+    for i in 0..32 {
         let s = slot_of(e, i);
-        let t = freed_if(is_rival(s, channel, voices, n), s);
-        word = word + flag(t.sounding, i as u32);
-        i = i + 1;
+        let t = freed_if(is_rival(s, channel, voices), s);
+        word += flag(t.sounding, i as u32);
     }
     with_word(e, word)
 }
@@ -94,35 +47,29 @@ fn clear_rivals(e: Engine, channel: u8, voices: [Voice; 32], n: usize) -> Engine
 fn start_one(b: Begun, v: Voice) -> Begun
     ensures { started_of result ≡ start v (started_of b) }
 {
-    let e = b.engine;
-    let i = seat_of(e, b.mine);
+    let i = seat_of(b.engine, b.mine);
     Begun {
-        engine: start_in(e, i, v),
+        engine: start_in(b.engine, i, v),
         mine: insert(b.mine, i as u32),
     }
 }
 
 // The layers started in order.
-fn start_all(e: Engine, voices: [Voice; 32], n: usize) -> Begun
-    requires { n ≤ 32 }
-    ensures { started_of result ≡ start_all (take n voices) (begin e) }
+fn start_all(e: Engine, voices: &[Voice]) -> Begun
+    ensures { started_of result ≡ start_all voices.now (begin e) }
 {
     let mut b = Begun { engine: e, mine: 0 };
-    let mut i: usize = 0;
-    while i < n {
-        let v = voices[i];
-        b = start_one(b, v);
-        i = i + 1;
+    for v in voices {
+        b = start_one(b, *v);
     }
     b
 }
 
-// The first n voices struck: rivals freed first, then each started in its slot.
-pub fn strike(e: Engine, channel: u8, voices: [Voice; 32], n: usize) -> Engine
-    requires { n ≤ 32 }
-    ensures { result ≡ (struck channel (take n voices) e).engine }
+// The voices struck: rivals freed first, then each started in its slot.
+pub fn strike(e: &mut Engine, channel: u8, voices: &[Voice])
+    ensures { e.new ≡ (struck channel voices.now e.old).engine }
 {
-    let x = clear_rivals(e, channel, voices, n);
-    let b = start_all(x, voices, n);
-    b.engine
+    let x = clear_rivals(*e, channel, voices);
+    let b = start_all(x, voices);
+    *e = b.engine;
 }

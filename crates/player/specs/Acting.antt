@@ -1,7 +1,7 @@
 -- The player: what a channel event of a song does. It is the direct call that the event names.
 use Rattle.std.specs.Prelude.{ℕ, ◌+◌, ◌*◌, ◌/◌, ◌%◌, cond, List, ℤ, ◌==◌}
 use Rattle.smf.specs.declared.Event.{Event}
-use Rattle.state.specs.declared.Answered.{Answered}
+use Rattle.state.specs.Answers.{Answered}
 use Rattle.state.specs.declared.Engine.{Engine}
 use Rattle.state.specs.Answers.{done}
 use Rattle.events.specs.Keys.{note_off}

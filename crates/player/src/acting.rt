@@ -1,8 +1,9 @@
 // What an event of a song does: the direct call that it names.
 ghost use Rattle.std.specs.Prelude.{◌≡◌};
+ghost use Rattle.state.specs.Answers.{answered};
 ghost use Rattle.player.specs.Acting.{kind_of, channel_in, bend_in, heeded};
 
-use engine::{Answered, Engine};
+use engine::{Engine, Refusal};
 use smf::Event;
 
 // The kind of an event: the high four bits of its status.
@@ -27,8 +28,14 @@ fn bend_in(v: Event) -> u16
 }
 
 // The call of an event, made on an engine. Key and channel pressure have none.
-pub fn heed<'a>(e: Engine, bank: &[u8], ram: &'a [i16], rom: &'a [i16], v: Event) -> Answered
-    ensures { result ≡ heeded bank.now ram.now rom.now v e }
+pub fn heed<'a>(
+    e: &mut Engine,
+    bank: &[u8],
+    ram: &'a [i16],
+    rom: &'a [i16],
+    v: Event,
+) -> Result<u32, Refusal>
+    ensures { answered result e.new ≡ heeded bank.now ram.now rom.now v e.old }
 {
     let channel = channel_in(v);
     match kind_of(v) {
@@ -37,6 +44,6 @@ pub fn heed<'a>(e: Engine, bank: &[u8], ram: &'a [i16], rom: &'a [i16], v: Event
         11 => engine::control_change(e, channel, v.first, v.second),
         12 => engine::program_change(e, channel, v.first),
         14 => engine::pitch_bend(e, channel, bend_in(v)),
-        _ => state::made(e),
+        _ => Ok(0),
     }
 }

@@ -10,9 +10,10 @@ use engine::Engine;
 fn hush(e: Engine, channel: u8) -> Engine
     ensures { result ≡ hushed channel e }
 {
-    let a = engine::control_change(e, channel, 64, 0);
-    let b = engine::control_change(a.engine, channel, 123, 0);
-    b.engine
+    let mut x = e;
+    let _ = engine::control_change(&mut x, channel, 64, 0);
+    let _ = engine::control_change(&mut x, channel, 123, 0);
+    x
 }
 
 // All channels let go, in order.
@@ -31,12 +32,13 @@ fn hush_all(e: Engine) -> Engine
 fn freshen(e: Engine, channel: u8) -> Engine
     ensures { result ≡ freshened channel e }
 {
-    let a = engine::control_change(e, channel, 0, 0);
-    let b = engine::program_change(a.engine, channel, 0);
-    let c = engine::pitch_bend(b.engine, channel, 8192);
-    let d = engine::control_change(c.engine, channel, 7, 100);
-    let f = engine::control_change(d.engine, channel, 11, 127);
-    f.engine
+    let mut x = e;
+    let _ = engine::control_change(&mut x, channel, 0, 0);
+    let _ = engine::program_change(&mut x, channel, 0);
+    let _ = engine::pitch_bend(&mut x, channel, 8192);
+    let _ = engine::control_change(&mut x, channel, 7, 100);
+    let _ = engine::control_change(&mut x, channel, 11, 127);
+    x
 }
 
 // .. of all channels.

@@ -26,11 +26,12 @@ fn apply<'a>(x: Tally, v: Event, file: &[u8], bank: &[u8], ram: &'a [i16], rom: 
     ensures { result ≡ applying file.now bank.now ram.now rom.now x }
 {
     let p = x.player;
-    let a = heed(p.engine, bank, ram, rom, v);
+    let mut e = p.engine;
+    let a = heed(&mut e, bank, ram, rom, v);
     Tally {
-        player: cue(with_engine(p, a.engine), smf::next(file, p.cursor)),
+        player: cue(with_engine(p, e), smf::next(file, p.cursor)),
         applied: x.applied + 1,
-        refused: x.refused + u32::from(a.status != 0),
+        refused: x.refused + u32::from(a.is_err()),
     }
 }
 
@@ -109,10 +110,9 @@ pub fn render<'a>(
     ensures answer { result ≡ answered file.now bank.now ram.now rom.now to (length out.old) p }
     ensures output { out.new ≡ sounded_into file.now bank.now ram.now rom.now to out.old p }
 {
-    let number = engine::rendering::render_number(p.engine, to, ram, rom, out.len());
-    if number != 0 {
+    if let Err(refusal) = engine::rendering::render_number(p.engine, to, ram, rom, out.len()) {
         return Answer {
-            number,
+            number: refusal.number(),
             applied: 0,
             refused: 0,
             player: p,

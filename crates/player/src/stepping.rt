@@ -18,11 +18,12 @@ pub fn step<'a>(p: Player, file: &[u8], bank: &[u8], ram: &'a [i16], rom: &'a [i
             player: p,
         };
     };
-    let a = heed(p.engine, bank, ram, rom, v);
+    let mut e = p.engine;
+    let a = heed(&mut e, bank, ram, rom, v);
     Stepped {
-        number: a.status,
+        number: engine::status_of(a),
         applied: 1,
-        player: cue(with_engine(p, a.engine), smf::next(file, p.cursor)),
+        player: cue(with_engine(p, e), smf::next(file, p.cursor)),
     }
 }
 

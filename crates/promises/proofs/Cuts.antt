@@ -14,7 +14,7 @@ use Rattle.voice.specs.declared.Voice.{Voice}
 use Rattle.engine.specs.Rendering.{output, played, distance, render, render_number}
 use Rattle.engine.proofs.CutLaws.{played-cut, output-cut, output-clock, played-clock}
 use Rattle.engine.proofs.RenderingLaws.{clock-there}
-use Rattle.state.specs.declared.Answered.{Answered}
+use Rattle.state.specs.Answers.{Answered}
 use Rattle.state.specs.Slots.{with_clock}
 use Rattle.state.specs.Reach.{memory}
 use Rattle.promises.specs.Calls.{Call, does, next, run, written, frames_of, voice_in}

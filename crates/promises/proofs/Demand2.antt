@@ -16,7 +16,7 @@ use Rattle.voice.specs.Release.{let_go, release}
 use Rattle.voice.specs.declared.Slot.{Slot}
 use Rattle.state.proofs.SlotsLaws.{slot_map}
 use Rattle.events.proofs.KeysLaws.{off-keeps}
-use Rattle.state.specs.declared.Answered.{Answered}
+use Rattle.state.specs.Answers.{Answered}
 use Rattle.promises.proofs.EachSlot.{let_off-picked}
 use Rattle.promises.specs.Demand2.{NoteOffReachesAll, VelocityZeroIsNoteOff}
 use Rattle.events.specs.Striking.{note_on}

@@ -23,7 +23,7 @@ use Rattle.state.specs.declared.Engine.{Engine}
 use Rattle.engine.specs.Rendering.{slot_after, distance, played, render_number, render}
 use Rattle.voice.specs.Stages.{released}
 use Rattle.events.specs.Controls.{pedal, silence, controlled, with_pedal, control_change}
-use Rattle.state.specs.declared.Answered.{Answered}
+use Rattle.state.specs.Answers.{Answered}
 use Rattle.state.specs.Channels.{channel_at, with_channel}
 use Rattle.state.specs.Answers.{refused, answer, done, past_two, past_one, past_bend}
 use Rattle.events.proofs.KeysLaws.{off-keeps}

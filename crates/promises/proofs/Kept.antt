@@ -15,7 +15,7 @@ use Rattle.state.specs.Channels.{with_channel, channel_at}
 use Rattle.state.specs.Seats.{seat, start_in}
 use Rattle.events.specs.Starting.{start, Started, start_all, cleared, rival, struck}
 use Rattle.events.specs.Striking.{layer_voices, note_on_number, note_on, bank_from}
-use Rattle.state.specs.declared.Answered.{Answered}
+use Rattle.state.specs.Answers.{Answered}
 use Rattle.state.specs.Answers.{done, refused, answer, past_one, past_two, past_bend}
 use Rattle.events.specs.Keys.{let_off, pedal_down, held_key, held, off, off_key, note_off, pedal_held}
 use Rattle.events.specs.Controls.{pedal, silence, controlled, control_change, with_stored, with_volume, with_expression, with_pedal}

@@ -15,7 +15,7 @@ use Rattle.state.specs.Slots.{slot_at}
 use Rattle.state.specs.Channels.{channel_at}
 use Rattle.state.proofs.SlotsLaws.{slot_map}
 use Rattle.state.proofs.AnswersLaws.{or_no}
-use Rattle.state.specs.declared.Answered.{Answered}
+use Rattle.state.specs.Answers.{Answered}
 use Rattle.state.specs.Answers.{done, refused}
 use Rattle.state.specs.Slots.{with_clock}
 use lib.ListN.{length}

@@ -24,7 +24,7 @@ use Rattle.promises.specs.Night.{strikes, leaves, struck_after, NotHeld, KeyIsLe
 use Rattle.voice.specs.declared.Channel.{Channel}
 use Rattle.promises.specs.Calls.{Call, next, voice_in, frames_of, run, begun, among, history, frames_run, seats}
 use Rattle.events.specs.Starting.{struck}
-use Rattle.state.specs.declared.Answered.{Answered}
+use Rattle.state.specs.Answers.{Answered}
 use Rattle.engine.specs.Rendering.{window, slot_after}
 use Rattle.voice.specs.Stages.{released}
 use Rattle.voice.specs.Frames.{after}

@@ -16,7 +16,7 @@ use Rattle.state.specs.Slots.{slot_at, slots_of}
 use Rattle.state.specs.Channels.{channel_at, no_channel}
 use Rattle.voice.specs.declared.Channel.{Channel}
 use Rattle.state.specs.Answers.{done}
-use Rattle.state.specs.declared.Answered.{Answered}
+use Rattle.state.specs.Answers.{Answered}
 use Rattle.voice.specs.Changes.{blank, with_stage}
 use Rattle.promises.proofs.Seats.{begun-is}
 use Rattle.promises.proofs.EachSlot.{never}

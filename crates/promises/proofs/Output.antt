@@ -23,7 +23,7 @@ use Rattle.promises.proofs.EachSlot.{What, stands, pedalled, loosed, freed, star
 use Rattle.voice.specs.declared.Voice.{Voice}
 use Rattle.voice.specs.declared.Channel.{Channel}
 use Rattle.state.specs.declared.Engine.{Engine}
-use Rattle.state.specs.declared.Answered.{Answered}
+use Rattle.state.specs.Answers.{Answered}
 use Rattle.state.specs.Channels.{channel_at, with_channel, no_channel}
 use Rattle.state.specs.Answers.{refused, answer, done, past_one, past_two, past_bend}
 use Rattle.events.specs.Keys.{off, off_key, note_off}

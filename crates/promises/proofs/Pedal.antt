@@ -27,7 +27,7 @@ use Rattle.state.specs.Answers.{past_two, done, refused, answer, past_one, past_
 use Rattle.state.proofs.AnswersLaws.{or_no}
 use Rattle.promises.specs.Calls.{Call, next, voice_in, frames_of, channel_of, run}
 use Rattle.events.specs.Starting.{Started, start, start_all, cleared, struck}
-use Rattle.state.specs.declared.Answered.{Answered}
+use Rattle.state.specs.Answers.{Answered}
 use Rattle.events.specs.Programs.{with_program, program_change}
 use Rattle.events.specs.Bends.{with_bend, pitch_bend}
 use Rattle.state.specs.Seats.{start_in}

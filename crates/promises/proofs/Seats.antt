@@ -33,7 +33,7 @@ use Rattle.arith.proofs.WordsLaws.{insert}
 use Rattle.events.proofs.StartingLaws.{rival-free}
 use Rattle.promises.proofs.Voices.{Everyone, from-fresh}
 use Rattle.events.specs.Striking.{layer_voices, note_on_number, note_on, bank_from}
-use Rattle.state.specs.declared.Answered.{Answered}
+use Rattle.state.specs.Answers.{Answered}
 use Rattle.state.specs.Answers.{done, refused, answer, past_two}
 use Rattle.events.specs.Keys.{off_key}
 use Rattle.promises.proofs.Banks.{came}

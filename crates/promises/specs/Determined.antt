@@ -2,7 +2,8 @@
 -- in the source; tools/contracts compares it with the functions that `contract of` names.
 use Rattle.std.specs.Prelude.{◌≡◌, List, Float, ℕ, Bool, cond, ℤ, length, Option, Result}
 use Rattle.std.specs.Borrow.{Bor}
-use Rattle.state.specs.declared.Answered.{Answered}
+use Rattle.state.specs.Answers.{Answered, answered, status_of}
+use Rattle.state.specs.declared.Refusal.{Refusal}
 use Rattle.state.specs.declared.Engine.{Engine}
 use Rattle.promises.specs.Calls.{Call, does, written}
 use Rattle.voice.specs.declared.Shown.{Shown}
@@ -79,6 +80,15 @@ pub record Outcome : Type 0 where
 abbrev pub CallsDetermined : Type 0
 CallsDetermined = (x : Call) (e : Engine) → Settles Outcome (λ o. (o.answer ≡ does x e) × (o.output ≡ written x e))
 
+-- two outcomes of which it is said that they leave the same are one: answer and state; so this tells apart state::answered
+abbrev pub AnsweredTells : Type 0
+AnsweredTells = (r s : Result ℕ Refusal) (e f : Engine) → answered r e ≡ answered s f → (r ≡ s) × (e ≡ f)
+
+-- 01's number of an answer
+-- contract of state::status_of(answer)
+abbrev pub StatusDetermined : Type 0
+StatusDetermined = (answer : Result ℕ Refusal) → Settles ℕ (λ r. r ≡ status_of answer)
+
 -- ---- state and engine: the others, which touch no state
 
 -- what the slot is in, or the refusal
@@ -124,12 +134,12 @@ ListDetermined = (bank : List ℕ) (place : ℕ) → Settles Listed (λ r. r ≡
 -- the first fault of the first kind, or none
 -- contract of bank::admission(bank)
 abbrev pub AdmissionDetermined : Type 0
-AdmissionDetermined = (bank : List ℕ) → Settles Fault (λ r. r ≡ fault_of bank)
+AdmissionDetermined = (bank : List ℕ) → Settles (Result (Unit {0}) Fault) (λ r. r ≡ fault_of bank)
 
 -- 01's number for a fault
 -- contract of bank::number_of(f)
 abbrev pub NumberOfDetermined : Type 0
-NumberOfDetermined = (f : Fault) → Settles ℕ (λ r. r ≡ fault_number f)
+NumberOfDetermined = (f : Result (Unit {0}) Fault) → Settles ℕ (λ r. r ≡ fault_number f)
 
 -- whether the number is 0
 -- contract of bank::admitted(bank)

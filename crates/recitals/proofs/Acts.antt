@@ -12,7 +12,7 @@ use lib.ListN.{take}
 use Rattle.smf.specs.declared.Event.{Event}
 use Rattle.smf.specs.declared.Handed.{Handed}
 use Rattle.smf.specs.Songs.{turns, handed_of}
-use Rattle.state.specs.declared.Answered.{Answered}
+use Rattle.state.specs.Answers.{Answered}
 use Rattle.state.specs.declared.Engine.{Engine}
 use Rattle.state.specs.Slots.{with_clock}
 use Rattle.engine.specs.Rendering.{distance, output, played}

@@ -14,7 +14,7 @@ use Rattle.smf.specs.declared.Event.{Event}
 use Rattle.smf.specs.declared.Handed.{Handed}
 use Rattle.smf.specs.Track.{Song, Events, Refused}
 use Rattle.smf.proofs.SongsLaws.{refused-number}
-use Rattle.state.specs.declared.Answered.{Answered}
+use Rattle.state.specs.Answers.{Answered}
 use Rattle.state.specs.declared.Engine.{Engine}
 use Rattle.state.specs.Channels.{channel_at}
 use Rattle.state.specs.Slots.{slot_at}

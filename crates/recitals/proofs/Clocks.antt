@@ -11,7 +11,7 @@ use lib.IntN.{ℤ}
 use lib.ListN.{length, get_or}
 use Rattle.voice.specs.declared.Voice.{Voice}
 use Rattle.voice.specs.Changes.{blank}
-use Rattle.state.specs.declared.Answered.{Answered}
+use Rattle.state.specs.Answers.{Answered}
 use Rattle.state.specs.declared.Engine.{Engine}
 use Rattle.state.specs.Answers.{done, refused, answer, past_one, past_two, past_bend}
 use Rattle.state.specs.Channels.{channel_at, with_channel}

@@ -10,7 +10,7 @@ use lib.IntN.{ℤ}
 use lib.ListN.{length}
 use Rattle.smf.specs.declared.Event.{Event}
 use Rattle.smf.specs.Songs.{turns}
-use Rattle.state.specs.declared.Answered.{Answered}
+use Rattle.state.specs.Answers.{Answered}
 use Rattle.state.specs.declared.Engine.{Engine}
 use Rattle.engine.specs.Rendering.{distance, render_number}
 use Rattle.player.specs.declared.Answer.{Answer}

@@ -18,7 +18,7 @@ use Rattle.voice.specs.Changes.{free, blank}
 use Rattle.voice.specs.Frames.{after}
 use Rattle.voice.specs.Release.{let_go, release}
 use Rattle.voice.specs.Stages.{released}
-use Rattle.state.specs.declared.Answered.{Answered}
+use Rattle.state.specs.Answers.{Answered}
 use Rattle.state.specs.declared.Engine.{Engine}
 use Rattle.state.specs.Answers.{done}
 use Rattle.state.specs.Channels.{channel_at, no_channel}

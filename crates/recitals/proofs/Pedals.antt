@@ -12,7 +12,7 @@ use lib.ListN.{length, get_or, set}
 use lib.Seq.{get_or-set_same}
 use Rattle.smf.specs.declared.Event.{Event}
 use Rattle.voice.specs.declared.Channel.{Channel}
-use Rattle.state.specs.declared.Answered.{Answered}
+use Rattle.state.specs.Answers.{Answered}
 use Rattle.state.specs.declared.Engine.{Engine}
 use Rattle.state.specs.Answers.{done, refused, answer, past_one, past_two, past_bend}
 use Rattle.state.specs.Channels.{channel_at, with_channel, no_channel}

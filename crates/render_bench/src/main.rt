@@ -11,7 +11,7 @@ use engine::Engine;
 fn strike<'a>(first: Engine, bank: &[u8], ram: &'a [i16], rom: &'a [i16], strikes: u32) -> Engine {
     let mut e = first;
     for i in 0..strikes {
-        e = engine::note_on(e, bank, ram, rom, 0, key_of(i), 100).engine;
+        let _ = engine::note_on(&mut e, bank, ram, rom, 0, key_of(i), 100);
     }
     e
 }
@@ -36,7 +36,7 @@ fn play<'a>(
     for _ in 0..renders {
         e = strike(e, bank, ram, rom, strikes);
         let to = e.clock.wrapping_add(frames);
-        e = engine::render(e, ram, rom, out, to).engine;
+        let _ = engine::render(&mut e, ram, rom, out, to);
     }
     e.sounding
 }
@@ -57,10 +57,11 @@ fn report(input: &mut Input, text: &mut Text) -> Result<(), Bad> {
     let count: u32 = input.next()?;
     samples.read(input, count)?;
     let (bank, ram) = (known.lent(), samples.lent());
-    let e = strike(engine::fresh(), bank, ram, ram, strikes);
+    let mut e = strike(engine::fresh(), bank, ram, ram, strikes);
     // a second place that calls render, as a host has: so the compiler leaves it a function of its own
-    let ready = engine::render(e, ram, ram, &mut out, e.clock).engine;
-    let sounding = play(ready, bank, ram, ram, &mut out, renders, frames, again);
+    let now = e.clock;
+    let _ = engine::render(&mut e, ram, ram, &mut out, now);
+    let sounding = play(e, bank, ram, ram, &mut out, renders, frames, again);
     text.hex(u64::from(sounding), 8);
     text.put(b' ');
     text.hex(cases::fnv(&out), 16);

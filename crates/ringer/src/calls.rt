@@ -1,7 +1,7 @@
 // The calls that may change the state: those of the player's engine (n, o, c, p, b), a fresh player (F), a song's start and stop (G, H), and the renders (r, V).
 // Each is chosen by its letter: the letters are the case's own words, and a call has no other name there.
 use cases::{Command, Loan};
-use engine::{Answered, Engine};
+use engine::{Engine, Refusal, status_of};
 use player::{Answer, Player};
 
 // What a call that is no render answers: the number of 01's table (0: done), a count or a place, and the player after.
@@ -13,7 +13,7 @@ pub struct Called {
 }
 
 // n, o, c, p, b: a call of the engine. n is a note-on with what is lent.
-fn answer(loan: &Loan, c: Command, e: Engine) -> Answered {
+fn answer(loan: &Loan, c: Command, e: &mut Engine) -> Result<u32, Refusal> {
     match c.letter {
         b'n' => engine::note_on(
             e,
@@ -32,11 +32,11 @@ fn answer(loan: &Loan, c: Command, e: Engine) -> Answered {
 }
 
 // The player with the engine that a call of it has left.
-fn put_back(p: Player, a: Answered) -> Called {
+fn put_back(p: Player, a: Result<u32, Refusal>, e: Engine) -> Called {
     Called {
-        number: a.status,
-        count: a.count,
-        player: player::with_engine(p, a.engine),
+        number: status_of(a),
+        count: a.unwrap_or(0),
+        player: player::with_engine(p, e),
     }
 }
 
@@ -73,18 +73,23 @@ pub fn call(loan: &Loan, c: Command, p: Player) -> Called {
         b'F' => made(fresh_at(c.first)),
         b'G' => start(loan.song.lent(), p),
         b'H' => made(player::stop(p)),
-        _ => put_back(p, answer(loan, c, p.engine)),
+        _ => {
+            let mut e = p.engine;
+            let a = answer(loan, c, &mut e);
+            put_back(p, a, e)
+        }
     }
 }
 
 // r: a render of the engine alone, in which no event of the song is applied.
 fn render_engine(loan: &Loan, out: &mut [f32], clock: u32, p: Player) -> Answer {
-    let a = engine::render(p.engine, loan.ram.lent(), loan.rom.lent(), out, clock);
+    let mut e = p.engine;
+    let a = engine::render(&mut e, loan.ram.lent(), loan.rom.lent(), out, clock);
     Answer {
-        number: a.status,
+        number: status_of(a),
         applied: 0,
         refused: 0,
-        player: player::with_engine(p, a.engine),
+        player: player::with_engine(p, e),
     }
 }
 

@@ -4,10 +4,22 @@ use mathlib.Core.Bool.{Bool, true, cond, false, ◌||◌}
 use Prim.Native.Nat.{ℕ, ◌<◌}
 use native.Mathlib.Omega.{arith}
 use borrow.Author.Tests.{ltb-false}
-use lib.Dec.{ltb}
+use lib.Dec.{ltb, eqb}
 use Rattle.state.specs.declared.Engine.{Engine}
-use Rattle.state.specs.declared.Answered.{Answered}
-use Rattle.state.specs.Answers.{refused, answer, past_one, past_two, past_bend}
+use Rattle.state.specs.Answers.{Answered, number, refused, answer, past_one, past_two, past_bend}
+use Rattle.state.specs.declared.Refusal.{Refusal}
+use Rattle.state.specs.declared.Refusal.TheVariants.{NotAdmitted, OutOfRange, NoPreset, TooManyLayers, ClockBehind, TooManyFrames, OutputTooShort, PastMemory}
+
+-- no refusal has the number of an answer that is done
+pub refusal-numbered : (r : Refusal) → eqb (number r) 0 ≡ false
+refusal-numbered NotAdmitted = refl
+refusal-numbered OutOfRange = refl
+refusal-numbered NoPreset = refl
+refusal-numbered TooManyLayers = refl
+refusal-numbered ClockBehind = refl
+refusal-numbered TooManyFrames = refl
+refusal-numbered OutputTooShort = refl
+refusal-numbered PastMemory = refl
 
 -- the test refuses
 pub refuses : (b : Bool) (e : Engine) (a : Answered) → b ≡ true → answer (cond b 2 0) e a ≡ refused 2 e

@@ -1,28 +1,25 @@
-// The answers: done or refused, and the test of ranges.
+// The numbers of the refusals, and the test of ranges.
 ghost use Rattle.std.specs.Prelude.{◌≡◌};
-ghost use Rattle.state.specs.Answers.{done, refused, past_one, past_two, past_bend};
+ghost use Rattle.state.specs.Answers.{number, status_of, past_one, past_two, past_bend};
 
-use crate::{Answered, Engine};
+use crate::Refusal;
 
-// Refused with a number: the count is 0, and the state as it was.
-pub fn refuse(number: u8, e: Engine) -> Answered
-    ensures { result ≡ refused number e }
-{
-    Answered {
-        status: number,
-        count: 0,
-        engine: e,
+impl Refusal {
+    // Its number.
+    pub fn number(self) -> u8
+        ensures { result ≡ number self }
+    {
+        self as u8
     }
 }
 
-// Done, with no count.
-pub fn made(e: Engine) -> Answered
-    ensures { result ≡ done 0 e }
+// The number of a call's answer: 0 where it is done, else that of its refusal.
+pub fn status_of(answer: Result<u32, Refusal>) -> u8
+    ensures { result ≡ status_of answer }
 {
-    Answered {
-        status: 0,
-        count: 0,
-        engine: e,
+    match answer {
+        Ok(_) => 0,
+        Err(refusal) => refusal.number(),
     }
 }
 

@@ -47,11 +47,11 @@ pub fn calm(v: Voice, s: Stage) -> u32
     ensures { Calms v s result × RoomBy result s }
 {
     match s {
-        Stage::Delay { left: _ } => 0,
+        Stage::Delay { .. } => 0,
         Stage::Attack { t } => calm_attack(t),
         Stage::Hold { t } => v.hold.saturating_sub(t),
         Stage::Decay { t } => calm_decay(v.decay, v.sustain, t),
         Stage::Sustain => 4294967295,
-        Stage::Release { from: _, t } => calm_count(v.release, t),
+        Stage::Release { t, .. } => calm_count(v.release, t),
     }
 }

@@ -208,6 +208,7 @@ pub fn run_at(
 {
     let mut s = s0;
     let mut k: usize = 0;
+    // A `while`, since each turn makes as many frames as it can, and no range has such steps.
     while k < n {
         if !s.sounding {
             return s;

@@ -42,12 +42,12 @@ pub fn pace_of(v: Voice, s: Stage) -> Pace
     ensures { PaceAt v s result }
 {
     match s {
-        Stage::Delay { left: _ } => paced(0, 1, 0),
+        Stage::Delay { .. } => paced(0, 1, 0),
         Stage::Attack { t } => paced(16777216, v.attack, t),
         Stage::Hold { t } => paced(1, 1, t),
         Stage::Decay { t } => paced(1000, v.decay, t),
         Stage::Sustain => paced(0, 1, 0),
-        Stage::Release { from: _, t } => paced(1000, v.release, t),
+        Stage::Release { t, .. } => paced(1000, v.release, t),
     }
 }
 
@@ -87,12 +87,12 @@ pub fn stop_of(v: Voice, s: Stage) -> u64
     ensures { (result ≡ stop_in v s) × (result < 4294967296) }
 {
     match s {
-        Stage::Delay { left: _ } => 0,
-        Stage::Attack { t: _ } => stop_if(v.attack, 16777216),
-        Stage::Hold { t: _ } => v.hold as u64,
-        Stage::Decay { t: _ } => stop_if(v.decay, u64::from(v.sustain.min(1000))),
+        Stage::Delay { .. } => 0,
+        Stage::Attack { .. } => stop_if(v.attack, 16777216),
+        Stage::Hold { .. } => v.hold as u64,
+        Stage::Decay { .. } => stop_if(v.decay, u64::from(v.sustain.min(1000))),
         Stage::Sustain => left_of(v.sustain),
-        Stage::Release { from, t: _ } => stop_if(v.release, left_of(from)),
+        Stage::Release { from, .. } => stop_if(v.release, left_of(from)),
     }
 }
 
@@ -123,6 +123,6 @@ pub fn cb_in(v: Voice, s: Stage, value: u64) -> u64
         Stage::Delay { .. } | Stage::Attack { .. } | Stage::Hold { .. } => 0,
         Stage::Decay { .. } => value,
         Stage::Sustain => u64::from(v.sustain),
-        Stage::Release { from, t: _ } => fallen(from, value),
+        Stage::Release { from, .. } => fallen(from, value),
     }
 }

@@ -21,11 +21,11 @@ fn show_stage(v: Voice, s: Stage, g: &GainTable) -> Shown
     ensures { result ≡ stage_shown v s }
 {
     match s {
-        Stage::Delay { left: _ } => Shown::Delay,
+        Stage::Delay { .. } => Shown::Delay,
         Stage::Attack { t } => Shown::Attack {
             level: level_unit(level_at(v.attack, t)),
         },
-        Stage::Hold { t: _ } => Shown::Hold,
+        Stage::Hold { .. } => Shown::Hold,
         Stage::Decay { t } => Shown::Decay {
             level: gain_unit(g, u64::from(decay_at(v.decay, v.sustain, t))),
         },

@@ -11,12 +11,12 @@ fn let_go(v: Voice, s: Stage, g: &GainTable) -> Stage
     ensures { result ≡ let_go v s }
 {
     match s {
-        Stage::Delay { left: _ } => Stage::Release { from: 1000, t: 0 },
+        Stage::Delay { .. } => Stage::Release { from: 1000, t: 0 },
         Stage::Attack { t } => Stage::Release {
             from: g.least_cb(level_at(v.attack, t)),
             t: 0,
         },
-        Stage::Hold { t: _ } => Stage::Release { from: 0, t: 0 },
+        Stage::Hold { .. } => Stage::Release { from: 0, t: 0 },
         Stage::Decay { t } => Stage::Release {
             from: decay_at(v.decay, v.sustain, t),
             t: 0,

@@ -58,7 +58,7 @@ fn is_quick(v: Voice, s: Stage) -> bool {
         Stage::Delay { .. } | Stage::Attack { .. } => true,
         Stage::Hold { .. } | Stage::Sustain => false,
         Stage::Decay { .. } => v.decay < 16000,
-        Stage::Release { from: _, t: _ } => v.release < 16000,
+        Stage::Release { .. } => v.release < 16000,
     }
 }
 
@@ -136,7 +136,8 @@ pub fn glide(
     ensures sums { acc.new ≡ add_at (2 * k) (plains gain sides.left sides.right w.now st from result.frames) acc.old }
     ensures small { Small 1 (plains gain sides.left sides.right w.now st from result.frames) }
 {
-    // one test a frame: the limit, or where the last of so many frames leads
+    // One test a frame: the limit, or where the last of so many frames leads. A `while`, since the place that was reached
+    // is wanted behind the loop, and `step_by` does not tell it.
     let end = limit.min(from + (most as u64) * (st as u64));
     let mut p = from;
     let mut m: usize = 0;

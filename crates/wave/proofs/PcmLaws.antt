@@ -10,9 +10,8 @@ use lib.Dec.{T, T_not, eqb, eqb→eq, leb, leb→le, le→leb, ltb, ltb→lt, nl
 use lib.IntN.{ℤ, pos, neg_ℤ}
 use lib.Pow.{pow-add, pow_mono, pow_pos, shl_lt, shl-shr, shr_mono}
 use lib.Arith.{lt→nleb}
-use lib.Ieee.{Float, nan, inf, fin, binary32, up, down, odd, of_fields, of_bits, to_bits, fits, is_nan, ne}
+use lib.Ieee.{Float, nan, inf, fin, binary32, up, down, odd, of_fields, of_bits, to_bits, fits, is_nan}
 use lib.Ieee.Bits.{is_true, is_false, of_bits-to_bits}
-use lib.Ieee.Compare.{differs_from_itself, nan_differs}
 use lib.Ieee.Exact.{HasValue, odd_sign}
 use lib.Ieee.Fits.{down_pos, eq→eqb}
 use lib.Ieee.Nearest.{div_same}
@@ -369,17 +368,12 @@ pcm-bits x h t =
 
 -- ---- NaNs
 
--- a number that is not itself is one, and no output number
-pub nan-output : (x : Float) → ne x x ≡ true → false ≡ is_output x
-unfolding is_output
-nan-output x e = ap is_output (sym (differs_from_itself x (subst T (sym e) tt)))
-
--- a number that is itself is none
-pub itself : (x : Float) → ne x x ≡ false → T (not (is_nan x))
-unfolding is_nan
-itself nan e = absurd (true≢false (sym nan_differs ∙ e))
-itself (inf s) e = tt
-itself (fin s m x) e = tt
+-- a NaN is no output number
+pub nan_no-output : (x : Float) → is_nan x ≡ true → false ≡ is_output x
+unfolding is_nan is_output
+nan_no-output nan e = refl
+nan_no-output (inf s) e = absurd (true≢false (sym e))
+nan_no-output (fin s m x) e = absurd (true≢false (sym e))
 
 -- and no output number is one
 pub no_nan : (x : Float) → T (is_output x) → T (not (is_nan x))

@@ -109,7 +109,7 @@ pub fn pour_sums(sums: &[i32], attenuation: u16, out: &mut [u8]) -> Result<Poure
     let g = table.gain(attenuation as u64);
     fill(sums, g, out);
     // a slice may have more frames than 32 bits can count
-    let held = arith::least(frames_past(sums, g), 4294967295) as u32;
+    let held = frames_past(sums, g).min(4294967295) as u32;
     Ok(Poured {
         held,
         loudest: loudest_of(sums),

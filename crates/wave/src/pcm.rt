@@ -71,7 +71,7 @@ pub fn word(k: i32) -> u16
 pub fn is_output(x: f32) -> bool
     ensures { result ≡ is_output x }
 {
-    if x != x {
+    if x.is_nan() {
         return false;
     }
     is_output_bits(f32::to_bits(x) % 2147483648)

@@ -6,7 +6,7 @@ use Rattle.events.specs.declared.Whom.TheVariants.{Key, Every, Marked}
 use Rattle.events.specs.Keys.{held, held_key, pedal_held, let_off}
 use Rattle.arith.specs.Lists.{count_if}
 use Rattle.state.specs.declared.Engine.{Engine}
-use Rattle.state.specs.declared.Answered.{Answered}
+use Rattle.state.specs.Answers.{Answered}
 use Rattle.state.specs.Slots.{slots_of, with_slots}
 use Rattle.state.specs.Answers.{done}
 

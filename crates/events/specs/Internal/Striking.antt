@@ -2,7 +2,7 @@
 use Rattle.std.specs.Prelude.{ℕ, cond, List, ltb, ℤ, length}
 use Rattle.voice.specs.declared.Voice.{Voice}
 use Rattle.state.specs.declared.Engine.{Engine}
-use Rattle.state.specs.declared.Answered.{Answered}
+use Rattle.state.specs.Answers.{Answered}
 use Rattle.state.specs.Answers.{done, refused, answer}
 use Rattle.events.specs.Starting.{any_past, struck}
 use Rattle.events.specs.Striking.{Bank, layer_voices, note_on_number}

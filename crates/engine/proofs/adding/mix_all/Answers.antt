@@ -9,7 +9,7 @@ use Rattle.engine.proofs.adding.mix_all.Goals as goal
 
 pub loop-k-init : goal.loop-k-init
 loop-k-init c = let a = c.args in
-    (sym (ap (λ (p : List Float). p ++ a.out.now) (mixed-none a.acc.now)), refl, omega arith, omega arith, omega arith)
+    (sym (ap (λ (p : List Float). p ++ a.out.now) (mixed-none a.acc.now)), refl, omega arith, omega arith)
 
 pub bounds-out-k-in-loop-k : goal.bounds-out-k-in-loop-k
 bounds-out-k-in-loop-k c = simp length-set (omega arith)
@@ -27,10 +27,9 @@ loop-k-preserved c = let a = c.args in
     let next : 2 * k + 2 ≡ 2 * (k + 1) = omega arith in (
       ap (λ (o : List Float). set (set o (2 * k) c.mix-f.result.left) (2 * k + 1) c.mix-f.result.right) c.loop-k.invariant.0
           ∙ ap₂ (λ (p q : Float). set (set (mixed_to k xs ++ drop (2 * k) a.out.now) (2 * k) p) (2 * k + 1) q) left right
-          ∙ put2 (mixed_to k xs) a.out.now (2 * k) (mixed x) (mixed y) (mixed x) (mixed-length k xs) (omega (arith, c.loop-k.invariant.4))
+          ∙ put2 (mixed_to k xs) a.out.now (2 * k) (mixed x) (mixed y) (mixed x) (mixed-length k xs) (omega (arith, c.loop-k.invariant.3))
           ∙ ap₂ (λ (p : List Float) (j : ℕ). p ++ drop j a.out.now) (sym (mixed-turn k xs)) next,
       simp length-set c.loop-k.invariant.1,
-      omega arith,
       omega arith,
       omega arith,
     )

@@ -24,7 +24,6 @@ loop-i-init c = let a = c.args in
       c.requires.sums.1,
       refl,
       c.requires.sums.0,
-      omega arith,
     )
 
 pub run_slot-t-requires : goal.run_slot-t-requires
@@ -58,7 +57,6 @@ loop-i-preserved c = let one : c.run_slot-t.result ≡ slot_after c.args.ram.now
       (λ j. rw sum (add_to-small (h s) c.loop-i.acc c.loop-i.i c.run_slot-t.ensures.small c.loop-i.invariant.4 j)),
       ap length sum ∙ add_to-length (h s) c.loop-i.acc ∙ c.loop-i.invariant.5,
       c.loop-i.invariant.6,
-      omega arith,
     )
 
 pub returns : goal.returns

@@ -1,5 +1,5 @@
 -- A turn runs slot i into the sums, stores its record, and adds its flag to the word.
-use Rattle.std.proofs.Common.{◌≡◌, ◌-◌, ◌*◌, ◌≤◌, length, take}
+use Rattle.std.proofs.Common.{◌≡◌, ◌*◌, ◌≤◌, length, take}
 use Rattle.arith.proofs.Loops.{upto}
 use Rattle.voice.specs.Internal.Sums.{Small}
 use Rattle.state.specs.Slots.{slots_of, records_of}
@@ -16,7 +16,3 @@ invariant-loop-i l = (length (slots_of l.e) ≡ 32)
     × Small l.i l.acc
     × (length l.acc ≡ length l.initial.acc)
     × (2 * l.n ≤ length l.initial.acc)
-    × (l.i ≤ 32)
-
-abbrev pub decreases-loop-i : goal.decreases-loop-i
-decreases-loop-i l = 32 - l.i

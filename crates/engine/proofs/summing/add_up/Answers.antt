@@ -1,5 +1,6 @@
 -- The output is cleared, and all slots are added to its zeros.
-use Rattle.std.proofs.Common.{ℕ, length, replicate, pos, sym, ap, ◌∙◌, subst, arith, rules}
+use Rattle.std.proofs.Common.{ℕ, length, replicate, pos, sym, ap, ◌∙◌, subst, arith, rules, ◌≡◌}
+use Rattle.std.proofs.lemmas.Slice.{overwrites}
 use lib.ListN.{length-replicate}
 use Rattle.state.specs.Slots.{slots_of}
 use Rattle.voice.specs.Internal.Sums.{Small}
@@ -9,17 +10,18 @@ use Rattle.engine.proofs.SummingLaws.{all-summed}
 use Rattle.engine.proofs.summing.add_up.Goals as goal
 
 pub run_all-requires : goal.run_all-requires
-run_all-requires c = let zeros = c.clear.ensures in
+run_all-requires c = let zeros : c.fill.new.self ≡ replicate (length c.args.acc.now) (pos 0) = search (rules, overwrites) in
     let long = ap length zeros ∙ length-replicate (length c.args.acc.now) (pos 0) in
     record { sums = (omega (arith, long, c.requires), subst (Small 0) (sym zeros) (zeros-small (length c.args.acc.now))) }
 
 pub returns : goal.returns
 returns c = let a = c.args in
+    let zeros : c.fill.new.self ≡ replicate (length a.acc.now) (pos 0) = search (rules, overwrites) in
     let f = slot_heard a.ram.now a.rom.now a.e a.n in
     record {
       state = c.run_all.ensures.state;
       output = c.run_all.ensures.sums
-          ∙ ap (add_all f (slots_of a.e)) c.clear.ensures
+          ∙ ap (add_all f (slots_of a.e)) zeros
           ∙ ap (λ (m : ℕ). add_all f (slots_of a.e) (replicate m (pos 0))) (sym c.requires)
           ∙ all-summed a.ram.now a.rom.now a.e a.n;
     }

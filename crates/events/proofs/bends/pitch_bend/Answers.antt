@@ -11,7 +11,7 @@ pub returns-then-past_bend : goal.returns-then-past_bend
 unfolding pitch_bend
 returns-then-past_bend c = let a = c.args in
     let p = c.past_bend in
-    c.refuse.ensures ∙ sym (refuses (past_bend a.channel a.bend) a.e _ (sym p.ensures ∙ c.if-past_bend.true))
+    sym (refuses (past_bend a.channel a.bend) a.e.now _ (sym p.ensures ∙ c.if-past_bend.true))
 
 pub with_channel-requires : goal.with_channel-requires
 with_channel-requires c = let a = c.args in
@@ -21,5 +21,5 @@ pub returns : goal.returns
 unfolding pitch_bend
 returns c = let a = c.args in
     let q = sym c.past_bend.ensures ∙ c.if-past_bend.false in
-    let put = ap (λ (x : Channel). with_channel a.e a.channel (with_bend x a.bend)) c.channel_of-c.ensures in
-    c.made.ensures ∙ ap (done 0) (c.with_channel.ensures ∙ put) ∙ sym (passes (past_bend a.channel a.bend) a.e _ q)
+    let put = ap (λ (x : Channel). with_channel a.e.now a.channel (with_bend x a.bend)) c.channel_of-c.ensures in
+    ap (done 0) (c.with_channel.ensures ∙ put) ∙ sym (passes (past_bend a.channel a.bend) a.e.now _ q)

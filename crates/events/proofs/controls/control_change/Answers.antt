@@ -9,7 +9,7 @@ pub returns-then-past_two : goal.returns-then-past_two
 unfolding control_change
 returns-then-past_two c = let a = c.args in
     let p = c.past_two in
-    c.refuse.ensures ∙ sym (refuses (past_two a.channel a.control a.value) a.e _ (sym p.ensures ∙ c.if-past_two.true))
+    sym (refuses (past_two a.channel a.control a.value) a.e.now _ (sym p.ensures ∙ c.if-past_two.true))
 
 pub control_one-requires : goal.control_one-requires
 control_one-requires c = let a = c.args in
@@ -19,4 +19,4 @@ pub returns : goal.returns
 unfolding control_change
 returns c = let a = c.args in
     let q = sym c.past_two.ensures ∙ c.if-past_two.false in
-    c.made.ensures ∙ ap (done 0) c.control_one.ensures ∙ sym (passes (past_two a.channel a.control a.value) a.e _ q)
+    ap (done 0) c.control_one.ensures ∙ sym (passes (past_two a.channel a.control a.value) a.e.now _ q)

@@ -4,7 +4,7 @@ use mathlib.Core.Bool.{false}
 use borrow.Author.Tests.{le-ltb, lt-ltb}
 use Rattle.voice.specs.declared.Channel.{Channel}
 use Rattle.state.specs.declared.Engine.{Engine}
-use Rattle.state.specs.declared.Answered.{Answered}
+use Rattle.state.specs.Answers.{Answered}
 use Rattle.events.specs.declared.Whom.TheVariants.{Marked}
 use Rattle.state.specs.Channels.{with_channel}
 use Rattle.events.specs.Controls.{with_pedal, pedal}
@@ -22,6 +22,6 @@ pub returns : goal.returns
 unfolding pedal off_all
 returns c = let a = c.args in
     let x = c.with_channel-x.ensures ∙ ap (λ (y : Channel). with_channel a.e a.channel (with_pedal y a.value)) c.channel_of-c.ensures in
-    ap (λ (y : Answered). y.engine) c.off_all-a.ensures
+    ap (λ (y : Answered). y.engine) c.off_all.ensures
     ∙ ap (λ (y : Engine). (off_all a.channel Marked false y).engine) x
     ∙ simp (lt-ltb a.value 64 c.if-value-ge64.false)

@@ -13,7 +13,6 @@ pub loop-i-init : goal.loop-i-init
 loop-i-init c = let e = c.args.e in (
   paired-length e.sounding e.voices ∙ c.well_formed.0.1.1.0.1.0.1,
   sym (word_none (cut (of_channel c.args.channel)) (slots_of e)),
-  omega arith,
 )
 
 pub overflow_add-word : goal.overflow_add-word
@@ -31,7 +30,7 @@ loop-i-preserved c = let turn : c.loop-i.word + c.flag-word.result
     cut-turn p (slots_of c.args.e) c.loop-i.i c.loop-i.word c.flag-word.result c.of_channel.result
     c.slot_of-s.result c.freed_if-t.result (cut-free c.args.channel blank) (omega (arith, c.loop-i.invariant.0))
     c.loop-i.invariant.1 c.slot_of-s.ensures c.of_channel.ensures c.freed_if-t.ensures c.flag-word.ensures in
-    (c.loop-i.invariant.0, turn, omega arith)
+    (c.loop-i.invariant.0, turn)
 
 pub returns : goal.returns
 unfolding silence

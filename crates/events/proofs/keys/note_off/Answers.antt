@@ -9,10 +9,10 @@ pub returns-then-past_one : goal.returns-then-past_one
 unfolding note_off
 returns-then-past_one c = let a = c.args in
     let p = c.past_one in
-    c.refuse.ensures ∙ sym (refuses (past_one a.channel a.key) a.e _ (sym p.ensures ∙ c.if-past_one.true))
+    sym (refuses (past_one a.channel a.key) a.e.now _ (sym p.ensures ∙ c.if-past_one.true))
 
 pub returns : goal.returns
 unfolding note_off
 returns c = let a = c.args in
     let p = c.past_one in
-    c.off_key.ensures ∙ sym (passes (past_one a.channel a.key) a.e _ (sym p.ensures ∙ c.if-past_one.false))
+    c.off_key.ensures ∙ sym (passes (past_one a.channel a.key) a.e.now _ (sym p.ensures ∙ c.if-past_one.false))

@@ -11,7 +11,7 @@ use Rattle.state.specs.Slots.{slots_of}
 use Rattle.state.specs.Answers.{done}
 use Rattle.events.specs.Keys.{let_off}
 use Rattle.events.specs.Internal.Keys.{picked, off_all}
-use Rattle.events.proofs.KeysLaws.{picked-free, off-keeps}
+use Rattle.events.proofs.KeysLaws.{picked-free, off-keeps, one-if}
 use Rattle.state.proofs.SlotLoopLaws.{paired-length, word_to, word_none, flag-turn, word_fits, store-none, store-turn, store-all}
 use Rattle.events.proofs.keys.off_all.Goals as goal
 
@@ -23,15 +23,14 @@ loop-i-init c = let e = c.args.e in
       store-none f e,
       sym (word_none f (slots_of e)),
       refl,
-      omega arith,
     )
 
 pub overflow_add-count : goal.overflow_add-count
-overflow_add-count c = let counted : c.loop-i.count + c.one_if-count.result
+overflow_add-count c = let counted : c.loop-i.count + c.from-count.result
     ≡ count_to (picked c.args.channel c.args.whom)
     (c.loop-i.i + 1) (slots_of c.args.e) = let a = c.args in
     let p = picked a.channel a.whom in
-    let q = c.one_if-count.ensures ∙ ap (λ (b : Bool). cond b 1 0) (c.is_picked.ensures ∙ ap p c.slot_of-s.ensures) in
+    let q : c.from-count.result ≡ cond (p (get_or (slots_of a.e) c.loop-i.i (free blank))) 1 0 = c.from-count.ensures ∙ one-if c.is_picked.result ∙ ap (λ (b : Bool). cond b 1 0) (c.is_picked.ensures ∙ ap p c.slot_of-s.ensures) in
     omega (arith, c.loop-i.invariant.3, q, count-step p (slots_of a.e) c.loop-i.i (free blank) (omega (arith, c.loop-i.invariant.0))) in
     let p = picked c.args.channel c.args.whom in
     omega (arith, counted, count-le p (slots_of c.args.e) (c.loop-i.i + 1))
@@ -65,11 +64,11 @@ loop-i-preserved c = let one : c.off_one-t.result
     flag-turn (let_off a.down p) (slots_of a.e) c.loop-i.i c.loop-i.word c.flag-word.result c.off_one-t.result
     (off-keeps a.down p (free blank) (picked-free a.channel a.whom blank)) (omega (arith, c.loop-i.invariant.0)) c.loop-i.invariant.2 (one)
     c.flag-word.ensures in
-    let counted : c.loop-i.count + c.one_if-count.result
+    let counted : c.loop-i.count + c.from-count.result
     ≡ count_to (picked c.args.channel c.args.whom)
     (c.loop-i.i + 1) (slots_of c.args.e) = let a = c.args in
     let p = picked a.channel a.whom in
-    let q = c.one_if-count.ensures ∙ ap (λ (b : Bool). cond b 1 0) (c.is_picked.ensures ∙ ap p c.slot_of-s.ensures) in
+    let q : c.from-count.result ≡ cond (p (get_or (slots_of a.e) c.loop-i.i (free blank))) 1 0 = c.from-count.ensures ∙ one-if c.is_picked.result ∙ ap (λ (b : Bool). cond b 1 0) (c.is_picked.ensures ∙ ap p c.slot_of-s.ensures) in
     omega (arith, c.loop-i.invariant.3, q, count-step p (slots_of a.e) c.loop-i.i (free blank) (omega (arith, c.loop-i.invariant.0))) in
     let a = c.args in
     let f = let_off a.down (picked a.channel a.whom) in (
@@ -77,7 +76,6 @@ loop-i-preserved c = let one : c.off_one-t.result
       store-turn f (slots_of a.e) a.e c.loop-i.x c.loop-i.i c.off_one-t.result (omega arith) c.loop-i.invariant.1 (one),
       turn,
       counted,
-      omega arith,
     )
 
 pub returns : goal.returns

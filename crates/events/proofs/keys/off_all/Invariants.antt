@@ -1,6 +1,5 @@
 -- A turn lets slot i off where it is picked, counts it, stores its record, and adds its flag to the word.
 use mathlib.Core.Path.{◌≡◌}
-use Prim.Native.Nat.{◌-◌, ◌≤◌}
 use lib.ListN.{length}
 use Rattle.arith.proofs.Loops.{upto, count_to}
 use Rattle.state.specs.Slots.{slots_of, records_of}
@@ -14,7 +13,3 @@ invariant-loop-i l = (length (slots_of l.e) ≡ 32)
     × (l.x ≡ with_voices l.e (records_of (upto (let_off l.down (picked l.channel l.whom)) l.i (slots_of l.e))))
     × (l.word ≡ word_to (let_off l.down (picked l.channel l.whom)) l.i (slots_of l.e))
     × (l.count ≡ count_to (picked l.channel l.whom) l.i (slots_of l.e))
-    × (l.i ≤ 32)
-
-abbrev pub decreases-loop-i : goal.decreases-loop-i
-decreases-loop-i l = 32 - l.i

@@ -9,4 +9,4 @@ use Rattle.events.proofs.keys.off_key.Goals as goal
 pub returns : goal.returns
 unfolding off off_key off_all
 returns c = let a = c.args in
-    c.off_all.ensures ∙ ap (λ (b : Bool). off_all a.channel (Key a.key) b a.e) c.is_down-down.ensures
+    c.off_all-count.ensures ∙ ap (λ (b : Bool). off_all a.channel (Key a.key) b a.e.now) c.is_down-down.ensures

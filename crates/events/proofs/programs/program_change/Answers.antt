@@ -11,7 +11,7 @@ pub returns-then-past_one : goal.returns-then-past_one
 unfolding program_change
 returns-then-past_one c = let a = c.args in
     let p = c.past_one in
-    c.refuse.ensures ∙ sym (refuses (past_one a.channel a.program) a.e _ (sym p.ensures ∙ c.if-past_one.true))
+    sym (refuses (past_one a.channel a.program) a.e.now _ (sym p.ensures ∙ c.if-past_one.true))
 
 pub with_channel-requires : goal.with_channel-requires
 with_channel-requires c = let a = c.args in
@@ -21,5 +21,5 @@ pub returns : goal.returns
 unfolding program_change
 returns c = let a = c.args in
     let q = sym c.past_one.ensures ∙ c.if-past_one.false in
-    let put = ap (λ (x : Channel). with_channel a.e a.channel (with_program x a.program)) c.channel_of-c.ensures in
-    c.made.ensures ∙ ap (done 0) (c.with_channel.ensures ∙ put) ∙ sym (passes (past_one a.channel a.program) a.e _ q)
+    let put = ap (λ (x : Channel). with_channel a.e.now a.channel (with_program x a.program)) c.channel_of-c.ensures in
+    ap (done 0) (c.with_channel.ensures ∙ put) ∙ sym (passes (past_one a.channel a.program) a.e.now _ q)

@@ -14,30 +14,29 @@ pub loop-i-init : goal.loop-i-init
 loop-i-init c = let a = c.args in
     let e = a.e in (
       paired-length e.sounding e.voices ∙ c.well_formed.0.1.1.0.1.0.1,
-      sym (word_none (cut (rival a.channel (take a.n a.voices))) (slots_of e)),
-      omega arith,
+      sym (word_none (cut (rival a.channel a.voices.now)) (slots_of e)),
     )
 
 pub overflow_add-word : goal.overflow_add-word
 overflow_add-word c = let turn : c.loop-i.word + c.flag-word.result
-    ≡ word_to (cut (rival c.args.channel (take c.args.n c.args.voices))) (c.loop-i.i + 1) (slots_of c.args.e) = let a = c.args in
-    cut-turn (rival c.args.channel (take c.args.n c.args.voices)) (slots_of a.e) c.loop-i.i c.loop-i.word c.flag-word.result c.is_rival.result
-    c.slot_of-s.result c.freed_if-t.result (rival-free a.channel (take a.n a.voices) blank)
+    ≡ word_to (cut (rival c.args.channel c.args.voices.now)) (c.loop-i.i + 1) (slots_of c.args.e) = let a = c.args in
+    cut-turn (rival c.args.channel c.args.voices.now) (slots_of a.e) c.loop-i.i c.loop-i.word c.flag-word.result c.is_rival.result
+    c.slot_of-s.result c.freed_if-t.result (rival-free a.channel a.voices.now blank)
     (omega (arith, c.loop-i.invariant.0)) c.loop-i.invariant.1 c.slot_of-s.ensures c.is_rival.ensures
     c.freed_if-t.ensures c.flag-word.ensures in
-    let f = cut (rival c.args.channel (take c.args.n c.args.voices)) in
+    let f = cut (rival c.args.channel c.args.voices.now) in
     omega (arith, turn, word_fits f (slots_of c.args.e) (c.loop-i.i + 1) c.loop-i.invariant.0 (omega arith))
 
 pub loop-i-preserved : goal.loop-i-preserved
 loop-i-preserved c = let turn : c.loop-i.word + c.flag-word.result
-    ≡ word_to (cut (rival c.args.channel (take c.args.n c.args.voices))) (c.loop-i.i + 1) (slots_of c.args.e) = let a = c.args in
-    cut-turn (rival c.args.channel (take c.args.n c.args.voices)) (slots_of a.e) c.loop-i.i c.loop-i.word c.flag-word.result c.is_rival.result
-    c.slot_of-s.result c.freed_if-t.result (rival-free a.channel (take a.n a.voices) blank)
+    ≡ word_to (cut (rival c.args.channel c.args.voices.now)) (c.loop-i.i + 1) (slots_of c.args.e) = let a = c.args in
+    cut-turn (rival c.args.channel c.args.voices.now) (slots_of a.e) c.loop-i.i c.loop-i.word c.flag-word.result c.is_rival.result
+    c.slot_of-s.result c.freed_if-t.result (rival-free a.channel a.voices.now blank)
     (omega (arith, c.loop-i.invariant.0)) c.loop-i.invariant.1 c.slot_of-s.ensures c.is_rival.ensures
     c.freed_if-t.ensures c.flag-word.ensures in
-    (c.loop-i.invariant.0, turn, omega arith)
+    (c.loop-i.invariant.0, turn)
 
 pub returns : goal.returns
 unfolding cleared
 returns c = let i : c.loop-i.i ≡ 32 = omega arith in
-    c.with_word.ensures ∙ cut_all (rival c.args.channel (take c.args.n c.args.voices)) c.args.e c.loop-i.word c.loop-i.i c.loop-i.invariant.0 i c.loop-i.invariant.1
+    c.with_word.ensures ∙ cut_all (rival c.args.channel c.args.voices.now) c.args.e c.loop-i.word c.loop-i.i c.loop-i.invariant.0 i c.loop-i.invariant.1

@@ -1,16 +1,12 @@
 -- It is of the channel, and its class is one of the layers'.
 use mathlib.Core.Path.{sym, ◌∙◌}
-use borrow.Author.Tests.{not-true, not-false}
 use Rattle.events.specs.Starting.{rival}
 use Rattle.events.proofs.starting.is_rival.Goals as goal
 
-pub returns-then-not-of_channel : goal.returns-then-not-of_channel
+pub returns-then-of_channel : goal.returns-then-of_channel
 unfolding rival
-returns-then-not-of_channel c = let k = c.of_channel in
-    let e = sym k.ensures ∙ not-true k.result c.if-not-of_channel.true-raw in simp e
+returns-then-of_channel c = let e = sym c.of_channel.ensures ∙ c.if-of_channel.true in simp e c.class_in.ensures
 
-pub returns : goal.returns
+pub returns-else-of_channel : goal.returns-else-of_channel
 unfolding rival
-returns c = let k = c.of_channel in
-    let e = sym k.ensures ∙ not-false k.result c.if-not-of_channel.false-raw in
-    simp e c.class_in.ensures
+returns-else-of_channel c = let e = sym c.of_channel.ensures ∙ c.if-of_channel.false in c.if-of_channel.false ∙ simp e

@@ -1,7 +1,6 @@
--- A turn starts layer i.
-use mathlib.Core.Path.{◌≡◌, sym, ap, ◌∙◌}
+-- A turn starts one layer.
+use mathlib.Core.Path.{sym, ap, ◌∙◌}
 use native.Mathlib.Omega.{arith}
-use Prim.Native.Nat.{ℕ, ◌-◌}
 use lib.ListN.{get_or, take}
 use Rattle.voice.specs.Changes.{blank}
 use Rattle.events.specs.Starting.{start, start_all}
@@ -9,19 +8,10 @@ use Rattle.events.specs.Internal.Starting.{begin}
 use Rattle.events.proofs.StartingLaws.{start_none, start-turn}
 use Rattle.events.proofs.starting.start_all.Goals as goal
 
-pub loop-i-init : goal.loop-i-init
-loop-i-init c = (c.well_formed.1.0.1.0.1, sym (start_none c.args.voices (begin c.args.e)), omega arith, omega arith)
+pub loop-v-init : goal.loop-v-init
+loop-v-init c = sym (start_none c.args.voices.now (begin c.args.e))
 
-pub loop-i-preserved : goal.loop-i-preserved
-loop-i-preserved c = let a = c.args in (
-  c.loop-i.invariant.0,
-  c.start_one-b.ensures ∙ ap (start (get_or a.voices c.loop-i.i blank)) c.loop-i.invariant.1
-      ∙ sym (start-turn a.voices c.loop-i.i (begin a.e) (omega (arith, c.loop-i.invariant.0))),
-  omega arith,
-  omega arith,
-)
-
-pub returns : goal.returns
-returns c = let a = c.args in
-    let e : c.loop-i.i ≡ a.n = omega arith in
-    c.loop-i.invariant.1 ∙ ap (λ (k : ℕ). start_all (take k a.voices) (begin a.e)) e
+pub loop-v-preserved : goal.loop-v-preserved
+loop-v-preserved c = let a = c.args in
+    c.start_one-b.ensures ∙ ap (start (get_or a.voices.now c.loop-v.v-index blank)) c.loop-v.invariant
+    ∙ sym (start-turn a.voices.now c.loop-v.v-index (begin a.e) (omega arith))

@@ -17,7 +17,7 @@ unfolding layers_answer
 returns-then-n-gt32 c = let layers : List Voice = let a = c.args in
     voices_of a.bank.now a.m a.h a.channel a.key a.velocity in
     let counted : c.voices_for-s.result.count ≡ length (layers) = few-count c.voices_for-s.result (layers) c.voices_for-s.ensures in
-    c.refuse.ensures ∙ simp (lt-ltb 32 (length (layers)) (omega (arith, counted, c.if-n-gt32.true)))
+    simp (lt-ltb 32 (length (layers)) (omega (arith, counted, c.if-n-gt32.true)))
 
 pub returns-then-any_past : goal.returns-then-any_past
 unfolding layers_answer
@@ -27,7 +27,7 @@ returns-then-any_past c = let layers : List Voice = let a = c.args in
     let a = c.args in
     let few = few-by c.voices_for-s.result (layers) c.voices_for-s.ensures c.if-n-gt32.false in
     let q = sym (c.any_past.ensures ∙ ap (any_past a.ram.now a.rom.now) few) ∙ c.if-any_past.true in
-    c.refuse-then-any_past.ensures ∙ simp (le-ltb 32 (length (layers)) (omega (arith, counted, c.if-n-gt32.false)), q)
+    simp (le-ltb 32 (length (layers)) (omega (arith, counted, c.if-n-gt32.false)), q)
 
 pub returns : goal.returns
 unfolding layers_answer
@@ -37,5 +37,5 @@ returns c = let layers : List Voice = let a = c.args in
     let a = c.args in
     let few = few-by c.voices_for-s.result (layers) c.voices_for-s.ensures c.if-n-gt32.false in
     let q = sym (c.any_past.ensures ∙ ap (any_past a.ram.now a.rom.now) few) ∙ c.if-any_past.false in
-    ap₂ done (counted) (c.strike.ensures ∙ ap (λ (vs : List Voice). (struck a.channel vs a.e).engine) few)
+    ap₂ done (counted) (c.strike.ensures ∙ ap (λ (vs : List Voice). (struck a.channel vs a.e.now).engine) few)
     ∙ simp (le-ltb 32 (length (layers)) (omega (arith, counted, c.if-n-gt32.false)), q)

@@ -7,9 +7,6 @@ use Rattle.riff.specs.Internal.Chunks.{sought_at}
 use Rattle.riff.proofs.ChunksLaws.{next-in, first-further, first-none, first-here}
 use Rattle.riff.proofs.chunks.first.Goals as goal
 
-pub loop-end-init : goal.loop-end-init
-loop-end-init c = (refl, c.requires.0)
-
 pub returns-then-is_named : goal.returns-then-is_named
 unfolding sought_at
 returns-then-is_named c = let a = c.args in

@@ -4,9 +4,6 @@ use native.Mathlib.Omega.{arith}
 use Rattle.riff.proofs.ChunksLaws.{next-in, stop-further, stop-done}
 use Rattle.riff.proofs.chunks.stop.Goals as goal
 
-pub loop-place-init : goal.loop-place-init
-loop-place-init c = (refl, c.requires.0)
-
 pub loop-place-smaller : goal.loop-place-smaller
 loop-place-smaller c = let a = c.args in
     let whole = sym c.is_whole.ensures ∙ c.loop-place-test.true in

@@ -39,7 +39,7 @@ returns c = let a = c.args in
     let gain = c.gain-g.ensures.0 in
     record {
       value = ap₂ (λ (h l : ℕ). record { number = 0; held = h; loudest = l })
-          (c.least-held.ensures ∙ ap (λ (k : ℕ). min k 4294967295) (c.frames_past.ensures ∙ ap (λ (k : ℕ). frames_past k zs) gain)) c.loudest_of.ensures
+          (c.min-held.ensures ∙ ap (λ (k : ℕ). min k 4294967295) (c.frames_past.ensures ∙ ap (λ (k : ℕ). frames_past k zs) gain)) c.loudest_of.ensures
           ∙ sym (sums-answer a.attenuation zs (length out) zero);
       output = c.fill.ensures
           ∙ ap (λ (k : ℕ). poured_sums k zs ++ drop (2 * length zs) out) gain
