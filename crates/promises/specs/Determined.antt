@@ -14,7 +14,7 @@ use Rattle.bank.specs.declared.Fault.{Fault}
 use Rattle.bank.specs.Past.{past_memory}
 use Rattle.layers.specs.declared.Sheet.{Sheet}
 use Rattle.layers.specs.declared.NoSheet.{NoSheet}
-use Rattle.layers.specs.Spans.{SheetNumbers, sheet_of, told}
+use Rattle.layers.specs.Spans.{SheetNumbers, sheet_of, told_sheet}
 use Rattle.reader.specs.declared.Opened.{Opened}
 use Rattle.reader.specs.Reader.{opened_of, next_of, nth_listed, further}
 use Rattle.reader.specs.declared.Reader.{Reader}
@@ -153,14 +153,14 @@ PastMemoryDetermined = (bank : List ℕ) (ram rom : ℕ) → Settles (Option ℕ
 
 -- ---- layers
 
--- what is told of the preset at a place, by its numbers, which `told` gives of an answer
+-- what is told of the preset at a place, by its numbers, which `told_sheet` gives of an answer
 -- contract of layers::preset_sheet(bank, place)
 abbrev pub PresetSheetDetermined : Type 0
 PresetSheetDetermined = (bank : List ℕ) (place : ℕ) → Settles SheetNumbers (λ r. r ≡ sheet_of bank place)
 
--- the numbers of two answers are one only where the answers are: tells apart layers::told
-abbrev pub ToldTellsApart : Type 0
-ToldTellsApart = (a b : Result Sheet NoSheet) → told a ≡ told b → a ≡ b
+-- the numbers of two answers are one only where the answers are: tells apart layers::told_sheet
+abbrev pub ToldSheetApart : Type 0
+ToldSheetApart = (a b : Result Sheet NoSheet) → told_sheet a ≡ told_sheet b → a ≡ b
 
 -- ---- reader
 
