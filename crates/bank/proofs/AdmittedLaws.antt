@@ -11,7 +11,7 @@ use lib.Signed.{◌≤ℤ◌, ◌<ℤ◌}
 use lib.Dec.{ltb→lt, leb→le, lt→ltb, le→leb}
 use Rattle.bank.specs.Admission.{fault_number, fault_of, admitted}
 use Rattle.bank.specs.declared.Fault.{Fault}
-use Rattle.bank.specs.declared.Fault.TheVariants.{Fine, Long, Chunk, Records, Index, Number, Rate, Window}
+use Rattle.std.specs.Prelude.{Result, Ok, Err}
 use Rattle.bank.specs.Rules.{Admitted, Rising, GoodSide, GoodWindow, Sounding}
 use Rattle.bank.proofs.RulesLaws.{fine-rules, rules-fine}
 use Rattle.records.specs.Chunks.{chunk_at}
@@ -24,15 +24,9 @@ use Rattle.records.specs.declared.Zone.{Zone}
 use Rattle.records.specs.Headers.{rate_of}
 use Rattle.records.specs.Zones.{zone_at, global_of}
 
-number-fine : (f : Fault) → fault_number f ≡ 0 → f ≡ Fine
-number-fine Fine e = refl
-number-fine (Long p) e = absurd (omega arith)
-number-fine (Chunk p) e = absurd (omega arith)
-number-fine (Records p) e = absurd (omega arith)
-number-fine (Index p) e = absurd (omega arith)
-number-fine (Number p) e = absurd (omega arith)
-number-fine (Rate p) e = absurd (omega arith)
-number-fine (Window p) e = absurd (omega arith)
+number-fine : (f : Result (Unit {0}) Fault) → fault_number f ≡ 0 → f ≡ Ok tt
+number-fine (Ok u) e = refl
+number-fine (Err f) e = absurd (omega arith)
 
 -- a bank is admitted exactly where 01's rules hold
 pub admitted-rules : (b : List ℕ) → admitted b ≡ true → Admitted b

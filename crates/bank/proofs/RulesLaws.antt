@@ -1,5 +1,7 @@
--- `fault_of` gives `Fine` exactly for the banks that 01's rules admit.
-use Rattle.std.specs.Prelude.{Option, None, Some, is_some}
+-- `fault_of` gives no fault exactly for the banks that 01's rules admit.
+use Rattle.bank.proofs.AdmissionLaws.{Answer, fault-none}
+use Rattle.std.specs.Result.{result_and}
+use Rattle.std.specs.Prelude.{Result, Ok, Err, Option, None, Some, is_some}
 use mathlib.Core.Bool.{Bool, true, false, ◌||◌, ◌&&◌, not, and-false}
 use mathlib.Core.Path.{◌≡◌, refl, sym, subst, ap, ◌∙◌}
 use Prim.Native.Nat.{ℕ, ◌+◌, ◌-◌, ◌≤◌, ◌<◌, zero, suc, ◌%◌}
@@ -20,7 +22,8 @@ use Rattle.records.specs.Sides.{bag_of, parts_of, bag_at, gen_of, mod_of, head_a
 use Rattle.records.specs.Zones.{zone_count, zone_below, first_zone, zone_at, global_of}
 use Rattle.records.specs.declared.Side.{Side}
 use Rattle.bank.specs.declared.Fault.{Fault}
-use Rattle.bank.specs.declared.Fault.TheVariants.{Fine, Long, Chunk, Records, Index, Number, Rate, Window}
+use Rattle.bank.specs.declared.FaultKind.{FaultKind}
+use Rattle.bank.specs.declared.FaultKind.TheVariants.{Long, Chunk, Records, Index, Number, Rate, Window}
 use Rattle.records.specs.Chunks.{records, names, chunk_at, name_at, sizes, leasts, bytes_in}
 use Rattle.records.specs.declared.Parts.{Parts}
 use Rattle.records.specs.Headers.{sample_at, rate_of}
@@ -99,9 +102,9 @@ no-zone b s p e h z w =
 
 -- ---- the seven tests, one after the other
 
-step : (f : Option ℕ) (kind : ℕ → Fault) (rest : Fault) → ((p : ℕ) → kind p ≡ Fine → ⊥) → elim f [ Some p ↦ kind p | None ↦ rest ] ≡ Fine → (f ≡ None) × (rest ≡ Fine)
-step None kind rest other e = (refl, e)
-step (Some p) kind rest other e = absurd (other p e)
+step : (kind : FaultKind) (f : Option ℕ) (rest : Answer) → result_and (Admission.fault_at kind f) rest ≡ Ok tt → (f ≡ None) × (rest ≡ Ok tt)
+step kind None rest e = (refl, e)
+step kind (Some p) rest e = let z : ◌≡◌ {A = ℕ} 0 1 = cc in absurd (omega arith)
 
 record Passed (b : List ℕ) (m : Parts) : Type 0 where
   long : Admission.long_fault b ≡ None
@@ -112,21 +115,22 @@ record Passed (b : List ℕ) (m : Parts) : Type 0 where
   rate : BankRates.rate_fault b m ≡ None
   window : BankBounds.window_fault b m ≡ None
 
-passed : (b : List ℕ) → Admission.fault_of b ≡ Fine → Passed b (parts_of b)
+passed : (b : List ℕ) → Admission.fault_of b ≡ Ok tt → Passed b (parts_of b)
 unfolding Admission.fault_of
 passed b e =
-    let r1 = step (Admission.long_fault b) Long _ (λ p h. let z : ◌≡◌ {A = ℕ} 0 1 = cc in omega arith) e in
-    let r2 = step (BankFraming.chunk_fault b) Chunk _ (λ p h. let z : ◌≡◌ {A = ℕ} 0 1 = cc in omega arith) r1.1 in
-    let r3 = step (BankFraming.records_fault b) Records _ (λ p h. let z : ◌≡◌ {A = ℕ} 0 1 = cc in omega arith) r2.1 in
-    let r4 = step (BankIndexes.index_fault b (parts_of b)) Index _ (λ p h. let z : ◌≡◌ {A = ℕ} 0 1 = cc in omega arith) r3.1 in
-    let r5 = step (BankLinks.number_fault b (parts_of b)) Number _ (λ p h. let z : ◌≡◌ {A = ℕ} 0 1 = cc in omega arith) r4.1 in
-    let r6 = step (BankRates.rate_fault b (parts_of b)) Rate _ (λ p h. let z : ◌≡◌ {A = ℕ} 0 1 = cc in omega arith) r5.1 in
-    let r7 = step (BankBounds.window_fault b (parts_of b)) Window _ (λ p h. let z : ◌≡◌ {A = ℕ} 0 1 = cc in omega arith) r6.1 in
-    record { long = r1.0; chunk = r2.0; records = r3.0; index = r4.0; number = r5.0; rate = r6.0; window = r7.0 }
+    let m = parts_of b in
+    let r1 = step Long (Admission.long_fault b) _ e in
+    let r2 = step Chunk (BankFraming.chunk_fault b) _ r1.1 in
+    let r3 = step Records (BankFraming.records_fault b) _ r2.1 in
+    let r4 = step Index (BankIndexes.index_fault b m) _ r3.1 in
+    let r5 = step Number (BankLinks.number_fault b m) _ r4.1 in
+    let r6 = step Rate (BankRates.rate_fault b m) _ r5.1 in
+    let window = fault-none Window (BankBounds.window_fault b m) r6.1 in
+    record { long = r1.0; chunk = r2.0; records = r3.0; index = r4.0; number = r5.0; rate = r6.0; window = window }
 
 -- ---- each test, and its rule
 
-short : (b : List ℕ) → Admission.long_fault b ≡ None → length b ≤ 65536
+pub short : (b : List ℕ) → Admission.long_fault b ≡ None → length b ≤ 65536
 unfolding Admission.long_fault
 short b e = ltb-false 65536 (length b) (given-none (ltb 65536 (length b)) 65536 e)
 
@@ -254,7 +258,7 @@ good-sounds b m rate window side =
         good-window b m (zone_at b s z).link (movers b m (zone_at b s z) (global_of b s h)) (not-false t (and_left (zone_at b s z).sounding (not t) f w.sounds))
 
 -- a bank in which no fault is found obeys every rule
-pub fine-rules : (b : List ℕ) → Admission.fault_of b ≡ Fine → Admitted b
+pub fine-rules : (b : List ℕ) → Admission.fault_of b ≡ Ok tt → Admitted b
 unfolding parts_of BankIndexes.index_fault BankLinks.number_fault
 fine-rules b e =
     let t = passed b e in
@@ -435,19 +439,17 @@ number-none : (b : List ℕ) (m : Parts) → GoodSide b m.presets → GoodSide b
 unfolding BankLinks.number_fault
 number-none b m p i = rw (link-none b m.presets p, link-none b m.instruments i) refl
 
-along : (f : Option ℕ) (kind : ℕ → Fault) (rest : Fault) → f ≡ None → rest ≡ Fine → elim f [ Some p ↦ kind p | None ↦ rest ] ≡ Fine
-along None kind rest e r = r
-along (Some p) kind rest e r = let z : ◌≡◌ {A = ℕ} 0 1 = cc in absurd (omega arith)
-
 -- in a bank that obeys every rule no fault is found
-pub rules-fine : (b : List ℕ) → Admitted b → Admission.fault_of b ≡ Fine
+pub rules-fine : (b : List ℕ) → Admitted b → Admission.fault_of b ≡ Ok tt
 unfolding Admission.fault_of parts_of
 rules-fine b a =
     let m = parts_of b in
-    along (Admission.long_fault b) Long _ (long-none b a.short)
-    (along (BankFraming.chunk_fault b) Chunk _ (chunk-none b a)
-    (along (BankFraming.records_fault b) Records _ (records-none b a)
-    (along (BankIndexes.index_fault b m) Index _ (index-none b m a.preset-side a.instrument-side)
-    (along (BankLinks.number_fault b m) Number _ (number-none b m a.preset-side a.instrument-side)
-    (along (BankRates.rate_fault b m) Rate _ (rate-none b m a.sounds)
-    (along (BankBounds.window_fault b m) Window Fine (window-none b m a.sounds) refl))))))
+    rw (
+      long-none b a.short,
+      chunk-none b a,
+      records-none b a,
+      index-none b m a.preset-side a.instrument-side,
+      number-none b m a.preset-side a.instrument-side,
+      rate-none b m a.sounds,
+      window-none b m a.sounds,
+    ) refl

@@ -31,13 +31,11 @@ fn window_in(b: &[u8], m: Parts, h: u32) -> Option<usize>
     let global = records::poured(b, i, records::global_of(b, i, h), [0i16; 61]);
     let from = records::bag_of(b, i, h as usize) as u32;
     let count = records::zone_count(b, i, h) as u32;
-    let mut j: u32 = 0;
-    while j < count {
+    for j in 0..count {
         let z = from + j;
         if bad_over(b, m, global, z) {
             return Some(records::link_at(i, records::zone_at(b, i, z)));
         }
-        j = j + 1;
     }
     None
 }
@@ -48,13 +46,11 @@ pub fn window_fault(b: &[u8], m: Parts) -> Option<usize>
 {
     let i = m.instruments;
     let heads = less(i.nheads, 1);
-    let mut h: u32 = 0;
-    while h < heads {
+    for h in 0..heads {
         let found = window_in(b, m, h);
         if let Some(p) = found {
             return Some(p);
         }
-        h = h + 1;
     }
     None
 }

@@ -41,12 +41,10 @@ fn bad_chunk(b: &[u8], k: usize) -> bool
 pub fn chunk_fault(b: &[u8]) -> Option<usize>
     ensures { result ≡ chunk_fault b.now }
 {
-    let mut k: usize = 0;
-    while k < 9 {
+    for k in 0..9 {
         if bad_chunk(b, k) {
             return Some(records::chunk_at(b, k));
         }
-        k = k + 1;
     }
     let end = records::chunk_at(b, 9);
     if end < b.len() {
@@ -70,12 +68,10 @@ fn bad_records(b: &[u8], k: usize) -> bool
 pub fn records_fault(b: &[u8]) -> Option<usize>
     ensures { result ≡ records_fault b.now }
 {
-    let mut k: usize = 0;
-    while k < 9 {
+    for k in 0..9 {
         if bad_records(b, k) {
             return Some(records::chunk_at(b, k));
         }
-        k = k + 1;
     }
     None
 }

@@ -75,12 +75,10 @@ fn head_fault(b: &[u8], s: Side) -> Option<usize>
     ensures { result ≡ head_fault b.now s }
 {
     let n = s.nheads;
-    let mut h: u32 = 0;
-    while h < n {
+    for h in 0..n {
         if bad_head(b, s, h) {
             return Some((s.heads as usize) + records::times(s.width, h as usize));
         }
-        h = h + 1;
     }
     None
 }
@@ -90,12 +88,10 @@ fn bag_fault(b: &[u8], s: Side) -> Option<usize>
     ensures { result ≡ bag_fault b.now s }
 {
     let n = s.nbags;
-    let mut z: u32 = 0;
-    while z < n {
+    for z in 0..n {
         if bad_bag(b, s, z) {
             return Some((s.bags as usize) + 4 * (z as usize));
         }
-        z = z + 1;
     }
     None
 }

@@ -3,7 +3,7 @@
 #![tactic(auto)]
 
 ghost use Rattle.std.specs.Prelude.{◌≡◌};
-ghost use Rattle.bank.specs.Admission.{fault_of, fault_number, admitted};
+ghost use Rattle.bank.specs.Admission.{long_fault, fault_at, fault_of, fault_number, admitted};
 
 mod bounds;
 mod framing;
@@ -16,17 +16,23 @@ mod rates;
 pub use listing::listed_at;
 pub use past::past_memory;
 
-// What is wrong with a bank, with the byte place, in the order in which it is tested.
+// The seven tests, in their order. The number of each is the one that C is told.
 #[derive(Clone, Copy)]
-pub enum Fault {
-    Fine,
-    Long(usize),
-    Chunk(usize),
-    Records(usize),
-    Index(usize),
-    Number(usize),
-    Rate(usize),
-    Window(usize),
+pub enum FaultKind {
+    Long = 1,
+    Chunk = 2,
+    Records = 3,
+    Index = 4,
+    Number = 5,
+    Rate = 6,
+    Window = 7,
+}
+
+// What is wrong with a bank: the test that it fails, and the byte place.
+#[derive(Clone, Copy)]
+pub struct Fault {
+    pub kind: FaultKind,
+    pub place: usize,
 }
 
 // What the listing gives at a place.
@@ -41,48 +47,47 @@ pub enum Listed {
     },
 }
 
-// Admission: the first fault of the first kind, or none.
-pub fn admission(b: &[u8]) -> Fault
-    ensures { result ≡ fault_of b.now }
+// A test's answer: the place that it found is a fault of its kind.
+fn fault_at(kind: FaultKind, found: Option<usize>) -> Result<(), Fault>
+    ensures { result ≡ fault_at kind found }
+{
+    match found {
+        None => Ok(()),
+        Some(place) => Err(Fault { kind, place }),
+    }
+}
+
+// Test 1: too long.
+fn long_fault(b: &[u8]) -> Option<usize>
+    ensures { result ≡ long_fault b.now }
 {
     if 65536 < b.len() {
-        return Fault::Long(65536);
+        return Some(65536);
     }
-    if let Some(p) = framing::chunk_fault(b) {
-        return Fault::Chunk(p);
-    }
-    if let Some(p) = framing::records_fault(b) {
-        return Fault::Records(p);
-    }
+    None
+}
+
+// Admission: the first fault of the first kind, or none.
+pub fn admission(b: &[u8]) -> Result<(), Fault>
+    ensures { result ≡ fault_of b.now }
+{
+    fault_at(FaultKind::Long, long_fault(b))?;
+    fault_at(FaultKind::Chunk, framing::chunk_fault(b))?;
+    fault_at(FaultKind::Records, framing::records_fault(b))?;
     let m = records::parts_of(b);
-    if let Some(p) = indexes::index_fault(b, m) {
-        return Fault::Index(p);
-    }
-    if let Some(p) = links::number_fault(b, m) {
-        return Fault::Number(p);
-    }
-    if let Some(p) = rates::rate_fault(b, m) {
-        return Fault::Rate(p);
-    }
-    if let Some(p) = bounds::window_fault(b, m) {
-        return Fault::Window(p);
-    }
-    Fault::Fine
+    fault_at(FaultKind::Index, indexes::index_fault(b, m))?;
+    fault_at(FaultKind::Number, links::number_fault(b, m))?;
+    fault_at(FaultKind::Rate, rates::rate_fault(b, m))?;
+    fault_at(FaultKind::Window, bounds::window_fault(b, m))
 }
 
 // 01's number for what was found.
-fn number_of(f: Fault) -> u8
+fn number_of(f: Result<(), Fault>) -> u8
     ensures { result ≡ fault_number f }
 {
     match f {
-        Fault::Fine => 0,
-        Fault::Long(_) => 1,
-        Fault::Chunk(_) => 1,
-        Fault::Records(_) => 1,
-        Fault::Index(_) => 1,
-        Fault::Number(_) => 1,
-        Fault::Rate(_) => 1,
-        Fault::Window(_) => 1,
+        Ok(()) => 0,
+        Err(_) => 1,
     }
 }
 

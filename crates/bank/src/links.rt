@@ -25,13 +25,11 @@ fn number_in(b: &[u8], s: Side, h: u32) -> Option<usize>
 {
     let from = records::bag_of(b, s, h as usize) as u32;
     let count = records::zone_count(b, s, h) as u32;
-    let mut j: u32 = 0;
-    while j < count {
+    for j in 0..count {
         let z = from + j;
         if bad_number(b, s, h, z) {
             return Some(records::link_at(s, records::zone_at(b, s, z)));
         }
-        j = j + 1;
     }
     None
 }
@@ -41,13 +39,11 @@ fn link_fault(b: &[u8], s: Side) -> Option<usize>
     ensures { result ≡ link_fault b.now s }
 {
     let heads = less(s.nheads, 1);
-    let mut h: u32 = 0;
-    while h < heads {
+    for h in 0..heads {
         let found = number_in(b, s, h);
         if let Some(p) = found {
             return Some(p);
         }
-        h = h + 1;
     }
     None
 }

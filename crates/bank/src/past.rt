@@ -55,13 +55,11 @@ fn past_in(b: &[u8], m: Parts, ram: usize, rom: usize, h: u32) -> Option<usize>
     let global = records::poured(b, i, records::global_of(b, i, h), [0i16; 61]);
     let from = records::bag_of(b, i, h as usize) as u32;
     let count = records::zone_count(b, i, h) as u32;
-    let mut j: u32 = 0;
-    while j < count {
+    for j in 0..count {
         let z = from + j;
         if past_over(b, m, ram, rom, global, z) {
             return Some(records::link_at(i, records::zone_at(b, i, z)));
         }
-        j = j + 1;
     }
     None
 }
@@ -72,13 +70,11 @@ fn past_fault(b: &[u8], m: Parts, ram: usize, rom: usize) -> Option<usize>
 {
     let i = m.instruments;
     let heads = less(i.nheads, 1);
-    let mut h: u32 = 0;
-    while h < heads {
+    for h in 0..heads {
         let found = past_in(b, m, ram, rom, h);
         if let Some(p) = found {
             return Some(p);
         }
-        h = h + 1;
     }
     None
 }

@@ -61,10 +61,8 @@ fn with_instrument(b: &[u8], m: Parts, h: u32, low: Option<usize>) -> Option<usi
     let from = records::bag_of(b, i, h as usize) as u32;
     let count = records::zone_count(b, i, h) as u32;
     let mut found = low;
-    let mut j: u32 = 0;
-    while j < count {
+    for j in 0..count {
         found = with_zone(b, m, from + j, found);
-        j = j + 1;
     }
     found
 }
@@ -76,10 +74,8 @@ fn lowest_bad(b: &[u8], m: Parts) -> Option<usize>
     let i = m.instruments;
     let heads = less(i.nheads, 1);
     let mut low = None;
-    let mut h: u32 = 0;
-    while h < heads {
+    for h in 0..heads {
         low = with_instrument(b, m, h, low);
-        h = h + 1;
     }
     low
 }

@@ -1,31 +1,30 @@
 -- What is told of a bank's bytes, as numbers.
-use Rattle.std.specs.Prelude.{ℕ}
+use Rattle.std.specs.Prelude.{ℕ, Result, Ok, Err}
 use Rattle.bank.specs.declared.Fault.{Fault}
-use Rattle.bank.specs.declared.Fault.TheVariants as of
+use Rattle.bank.specs.declared.FaultKind.{FaultKind}
+use Rattle.bank.specs.declared.FaultKind.TheVariants as of
 use Rattle.bank.specs.declared.Listed.{Listed}
 use Rattle.bank.specs.declared.Listed.TheVariants as on
 
--- a fault's kind: 0 none, and else which of admission's seven tests found it
-abbrev pub fault_kind : Fault → ℕ
-fault_kind of.Fine = 0
-fault_kind (of.Long p) = 1
-fault_kind (of.Chunk p) = 2
-fault_kind (of.Records p) = 3
-fault_kind (of.Index p) = 4
-fault_kind (of.Number p) = 5
-fault_kind (of.Rate p) = 6
-fault_kind (of.Window p) = 7
+-- which of admission's seven tests finds a kind
+abbrev pub test_number : FaultKind → ℕ
+test_number of.Long = 1
+test_number of.Chunk = 2
+test_number of.Records = 3
+test_number of.Index = 4
+test_number of.Number = 5
+test_number of.Rate = 6
+test_number of.Window = 7
+
+-- a fault's kind: 0 none, and else which test found it
+abbrev pub fault_kind : Result (Unit {0}) Fault → ℕ
+fault_kind (Ok u) = 0
+fault_kind (Err f) = test_number f.kind
 
 -- its place, 0 where there is none
-abbrev pub fault_place : Fault → ℕ
-fault_place of.Fine = 0
-fault_place (of.Long p) = p
-fault_place (of.Chunk p) = p
-fault_place (of.Records p) = p
-fault_place (of.Index p) = p
-fault_place (of.Number p) = p
-fault_place (of.Rate p) = p
-fault_place (of.Window p) = p
+abbrev pub fault_place : Result (Unit {0}) Fault → ℕ
+fault_place (Ok u) = 0
+fault_place (Err f) = f.place
 
 -- a row of the listing: 0, refused: 1, the end: 2
 abbrev pub row_kind : Listed → ℕ

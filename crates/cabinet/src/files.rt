@@ -31,35 +31,23 @@ pub fn thularek_admit(bank: &[u8]) -> u32
     u32::from(engine::admit(bank))
 }
 
-// A fault's kind as a number.
-fn fault_kind(f: Fault) -> u32
+// A fault's kind as a number, 0 where there is none.
+fn fault_kind(f: Result<(), Fault>) -> u32
     ensures { result ≡ fault_kind f }
 {
     match f {
-        Fault::Fine => 0,
-        Fault::Long(_) => 1,
-        Fault::Chunk(_) => 2,
-        Fault::Records(_) => 3,
-        Fault::Index(_) => 4,
-        Fault::Number(_) => 5,
-        Fault::Rate(_) => 6,
-        Fault::Window(_) => 7,
+        Ok(()) => 0,
+        Err(fault) => fault.kind as u32,
     }
 }
 
 // Its place.
-fn fault_place(f: Fault) -> usize
+fn fault_place(f: Result<(), Fault>) -> usize
     ensures { result ≡ fault_place f }
 {
     match f {
-        Fault::Fine => 0,
-        Fault::Long(p) => p,
-        Fault::Chunk(p) => p,
-        Fault::Records(p) => p,
-        Fault::Index(p) => p,
-        Fault::Number(p) => p,
-        Fault::Rate(p) => p,
-        Fault::Window(p) => p,
+        Ok(()) => 0,
+        Err(fault) => fault.place,
     }
 }
 

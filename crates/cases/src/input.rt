@@ -23,7 +23,7 @@ pub struct Input<'a> {
 impl<'a> Input<'a> {
     // Nothing is read yet.
     pub fn start(room: &'a mut [u8]) -> Input<'a>
-        ensures { (result.at ≡ 0) × (result.end ≡ 0) × (result.cut ≡ false) × (result.last ≡ false) }
+        ensures { result ≡ record { room = room.entry; at = 0; end = 0; cut = false; last = false } }
     {
         Input {
             room,
@@ -36,7 +36,7 @@ impl<'a> Input<'a> {
 
     // The input is n bytes that stand in the room already.
     pub fn whole(room: &'a mut [u8], n: usize) -> Input<'a>
-        ensures { (result.at ≡ 0) × (result.end ≡ n) × (result.cut ≡ false) × (result.last ≡ true) }
+        ensures { result ≡ record { room = room.entry; at = 0; end = n; cut = false; last = true } }
     {
         Input {
             room,
@@ -49,7 +49,7 @@ impl<'a> Input<'a> {
 
     // Nothing more is read. The input ends here, or a command is bad.
     pub fn spoil(&mut self)
-        ensures { (self.new.at ≡ self.old.at) × (self.new.end ≡ self.old.end) × (self.new.cut ≡ true) × (self.new.last ≡ self.old.last) }
+        ensures { self.new ≡ record self.old { cut = true } }
     {
         self.cut = true;
     }

@@ -1,5 +1,5 @@
 // What a case lends: the bytes or samples that are read into an array, and the first of them as a part that is lent on.
-ghost use Rattle.std.specs.Prelude.{◌≡◌, ◌≤◌, length, take};
+ghost use Rattle.std.specs.Prelude.{◌≡◌, ◌≤◌, length, min, take};
 
 use crate::commands::Command;
 use crate::input::{Bad, Input, Item};
@@ -22,7 +22,7 @@ pub struct Held<'a, T> {
 impl<'a, T: Item> Held<'a, T> {
     // Nothing is held yet.
     pub fn nothing(items: &'a mut [T]) -> Held<'a, T>
-        ensures { (result.held ≡ 0) × (result.lent ≡ 0) }
+        ensures { result ≡ record { items = items.entry; held = 0; lent = 0 } }
     {
         Held {
             items,
@@ -50,7 +50,7 @@ impl<'a, T: Item> Held<'a, T> {
 
     // Only the first n items are lent, at most all that are held.
     pub fn lend_first(&mut self, n: u32)
-        ensures { self.new.lent ≤ self.new.held }
+        ensures { self.new ≡ record self.old { lent = min self.old.held n } }
     {
         self.lent = self.held.min(n as usize);
     }
@@ -80,10 +80,7 @@ impl<'a> Loan<'a> {
         ram: &'a mut [i16],
         rom: &'a mut [i16],
     ) -> Loan<'a>
-        ensures bank { (result.bank.held ≡ 0) × (result.bank.lent ≡ 0) }
-        ensures song { (result.song.held ≡ 0) × (result.song.lent ≡ 0) }
-        ensures ram { (result.ram.held ≡ 0) × (result.ram.lent ≡ 0) }
-        ensures rom { (result.rom.held ≡ 0) × (result.rom.lent ≡ 0) }
+        ensures { result ≡ record { bank = record { items = bank.entry; held = 0; lent = 0 }; song = record { items = song.entry; held = 0; lent = 0 }; ram = record { items = ram.entry; held = 0; lent = 0 }; rom = record { items = rom.entry; held = 0; lent = 0 } } }
     {
         Loan {
             bank: Held::nothing(bank),

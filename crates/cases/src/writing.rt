@@ -14,7 +14,9 @@ pub struct Text {
 
 impl Text {
     // Nothing is written yet.
-    pub fn begin() -> Text {
+    pub fn begin() -> Text
+        ensures { result.at ≡ 0 }
+    {
         Text {
             bytes: io::large_buffer(),
             at: 0,

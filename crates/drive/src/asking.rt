@@ -19,16 +19,10 @@ fn row(text: &mut Text, letter: u8, l: Listed) {
 }
 
 // What is wrong with a bank: the number that request M-102 gives its kind, and the byte place; 0 and 0 for nothing.
-fn fault(text: &mut Text, f: Fault) {
+fn fault(text: &mut Text, f: Result<(), Fault>) {
     let (kind, place) = match f {
-        Fault::Fine => (0, 0),
-        Fault::Long(place) => (21, place),
-        Fault::Chunk(place) => (22, place),
-        Fault::Records(place) => (23, place),
-        Fault::Index(place) => (24, place),
-        Fault::Number(place) => (25, place),
-        Fault::Rate(place) => (26, place),
-        Fault::Window(place) => (27, place),
+        Ok(()) => (0, 0),
+        Err(fault) => (20 + fault.kind as u8, fault.place),
     };
     text.called(b'd', kind);
     text.spaced(place as u64);

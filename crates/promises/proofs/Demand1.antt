@@ -1,4 +1,5 @@
 -- Demand 1: refusals change nothing; the numbers of render, note-on, the other calls, admission and listing, each exactly in its case.
+use Rattle.std.specs.Prelude.{Result, Ok, Err}
 use mathlib.Core.Path.{◌≡◌, refl, sym, ap, ◌∙◌, subst}
 use Prim.Native.Nat.{ℕ, ◌*◌, ◌<◌, ◌≤◌, zero, suc, ◌+◌, ◌-◌}
 use mathlib.Core.Bool.{Bool, true, false, cond, ◌||◌, or-true, ◌&&◌, not}
@@ -40,7 +41,6 @@ use Rattle.voice.specs.Panel.{stage_shown, shown_number as panel_number, shown}
 use Rattle.state.specs.Board.{ask}
 use Rattle.bank.specs.declared.Listed.TheVariants.{Refused, End, Row}
 use Rattle.bank.specs.declared.Fault.{Fault}
-use Rattle.bank.specs.declared.Fault.TheVariants.{Fine, Long, Chunk, Records, Index, Number, Rate, Window}
 use Rattle.bank.proofs.RulesLaws.{rules-fine}
 use Rattle.records.specs.Sides.{parts_of}
 use Rattle.records.specs.Headers.{program_of, bank_of as bank_number}
@@ -492,15 +492,9 @@ no_other (Calls.Ask i) e = zero-or-two (ltb 31 i) _ (ask-number i e)
 
 -- ---- admission and listing
 
-one_or_zero : (f : Fault) → (fault_number f ≡ 0) ⊎ (fault_number f ≡ 1)
-one_or_zero Fine = inl refl
-one_or_zero (Long p) = inr refl
-one_or_zero (Chunk p) = inr refl
-one_or_zero (Records p) = inr refl
-one_or_zero (Index p) = inr refl
-one_or_zero (Number p) = inr refl
-one_or_zero (Rate p) = inr refl
-one_or_zero (Window p) = inr refl
+one_or_zero : (f : Result (Unit {0}) Fault) → (fault_number f ≡ 0) ⊎ (fault_number f ≡ 1)
+one_or_zero (Ok u) = inl refl
+one_or_zero (Err f) = inr refl
 
 -- a number that is 0 or 1, and 0 exactly for banks that are admitted
 by-rules : (b : List ℕ) (n : ℕ) → (n ≡ 0) ⊎ (n ≡ 1) → (n ≡ 0 → Admitted b) → (Admitted b → n ≡ 0) → Given n 1 (Admitted b → ⊥) × Given n 0 (Admitted b)
@@ -522,15 +516,9 @@ list-number b place = by (admitted b) (ltb place ((parts_of b).presets.nheads - 
     by true false = refl
     by false l = refl
 
-same_number : (f : Fault) → cond (eqb (fault_number f) 0) 0 1 ≡ fault_number f
-same_number Fine = refl
-same_number (Long p) = refl
-same_number (Chunk p) = refl
-same_number (Records p) = refl
-same_number (Index p) = refl
-same_number (Number p) = refl
-same_number (Rate p) = refl
-same_number (Window p) = refl
+same_number : (f : Result (Unit {0}) Fault) → cond (eqb (fault_number f) 0) 0 1 ≡ fault_number f
+same_number (Ok u) = refl
+same_number (Err f) = refl
 
 -- by admission
 pub listing-numbers : ListingNumbers

@@ -1,6 +1,5 @@
 -- Contracts that are equations determine what they speak of.
 use mathlib.Core.Path.{◌≡◌, refl, sym, ◌∙◌, ap, ap₂}
-use native.Mathlib.Omega.{arith}
 use Rattle.std.specs.Prelude.{Option}
 use mathlib.Core.List.{List}
 use lib.Ieee.{Float}
@@ -21,7 +20,7 @@ use Rattle.bank.specs.declared.Listed.{Listed}
 use Rattle.bank.specs.Listing.{listed}
 use Rattle.bank.specs.declared.Fault.{Fault}
 use Rattle.bank.specs.Past.{past_memory}
-use Rattle.layers.specs.declared.NoSheet.TheVariants.{NotAdmitted, AtEnd}
+use Rattle.layers.proofs.SpansLaws.{sheet-told-apart}
 use Rattle.layers.specs.Spans.{SheetNumbers, sheet_of}
 use Rattle.reader.specs.declared.Opened.{Opened}
 use Rattle.reader.specs.Reader.{opened_of, next_of, nth_listed}
@@ -115,7 +114,7 @@ list-determined bank place = equation Listed (listed bank place)
 
 -- ---- bank
 pub admission-determined : D.AdmissionDetermined
-admission-determined bank = equation Fault (fault_of bank)
+admission-determined bank = equation (Result (Unit {0}) Fault) (fault_of bank)
 
 pub number-of-determined : D.NumberOfDetermined
 number-of-determined f = equation ℕ (fault_number f)
@@ -127,16 +126,8 @@ pub past-memory-determined : D.PastMemoryDetermined
 past-memory-determined bank ram rom = equation (Option ℕ) (past_memory bank ram rom)
 
 -- ---- layers
-pub told-tells-apart : D.ToldTellsApart
-told-tells-apart (Ok s) (Ok t) e = cc
-told-tells-apart (Ok s) (Err NotAdmitted) e = absurd (omega (arith, ap (λ (x : SheetNumbers). x.kind) e))
-told-tells-apart (Ok s) (Err AtEnd) e = absurd (omega (arith, ap (λ (x : SheetNumbers). x.kind) e))
-told-tells-apart (Err NotAdmitted) (Ok t) e = absurd (omega (arith, ap (λ (x : SheetNumbers). x.kind) e))
-told-tells-apart (Err NotAdmitted) (Err NotAdmitted) e = refl
-told-tells-apart (Err NotAdmitted) (Err AtEnd) e = absurd (omega (arith, ap (λ (x : SheetNumbers). x.kind) e))
-told-tells-apart (Err AtEnd) (Ok t) e = absurd (omega (arith, ap (λ (x : SheetNumbers). x.kind) e))
-told-tells-apart (Err AtEnd) (Err NotAdmitted) e = absurd (omega (arith, ap (λ (x : SheetNumbers). x.kind) e))
-told-tells-apart (Err AtEnd) (Err AtEnd) e = refl
+pub told-sheet-apart : D.ToldSheetApart
+told-sheet-apart = sheet-told-apart
 
 pub preset-sheet-determined : D.PresetSheetDetermined
 preset-sheet-determined bank place = equation SheetNumbers (sheet_of bank place)

@@ -14,7 +14,7 @@ use Rattle.bank.specs.declared.Fault.{Fault}
 use Rattle.bank.specs.Past.{past_memory}
 use Rattle.layers.specs.declared.Sheet.{Sheet}
 use Rattle.layers.specs.declared.NoSheet.{NoSheet}
-use Rattle.layers.specs.Spans.{SheetNumbers, sheet_of, told}
+use Rattle.layers.specs.Spans.{SheetNumbers, sheet_of, told_sheet}
 use Rattle.reader.specs.declared.Opened.{Opened}
 use Rattle.reader.specs.Reader.{opened_of, next_of, nth_listed, further}
 use Rattle.reader.specs.declared.Reader.{Reader}
@@ -134,12 +134,12 @@ ListDetermined = (bank : List ℕ) (place : ℕ) → Settles Listed (λ r. r ≡
 -- the first fault of the first kind, or none
 -- contract of bank::admission(bank)
 abbrev pub AdmissionDetermined : Type 0
-AdmissionDetermined = (bank : List ℕ) → Settles Fault (λ r. r ≡ fault_of bank)
+AdmissionDetermined = (bank : List ℕ) → Settles (Result (Unit {0}) Fault) (λ r. r ≡ fault_of bank)
 
 -- 01's number for a fault
 -- contract of bank::number_of(f)
 abbrev pub NumberOfDetermined : Type 0
-NumberOfDetermined = (f : Fault) → Settles ℕ (λ r. r ≡ fault_number f)
+NumberOfDetermined = (f : Result (Unit {0}) Fault) → Settles ℕ (λ r. r ≡ fault_number f)
 
 -- whether the number is 0
 -- contract of bank::admitted(bank)
@@ -153,14 +153,14 @@ PastMemoryDetermined = (bank : List ℕ) (ram rom : ℕ) → Settles (Option ℕ
 
 -- ---- layers
 
--- what is told of the preset at a place, by its numbers, which `told` gives of an answer
+-- what is told of the preset at a place, by its numbers, which `told_sheet` gives of an answer
 -- contract of layers::preset_sheet(bank, place)
 abbrev pub PresetSheetDetermined : Type 0
 PresetSheetDetermined = (bank : List ℕ) (place : ℕ) → Settles SheetNumbers (λ r. r ≡ sheet_of bank place)
 
--- the numbers of two answers are one only where the answers are: tells apart layers::told
-abbrev pub ToldTellsApart : Type 0
-ToldTellsApart = (a b : Result Sheet NoSheet) → told a ≡ told b → a ≡ b
+-- the numbers of two answers are one only where the answers are: tells apart layers::told_sheet
+abbrev pub ToldSheetApart : Type 0
+ToldSheetApart = (a b : Result Sheet NoSheet) → told_sheet a ≡ told_sheet b → a ≡ b
 
 -- ---- reader
 

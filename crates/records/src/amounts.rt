@@ -22,13 +22,11 @@ pub fn poured(b: &[u8], s: Side, z: Zone, d: [i16; 61]) -> [i16; 61]
     let mut a = d;
     let from = z.from as usize;
     let count = z.count as usize;
-    let mut n: usize = 0;
-    while n < count {
+    for n in 0..count {
         let o = operator(b, s, from + n) as usize;
         if o < 61 {
             a[o] = signed16(amount(b, s, from + n));
         }
-        n = n + 1;
     }
     a
 }

@@ -21,10 +21,8 @@ pub fn chunk_at(b: &[u8], k: usize) -> usize
     ensures { (result ≡ chunk_at b.now k) × (result ≤ 38654705727) }
 {
     let mut at: usize = 0;
-    let mut n: usize = 0;
-    while n < k {
+    for n in 0..k {
         at = at + 8 + (u32_at(b, at + 4) as usize);
-        n = n + 1;
     }
     at
 }

@@ -47,12 +47,10 @@ pub fn closing_of(b: &[u8], s: Side, z: u32) -> Option<usize>
 {
     let from = gen_of(b, s, z as usize) as usize;
     let count = gen_count(b, s, z) as usize;
-    let mut n: usize = 0;
-    while n < count {
+    for n in 0..count {
         if has(b, s, s.closing, from + n) {
             return Some(from + n);
         }
-        n = n + 1;
     }
     None
 }

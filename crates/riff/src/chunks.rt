@@ -78,6 +78,7 @@ fn next_at(b: &[u8], end: usize, at: usize) -> usize
 }
 
 // Where a walk over chunks stops: at the end, or at the first chunk that is not whole.
+// The two walks have no index to count: where one goes on, the chunk before it says.
 pub fn stop(b: &[u8], end: usize, from: usize) -> usize
     requires { (from ≤ end) × (end ≤ 4294967303) }
     ensures { result ≡ stop_at b.now end from }

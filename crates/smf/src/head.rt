@@ -36,6 +36,7 @@ pub fn track_from(b: &[u8], from: usize) -> Header
     ensures { result ≡ track_from (length b.now) b.now from }
 {
     let mut at = from;
+    // Each chunk says where the next one begins, so no index counts them.
     while at + 4 <= b.len() {
         let end = chunk_end(b, at);
         if b.len() < end {

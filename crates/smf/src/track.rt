@@ -113,6 +113,7 @@ pub fn test_from(b: &[u8], from: Cursor) -> Tested
 {
     let edge = edge_of(b, from.end);
     let mut c = from;
+    // Each event says where the next one begins, so no index counts them.
     while c.at < edge {
         let m = meet_at(b, c);
         match m {
@@ -163,6 +164,7 @@ pub fn next_from(b: &[u8], from: Cursor) -> Handed
 {
     let edge = edge_of(b, from.end);
     let mut c = from;
+    // Each event says where the next one begins, so no index counts them.
     while c.at < edge {
         let m = meet_at(b, c);
         match m {

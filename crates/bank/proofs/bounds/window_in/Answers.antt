@@ -12,7 +12,7 @@ use Rattle.bank.proofs.OnePassLaws.{bad-over}
 use Rattle.bank.proofs.bounds.window_in.Goals as goal
 
 pub loop-j-init : goal.loop-j-init
-loop-j-init c = (first-none _ _, c.poured-global.ensures ∙ rw c.global_of.ensures refl, search rules, search rules, search rules)
+loop-j-init c = (first-none _ _, c.poured-global.ensures ∙ rw c.global_of.ensures refl, search rules, search rules)
 
 pub returns-then-bad_over : goal.returns-then-bad_over
 unfolding zone_link_at
@@ -29,7 +29,6 @@ loop-j-preserved c = let from = c.bag_of-from in
     let good = sym (bad-over a.b.now a.m a.h (from.result + c.loop-j.j)) ∙ rw (← c.loop-j.invariant.1) (sym c.bad_over.ensures) ∙ c.if-bad_over.false in (
       first-miss (bad_window a.b.now a.m a.h) from.result c.loop-j.j c.loop-j.invariant.0 good,
       c.loop-j.invariant.1,
-      search rules,
       search rules,
       search rules,
     )

@@ -7,7 +7,4 @@ use Rattle.bank.specs.Framing.{bad_records}
 use Rattle.bank.proofs.framing.records_fault.Given as goal
 
 abbrev pub invariant-loop-k : goal.invariant-loop-k
-invariant-loop-k l = (first (bad_records l.b) 0 l.k ≡ None) × (l.k ≤ 9)
-
-abbrev pub decreases-loop-k : goal.decreases-loop-k
-decreases-loop-k l = 9 - l.k
+invariant-loop-k l = first (bad_records l.b) 0 l.k ≡ None

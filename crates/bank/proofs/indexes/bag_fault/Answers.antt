@@ -9,20 +9,20 @@ use Rattle.records.specs.Sides.{bag_at}
 use Rattle.bank.proofs.indexes.bag_fault.Goals as goal
 
 pub loop-z-init : goal.loop-z-init
-loop-z-init c = (first-none _ _, search rules)
+loop-z-init c = first-none _ _
 
 pub returns-then-bad_bag : goal.returns-then-bad_bag
 unfolding bag_fault
 returns-then-bad_bag c = let a = c.args in
     ap (placed (bag_at a.s))
-    (sym (first-hit0 (bad_bag a.b.now a.s) c.loop-z.z a.s.nbags c.loop-z.invariant.0 (sym c.bad_bag.ensures ∙ c.if-bad_bag.true) (search rules)))
+    (sym (first-hit0 (bad_bag a.b.now a.s) c.loop-z.z a.s.nbags c.loop-z.invariant (sym c.bad_bag.ensures ∙ c.if-bad_bag.true) (search rules)))
 
 pub loop-z-preserved : goal.loop-z-preserved
 loop-z-preserved c = let a = c.args in
-    (first-miss0 (bad_bag a.b.now a.s) c.loop-z.z c.loop-z.invariant.0 (sym c.bad_bag.ensures ∙ c.if-bad_bag.false), search rules)
+    (first-miss0 (bad_bag a.b.now a.s) c.loop-z.z c.loop-z.invariant (sym c.bad_bag.ensures ∙ c.if-bad_bag.false))
 
 pub returns : goal.returns
 unfolding bag_fault
 returns c = let a = c.args in
     let e : c.loop-z.z ≡ a.s.nbags = omega arith in
-    ap (placed (bag_at a.s)) (sym (rw e at c.loop-z.invariant.0))
+    ap (placed (bag_at a.s)) (sym (rw e at c.loop-z.invariant))

@@ -9,7 +9,7 @@ use Rattle.records.proofs.ZonesLaws.{below_none, below_next, zone-placed, none_f
 use Rattle.bank.proofs.links.link_fault.Goals as goal
 
 pub loop-h-init : goal.loop-h-init
-loop-h-init c = (below_none _ _ _, search rules)
+loop-h-init c = below_none _ _ _
 
 pub enum_known-found : goal.enum_known-found
 enum_known-found c = c.in-Some.in-Some-own.keys1
@@ -19,7 +19,7 @@ unfolding link_fault
 returns-in-Some c = let a = c.args in
     let q = c.in-Some.p in
     let found = sym c.number_in-found.ensures ∙ c.in-Some.is in
-    sym (zone-placed a.b.now a.s (bad_number a.b.now a.s) (zone_link_at a.b.now a.s) c.loop-h.h q c.loop-h.invariant.0 found (rw c.less-heads.ensures at c.loop-h-test.true))
+    sym (zone-placed a.b.now a.s (bad_number a.b.now a.s) (zone_link_at a.b.now a.s) c.loop-h.h q c.loop-h.invariant found (rw c.less-heads.ensures at c.loop-h-test.true))
 
 pub enum_told-1 : goal.enum_told-1
 enum_told-1 c = c.in_default.in_default-own.keys2
@@ -27,10 +27,10 @@ enum_told-1 c = c.in_default.in_default-own.keys2
 pub loop-h-preserved : goal.loop-h-preserved
 loop-h-preserved c = let a = c.args in
     let none = sym c.number_in-found.ensures ∙ c.in_default.is in
-    (below_next a.b.now a.s (bad_number a.b.now a.s) c.loop-h.h c.loop-h.invariant.0 (placed-none (zone_link_at a.b.now a.s) _ none), search rules)
+    below_next a.b.now a.s (bad_number a.b.now a.s) c.loop-h.h c.loop-h.invariant (placed-none (zone_link_at a.b.now a.s) _ none)
 
 pub returns : goal.returns
 unfolding link_fault
 returns c = let a = c.args in
     let e : c.loop-h.h ≡ a.s.nheads - 1 = omega arith in
-    simp (none_found a.b.now a.s (bad_number a.b.now a.s) c.loop-h.h e c.loop-h.invariant.0)
+    simp (none_found a.b.now a.s (bad_number a.b.now a.s) c.loop-h.h e c.loop-h.invariant)

@@ -7,7 +7,4 @@ use Rattle.records.specs.Zones.{zone_below}
 use Rattle.bank.proofs.links.link_fault.Given as goal
 
 abbrev pub invariant-loop-h : goal.invariant-loop-h
-invariant-loop-h l = (zone_below l.b l.s (bad_number l.b l.s) l.h ≡ None) × (l.h ≤ l.heads)
-
-abbrev pub decreases-loop-h : goal.decreases-loop-h
-decreases-loop-h l = l.heads - l.h
+invariant-loop-h l = zone_below l.b l.s (bad_number l.b l.s) l.h ≡ None

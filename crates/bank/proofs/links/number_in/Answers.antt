@@ -9,7 +9,7 @@ use Rattle.records.specs.Zones.{link_at}
 use Rattle.bank.proofs.links.number_in.Goals as goal
 
 pub loop-j-init : goal.loop-j-init
-loop-j-init c = (first-none _ _, search rules, search rules, search rules)
+loop-j-init c = (first-none _ _, search rules, search rules)
 
 pub returns-then-bad_number : goal.returns-then-bad_number
 unfolding zone_link_at
@@ -22,7 +22,6 @@ returns-then-bad_number c = let from = c.bag_of-from in
 pub loop-j-preserved : goal.loop-j-preserved
 loop-j-preserved c = let a = c.args in (
   first-miss (bad_number a.b.now a.s a.h) c.bag_of-from.result c.loop-j.j c.loop-j.invariant.0 (sym c.bad_number.ensures ∙ c.if-bad_number.false),
-  search rules,
   search rules,
   search rules,
 )

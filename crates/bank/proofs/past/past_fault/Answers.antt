@@ -10,7 +10,7 @@ use Rattle.records.proofs.ZonesLaws.{below_none, below_next, zone-placed, none_f
 use Rattle.bank.proofs.past.past_fault.Goals as goal
 
 pub loop-h-init : goal.loop-h-init
-loop-h-init c = (below_none _ _ _, search rules)
+loop-h-init c = below_none _ _ _
 
 pub enum_known-found : goal.enum_known-found
 enum_known-found c = c.in-Some.in-Some-own.keys1
@@ -20,7 +20,7 @@ unfolding past_fault
 returns-in-Some c = let a = c.args in
     let q = c.in-Some.p in
     let found = sym c.past_in-found.ensures ∙ c.in-Some.is in
-    sym (zone-placed a.b.now a.m.instruments (zone_past a.b.now a.m a.ram a.rom) (zone_link_at a.b.now a.m.instruments) c.loop-h.h q c.loop-h.invariant.0 found (rw c.less-heads.ensures at c.loop-h-test.true))
+    sym (zone-placed a.b.now a.m.instruments (zone_past a.b.now a.m a.ram a.rom) (zone_link_at a.b.now a.m.instruments) c.loop-h.h q c.loop-h.invariant found (rw c.less-heads.ensures at c.loop-h-test.true))
 
 pub enum_told-1 : goal.enum_told-1
 enum_told-1 c = c.in_default.in_default-own.keys2
@@ -28,10 +28,10 @@ enum_told-1 c = c.in_default.in_default-own.keys2
 pub loop-h-preserved : goal.loop-h-preserved
 loop-h-preserved c = let a = c.args in
     let none = sym c.past_in-found.ensures ∙ c.in_default.is in
-    (below_next a.b.now a.m.instruments (zone_past a.b.now a.m a.ram a.rom) c.loop-h.h c.loop-h.invariant.0 (placed-none (zone_link_at a.b.now a.m.instruments) _ none), search rules)
+    below_next a.b.now a.m.instruments (zone_past a.b.now a.m a.ram a.rom) c.loop-h.h c.loop-h.invariant (placed-none (zone_link_at a.b.now a.m.instruments) _ none)
 
 pub returns : goal.returns
 unfolding past_fault
 returns c = let a = c.args in
     let e : c.loop-h.h ≡ a.m.instruments.nheads - 1 = omega arith in
-    simp (none_found a.b.now a.m.instruments (zone_past a.b.now a.m a.ram a.rom) c.loop-h.h e c.loop-h.invariant.0)
+    simp (none_found a.b.now a.m.instruments (zone_past a.b.now a.m a.ram a.rom) c.loop-h.h e c.loop-h.invariant)

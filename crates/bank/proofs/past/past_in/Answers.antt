@@ -12,7 +12,7 @@ use Rattle.bank.proofs.OnePassLaws.{past-over}
 use Rattle.bank.proofs.past.past_in.Goals as goal
 
 pub loop-j-init : goal.loop-j-init
-loop-j-init c = (first-none _ _, c.poured-global.ensures ∙ rw c.global_of.ensures refl, search rules, search rules, search rules)
+loop-j-init c = (first-none _ _, c.poured-global.ensures ∙ rw c.global_of.ensures refl, search rules, search rules)
 
 pub returns-then-past_over : goal.returns-then-past_over
 unfolding zone_link_at
@@ -29,7 +29,6 @@ loop-j-preserved c = let from = c.bag_of-from in
     let good = sym (past-over a.b.now a.m a.ram a.rom a.h (from.result + c.loop-j.j)) ∙ rw (← c.loop-j.invariant.1) (sym c.past_over.ensures) ∙ c.if-past_over.false in (
       first-miss (zone_past a.b.now a.m a.ram a.rom a.h) from.result c.loop-j.j c.loop-j.invariant.0 good,
       c.loop-j.invariant.1,
-      search rules,
       search rules,
       search rules,
     )

@@ -5,7 +5,4 @@ use Rattle.bank.proofs.OnePassLaws.{lowest_below}
 use Rattle.bank.proofs.rates.lowest_bad.Given as goal
 
 abbrev pub invariant-loop-h : goal.invariant-loop-h
-invariant-loop-h l = (l.low ≡ lowest_below l.b l.m l.h) × (l.h ≤ l.heads)
-
-abbrev pub decreases-loop-h : goal.decreases-loop-h
-decreases-loop-h l = l.heads - l.h
+invariant-loop-h l = l.low ≡ lowest_below l.b l.m l.h

@@ -5,7 +5,4 @@ use Rattle.bank.specs.Internal.Rates.{with_zones}
 use Rattle.bank.proofs.rates.with_instrument.Given as goal
 
 abbrev pub invariant-loop-j : goal.invariant-loop-j
-invariant-loop-j l = (l.found ≡ with_zones l.b l.m l.from l.j l.initial.found) × (l.j ≤ l.count) × (l.from < 65536) × (l.count < 65536)
-
-abbrev pub decreases-loop-j : goal.decreases-loop-j
-decreases-loop-j l = l.count - l.j
+invariant-loop-j l = (l.found ≡ with_zones l.b l.m l.from l.j l.initial.found) × (l.from < 65536) × (l.count < 65536)

@@ -7,7 +7,4 @@ use Rattle.records.proofs.AmountsLaws.{front}
 use Rattle.records.proofs.amounts.poured.Given as goal
 
 abbrev pub invariant-loop-n : goal.invariant-loop-n
-invariant-loop-n l = (l.a ≡ poured l.b l.s (front l.from l.n) l.initial.a) × (length l.initial.a ≡ 61) × (l.n ≤ l.count) × (l.from < 4294967296) × (l.count < 4294967296)
-
-abbrev pub decreases-loop-n : goal.decreases-loop-n
-decreases-loop-n l = l.count - l.n
+invariant-loop-n l = (l.a ≡ poured l.b l.s (front l.from l.n) l.initial.a) × (length l.initial.a ≡ 61) × (l.from < 4294967296) × (l.count < 4294967296)

@@ -5,7 +5,4 @@ use Rattle.records.specs.Chunks.{chunk_at}
 use Rattle.records.proofs.chunks.chunk_at.Given as goal
 
 abbrev pub invariant-loop-n : goal.invariant-loop-n
-invariant-loop-n l = (l.at ≡ chunk_at l.b l.n) × (l.at ≤ l.n * 4294967303) × (l.n ≤ l.k) × (l.k ≤ 9)
-
-abbrev pub decreases-loop-n : goal.decreases-loop-n
-decreases-loop-n l = l.k - l.n
+invariant-loop-n l = (l.at ≡ chunk_at l.b l.n) × (l.at ≤ l.n * 4294967303) × (l.k ≤ 9)

@@ -8,7 +8,7 @@ use Rattle.records.specs.Zones.{has, closing_of}
 use Rattle.records.proofs.zones.closing_of.Goals as goal
 
 pub loop-n-init : goal.loop-n-init
-loop-n-init c = (first-none _ _, search rules, search rules, search rules)
+loop-n-init c = (first-none _ _, search rules, search rules)
 
 pub returns-then-has : goal.returns-then-has
 unfolding closing_of
@@ -23,7 +23,7 @@ pub loop-n-preserved : goal.loop-n-preserved
 loop-n-preserved c = let a = c.args in
     let p = has a.b.now a.s a.s.closing in
     let from = c.gen_of-from.result in
-    (first-miss p from c.loop-n.n c.loop-n.invariant.0 (sym c.has.ensures ∙ c.if-has.false), search rules, search rules, search rules)
+    (first-miss p from c.loop-n.n c.loop-n.invariant.0 (sym c.has.ensures ∙ c.if-has.false), search rules, search rules)
 
 pub returns : goal.returns
 unfolding closing_of
