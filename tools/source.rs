@@ -37,6 +37,8 @@ pub struct Source {
     pub structs: Vec<(String, Vec<String>)>,
     pub paths: Vec<(bool, Vec<String>)>,
     pub uses: Vec<Use>,
+    /// the words of its ghost fields and ghost members
+    pub ghosts: Vec<String>,
     /// all its words, in order
     pub words: Vec<String>,
 }
@@ -75,7 +77,14 @@ pub fn read_source(krate: &str, path: &Path) -> Source {
     let named = |pair: &&[String]| pair[0] == "struct" || pair[0] == "enum";
     let types = words.windows(2).filter(named).map(|pair| bare(&pair[1]).to_string()).collect();
     let structs = (0..words.len()).filter(|&at| words[at] == "struct").map(|at| fields(&words, at)).collect();
-    Source { krate: krate.to_string(), module, functions: functions(&words), types, structs, paths, uses, words }
+    Source { krate: krate.to_string(), module, functions: functions(&words), types, structs, paths, uses, ghosts: ghosts(&words), words }
+}
+
+/// What stands in the braces of ghost fields and ghost members.
+fn ghosts(words: &[String]) -> Vec<String> {
+    let is_ghost = |at: &usize| words[*at] == "ghost" && words.get(at + 1).is_some_and(|word| word != "use");
+    let heads = (0..words.len()).filter(is_ghost);
+    heads.filter_map(|at| Some(at + words[at..].iter().position(|word| word == "{")?)).flat_map(|open| antt::apart(&words[open..behind(words, open)])).collect()
 }
 
 /// The `use` items of a text, each path of a group by itself, and whether they are `pub`. An item ends with its semicolon.
@@ -115,7 +124,9 @@ fn paths_of(item: &str) -> Vec<Vec<String>> {
 
 /// The name of the struct whose `struct` stands at a place, and its fields.
 fn fields(words: &[String], at: usize) -> (String, Vec<String>) {
-    let names = words[at + 2..behind(words, at + 2)].iter().filter_map(|word| word.strip_suffix(':'));
+    // a ghost field is a fact on the others, and holds nothing
+    let own = (at + 2..behind(words, at + 2)).filter(|&place| words[place - 1] != "ghost");
+    let names = own.filter_map(|place| words[place].strip_suffix(':'));
     (bare(&words[at + 1]).to_string(), names.map(str::to_string).collect())
 }
 
@@ -180,9 +191,19 @@ fn holder(words: &[String], at: usize) -> Option<(usize, usize, String)> {
     let of = match head.iter().position(|word| word == "for") {
         Some(place) => head.get(place + 1)?,
         None if first == "trait" => head.get(1)?.strip_suffix(':').map_or(head.get(1), |_| head.get(1))?,
-        None => head.last()?,
+        None => behind_parameters(head)?,
     };
     Some((open, behind(words, open), bare(of).trim_end_matches(':').to_string()))
+}
+
+/// The type of an `impl`'s head: what stands behind its own parameters, which may hold several words.
+fn behind_parameters(head: &[String]) -> Option<&String> {
+    let mut open = 0;
+    head.iter().enumerate().find_map(|(at, word)| {
+        let is_type = at > 0 && open == 0;
+        open += word.matches('<').count() as i32 - word.matches('>').count() as i32;
+        is_type.then_some(word)
+    })
 }
 
 /// The parameters that are called: those of a type `impl Fn(..)`, and those of a type parameter with such a bound.

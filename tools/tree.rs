@@ -391,13 +391,15 @@ impl Tree {
         places.iter().map(|place| self.definition(*place).lines).sum()
     }
 
-    /// What the contracts of all functions rest on.
+    /// What the contracts of all functions, ghost fields and ghost members rest on.
     pub fn cited_by_contracts(&self, lost: &mut Vec<String>) -> Reached {
         let mut from = Vec::new();
         for source in &self.sources {
             for function in &source.functions {
                 from.extend(self.cited_by(source, function, lost));
             }
+            let scope = self.scope(&source.uses, &format!("crates/{}/src/{}.rt", source.krate, source.module), lost);
+            from.extend(antt::cited_by(&source.ghosts, &[], &|name: &str| self.resolve(&scope, name)));
         }
         self.closure(from)
     }

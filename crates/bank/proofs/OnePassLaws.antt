@@ -1,4 +1,5 @@
 -- One pass over the zones finds what the tests 6 and 7 of Admission look for, and the first window past its memory.
+use Rattle.std.specs.Prelude.{Option, None, Some, is_some}
 use Prim.Native.Nat.{ℕ, zero, suc, ◌<◌, ◌+◌, ◌-◌}
 use mathlib.Core.List.{List}
 use mathlib.Core.Bool.{Bool, true, false, cond, ◌||◌, not, ◌&&◌, and-false, or-false, or-true}
@@ -11,13 +12,11 @@ use mathlib.Core.Logic.{⊎_elim}
 use native.Mathlib.Numerals.{add-one}
 use lib.IntN.{ℤ, pos}
 use lib.ListN.{replicate, length-replicate, get_or-replicate}
-use Rattle.records.specs.declared.Found.{Found}
-use Rattle.records.specs.declared.Found.TheVariants.{Nothing, At}
 use Rattle.records.specs.Zones.{zone_count, zone_at, zone_below, first_zone, value, global_of}
 use Rattle.records.specs.declared.Parts.{Parts}
 use Rattle.records.specs.Sides.{bag_of}
 use Rattle.bank.specs.Internal.Rates.{with_zones, lower, bad_rated, with_zone}
-use Rattle.records.specs.Looking.{first, or_else, given, is_at}
+use Rattle.records.specs.Looking.{first, or_else, given}
 use Rattle.records.proofs.LookingLaws.{first-is, first_absent}
 use Rattle.records.specs.Internal.Amounts.{at, poured}
 use Rattle.arith.specs.Holds.{between}
@@ -32,8 +31,8 @@ use Rattle.bank.specs.Past.{window_past, zone_past}
 use Rattle.bank.specs.Internal.Past.{past_over}
 
 -- the lowest sample at fault that an instrument below n names
-unfoldable pub lowest_below : List ℕ → Parts → ℕ → Found
-lowest_below b m zero = Nothing
+unfoldable pub lowest_below : List ℕ → Parts → ℕ → Option ℕ
+lowest_below b m zero = None
 lowest_below b m (suc h) = with_zones b m (bag_of b m.instruments h) (zone_count b m.instruments h) (lowest_below b m h)
 
 -- two tests that agree on n numbers find the same first
@@ -43,23 +42,23 @@ first-same p q zero h = refl
 first-same p q (suc n) h = rw (first-same p q n (λ k l. h k (omega arith)), zero-add, h n (omega arith)) refl
 
 -- a number more in the set: what is found is the lower one
-lower-stays : (f g : Found) (l : ℕ) → or_else (lower f l) g ≡ lower f l
-lower-stays Nothing g l = refl
-lower-stays (At x) g l = by (ltb x l)
+lower-stays : (f g : Option ℕ) (l : ℕ) → or_else (lower f l) g ≡ lower f l
+lower-stays None g l = refl
+lower-stays (Some x) g l = by (ltb x l)
   where
-    by : (t : Bool) → or_else (cond t (At x) (At l)) g ≡ cond t (At x) (At l)
+    by : (t : Bool) → or_else (cond t (Some x) (Some l)) g ≡ cond t (Some x) (Some l)
     by true = refl
     by false = refl
 
-lower-behind : (f : Found) (t : Bool) (n l : ℕ) → l < n → lower (or_else f (given t n)) l ≡ lower f l
-lower-behind (At x) t n l h = refl
-lower-behind Nothing true n l h = rw (le-ltb n l (omega arith)) refl
-lower-behind Nothing false n l h = refl
+lower-behind : (f : Option ℕ) (t : Bool) (n l : ℕ) → l < n → lower (or_else f (given t n)) l ≡ lower f l
+lower-behind (Some x) t n l h = refl
+lower-behind None true n l h = rw (le-ltb n l (omega arith)) refl
+lower-behind None false n l h = refl
 
-lower-here : (f : Found) (t : Bool) (n : ℕ) → ((x : ℕ) → f ≡ At x → x < n) → or_else f (given true n) ≡ lower (or_else f (given t n)) n
-lower-here (At x) t n h = rw (lt-ltb x n (h x refl)) refl
-lower-here Nothing true n h = rw (le-ltb n n (omega arith)) refl
-lower-here Nothing false n h = refl
+lower-here : (f : Option ℕ) (t : Bool) (n : ℕ) → ((x : ℕ) → f ≡ Some x → x < n) → or_else f (given true n) ≡ lower (or_else f (given t n)) n
+lower-here (Some x) t n h = rw (lt-ltb x n (h x refl)) refl
+lower-here None true n h = rw (le-ltb n n (omega arith)) refl
+lower-here None false n h = refl
 
 pub first-add : (p q : ℕ → Bool) (n l : ℕ) → l < n → q l ≡ true → ((k : ℕ) → k < n → eqb l k ≡ false → q k ≡ p k) → first q 0 n ≡ lower (first p 0 n) l
 unfolding first
@@ -76,15 +75,15 @@ first-add p q (suc n) l h e same = ⊎_elim (λ at. here at) (λ low. further lo
     further low ih = rw ih (lower-stays (first p 0 n) (given (q (0 + n)) (0 + n)) l ∙ rw zero-add (sym (lower-behind (first p 0 n) (p n) n l low)))
 
 -- one zone more names a number, or not
-more : (a f : Found) (t : Bool) (x : ℕ) → is_at (or_else a (or_else f (given t x))) ≡ (is_at (or_else a f) || t)
-more (At y) f t x = refl
-more Nothing (At y) t x = refl
-more Nothing Nothing true x = refl
-more Nothing Nothing false x = refl
+more : (a f : Option ℕ) (t : Bool) (x : ℕ) → is_some (or_else a (or_else f (given t x))) ≡ (is_some (or_else a f) || t)
+more (Some y) f t x = refl
+more None (Some y) t x = refl
+more None None true x = refl
+more None None false x = refl
 
-or_nothing : (a : Found) → or_else a Nothing ≡ a
-or_nothing Nothing = refl
-or_nothing (At x) = refl
+or_nothing : (a : Option ℕ) → or_else a None ≡ a
+or_nothing None = refl
+or_nothing (Some x) = refl
 
 -- test 6
 module _ (b : List ℕ) (m : Parts) where
@@ -95,26 +94,26 @@ module _ (b : List ℕ) (m : Parts) where
   limit = m.instruments.nlinks - 1
 
   -- sample k has a bad rate, and a zone of a head below h, or one of the first j zones of head h, names it
-  abbrev named_by : ℕ → ℕ → ℕ → Found
+  abbrev named_by : ℕ → ℕ → ℕ → Option ℕ
   named_by h j k =
       or_else (zone_below b m.instruments (names_sample b m.instruments k) h)
       (first (names_sample b m.instruments k h) (bag_of b m.instruments h) j)
 
   faulty : ℕ → ℕ → ℕ → Bool
-  faulty h j k = wrong k && is_at (named_by h j k)
+  faulty h j k = wrong k && is_some (named_by h j k)
 
   module _ (h j : ℕ) where
     abbrev zone : Zone
     zone = zone_at b m.instruments (bag_of b m.instruments h + j)
 
-    each : (k : ℕ) → faulty h (suc j) k ≡ (wrong k && (is_at (named_by h j k) || (zone.sounding && eqb zone.link k)))
+    each : (k : ℕ) → faulty h (suc j) k ≡ (wrong k && (is_some (named_by h j k) || (zone.sounding && eqb zone.link k)))
     unfolding faulty first names_sample
     each k =
         rw (more (zone_below b m.instruments (names_sample b m.instruments k) h) (first (names_sample b m.instruments k h) (bag_of b m.instruments h) j) (zone.sounding && eqb zone.link k) (bag_of b m.instruments h + j)) refl
 
     still : (k : ℕ) → (zone.sounding && eqb zone.link k) ≡ false → faulty h (suc j) k ≡ faulty h j k
     unfolding faulty
-    still k e = each k ∙ rw (e, or-false (is_at (named_by h j k))) refl
+    still k e = each k ∙ rw (e, or-false (is_some (named_by h j k))) refl
 
     good-rate : (k : ℕ) → wrong zone.link ≡ false → (t : Bool) → eqb zone.link k ≡ t → faulty h (suc j) k ≡ faulty h j k
     unfolding faulty
@@ -132,7 +131,7 @@ module _ (b : List ℕ) (m : Parts) where
     step true true false sounds low bad =
         rw (sounds, low, bad) (first-same (faulty h j) (faulty h (suc j)) limit (λ k r. good-rate k bad (eqb zone.link k) refl))
     step true true true sounds low bad =
-        rw (sounds, low, bad) (first-add (faulty h j) (faulty h (suc j)) limit zone.link (ltb-true zone.link limit low) (each zone.link ∙ rw (bad, sounds, eq-eqb zone.link zone.link refl, or-true (is_at (named_by h j zone.link))) refl) (λ k r e. still k (rw (e, and-false zone.sounding) refl)))
+        rw (sounds, low, bad) (first-add (faulty h j) (faulty h (suc j)) limit zone.link (ltb-true zone.link limit low) (each zone.link ∙ rw (bad, sounds, eq-eqb zone.link zone.link refl, or-true (is_some (named_by h j zone.link))) refl) (λ k r e. still k (rw (e, and-false zone.sounding) refl)))
 
     turn : first (faulty h (suc j)) 0 limit ≡ with_zone b m (bag_of b m.instruments h + j) (first (faulty h j) 0 limit)
     turn = step zone.sounding (ltb zone.link limit) (wrong zone.link) refl refl refl
@@ -157,15 +156,15 @@ module _ (b : List ℕ) (m : Parts) where
       ∙ first-same (bad_rate b m) (faulty (m.instruments.nheads - 1) 0) limit (λ k r. rw (or_nothing (zone_below b m.instruments (names_sample b m.instruments k) (m.instruments.nheads - 1))) refl)
 
   -- as loops want them
-  pub zones-none : (from : ℕ) (low : Found) → with_zones b m from 0 low ≡ low
+  pub zones-none : (from : ℕ) (low : Option ℕ) → with_zones b m from 0 low ≡ low
   unfolding with_zones
   zones-none from low = refl
 
-  pub zones-next : (from n : ℕ) (low : Found) → with_zones b m from (n + 1) low ≡ with_zone b m (from + n) (with_zones b m from n low)
+  pub zones-next : (from n : ℕ) (low : Option ℕ) → with_zones b m from (n + 1) low ≡ with_zone b m (from + n) (with_zones b m from n low)
   unfolding with_zones
   zones-next from n low = rw add-one refl
 
-  pub lowest-none : lowest_below b m 0 ≡ Nothing
+  pub lowest-none : lowest_below b m 0 ≡ None
   unfolding lowest_below
   lowest-none = refl
 

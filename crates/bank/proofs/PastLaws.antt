@@ -1,4 +1,5 @@
 -- Laws of a window's end and a count of samples.
+use Rattle.std.specs.Prelude.{None}
 use mathlib.Core.Bool.{Bool, true, false, cond, ◌&&◌}
 use mathlib.Core.List.{List}
 use mathlib.Core.Path.{◌≡◌, refl}
@@ -14,7 +15,6 @@ use Rattle.records.specs.Headers.{rom_of}
 use Rattle.records.specs.Sides.{parts_of}
 use Rattle.records.specs.Windows.{end_of, movers}
 use Rattle.records.specs.Zones.{zone_at, global_of, first_zone}
-use Rattle.records.specs.declared.Found.TheVariants.{Nothing}
 use Rattle.bank.specs.Admission.{admitted}
 use Rattle.bank.specs.Links.{zone_link_at}
 use Rattle.bank.specs.Past.{window_past, zone_past, past_fault, past_memory}
@@ -50,7 +50,7 @@ and_second : (s t : Bool) → s ≡ true → (s && t) ≡ false → t ≡ false
 and_second s t e f = rw e at f
 
 -- where no window past its memory is found, none of a sounding zone ends past its memory
-pub none-past : (b : List ℕ) (ram rom : ℕ) → admitted b ≡ true → past_memory b ram rom ≡ Nothing → (h z : ℕ) → Sounding b (parts_of b).instruments h z
+pub none-past : (b : List ℕ) (ram rom : ℕ) → admitted b ≡ true → past_memory b ram rom ≡ None → (h z : ℕ) → Sounding b (parts_of b).instruments h z
     → word32 (end_of b (parts_of b) (zone_at b (parts_of b).instruments z).link (movers b (parts_of b) (zone_at b (parts_of b).instruments z) (global_of b (parts_of b).instruments h)))
     ≤ cond (rom_of b (parts_of b) (zone_at b (parts_of b).instruments z).link) rom ram
 unfolding past_memory past_fault zone_past window_past

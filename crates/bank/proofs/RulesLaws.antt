@@ -1,4 +1,5 @@
 -- `fault_of` gives `Fine` exactly for the banks that 01's rules admit.
+use Rattle.std.specs.Prelude.{Option, None, Some, is_some}
 use mathlib.Core.Bool.{Bool, true, false, ◌||◌, ◌&&◌, not, and-false}
 use mathlib.Core.Path.{◌≡◌, refl, sym, subst, ap, ◌∙◌}
 use Prim.Native.Nat.{ℕ, ◌+◌, ◌-◌, ◌≤◌, ◌<◌, zero, suc, ◌%◌}
@@ -13,15 +14,13 @@ use lib.IntN.{ℤ, pos}
 use lib.Signed.{le_z, ◌≤ℤ◌, lt_z, ◌<ℤ◌}
 use native.Mathlib.Numerals.{add-one}
 use Rattle.bank.specs.Rules.{Rising, Sounding, GoodSide, GoodWindow, GoodSounds, Admitted}
-use Rattle.records.specs.Looking.{first, placed, given, is_at, or_else}
+use Rattle.records.specs.Looking.{first, placed, given, or_else}
 use Rattle.records.proofs.LookingLaws.{or-none, first-nothing, given-none, placed-none, first_absent, first-is}
 use Rattle.records.specs.Sides.{bag_of, parts_of, bag_at, gen_of, mod_of, head_at, instruments, presets}
 use Rattle.records.specs.Zones.{zone_count, zone_below, first_zone, zone_at, global_of}
-use Rattle.records.specs.declared.Found.TheVariants.{Nothing, At}
 use Rattle.records.specs.declared.Side.{Side}
 use Rattle.bank.specs.declared.Fault.{Fault}
 use Rattle.bank.specs.declared.Fault.TheVariants.{Fine, Long, Chunk, Records, Index, Number, Rate, Window}
-use Rattle.records.specs.declared.Found.{Found}
 use Rattle.records.specs.Chunks.{records, names, chunk_at, name_at, sizes, leasts, bytes_in}
 use Rattle.records.specs.declared.Parts.{Parts}
 use Rattle.records.specs.Headers.{sample_at, rate_of}
@@ -81,18 +80,18 @@ rising index n m h = record { grows = grows; ends = ends }
 
 -- ---- zones
 
-below-nothing : (b : List ℕ) (s : Side) (p : ℕ → ℕ → Bool) (n : ℕ) → zone_below b s p n ≡ Nothing → (h k : ℕ) → h < n → k < zone_count b s h → p h (bag_of b s h + k) ≡ false
+below-nothing : (b : List ℕ) (s : Side) (p : ℕ → ℕ → Bool) (n : ℕ) → zone_below b s p n ≡ None → (h k : ℕ) → h < n → k < zone_count b s h → p h (bag_of b s h + k) ≡ false
 unfolding zone_below
 below-nothing b s p zero e h k l m = absurd (not-suc-le-zero l)
 below-nothing b s p (suc n) e h k l m =
     let r = or-none (zone_below b s p n) (first (p n) (bag_of b s n) (zone_count b s n)) e in
     ⊎_elim (λ (i : h ≡ n). here i r.1) (λ (i : h < n). below-nothing b s p n r.0 h k i m) (eq-or-lt_of_le (le_of_suc-le-suc l))
   where
-    here : h ≡ n → first (p n) (bag_of b s n) (zone_count b s n) ≡ Nothing → p h (bag_of b s h + k) ≡ false
+    here : h ≡ n → first (p n) (bag_of b s n) (zone_count b s n) ≡ None → p h (bag_of b s h + k) ≡ false
     here i f = first-nothing (p h) (bag_of b s h) (zone_count b s h) (rw i f) k m
 
 -- what holds of no zone does not hold of a sounding one
-pub no-zone : (b : List ℕ) (s : Side) (p : ℕ → ℕ → Bool) → first_zone b s p ≡ Nothing → (h z : ℕ) → Sounding b s h z → p h z ≡ false
+pub no-zone : (b : List ℕ) (s : Side) (p : ℕ → ℕ → Bool) → first_zone b s p ≡ None → (h z : ℕ) → Sounding b s h z → p h z ≡ false
 unfolding first_zone zone_count
 no-zone b s p e h z w =
     let at : bag_of b s h + (z - bag_of b s h) ≡ z = omega (arith, w.low) in
@@ -100,18 +99,18 @@ no-zone b s p e h z w =
 
 -- ---- the seven tests, one after the other
 
-step : (f : Found) (kind : ℕ → Fault) (rest : Fault) → ((p : ℕ) → kind p ≡ Fine → ⊥) → elim f [ At p ↦ kind p | Nothing ↦ rest ] ≡ Fine → (f ≡ Nothing) × (rest ≡ Fine)
-step Nothing kind rest other e = (refl, e)
-step (At p) kind rest other e = absurd (other p e)
+step : (f : Option ℕ) (kind : ℕ → Fault) (rest : Fault) → ((p : ℕ) → kind p ≡ Fine → ⊥) → elim f [ Some p ↦ kind p | None ↦ rest ] ≡ Fine → (f ≡ None) × (rest ≡ Fine)
+step None kind rest other e = (refl, e)
+step (Some p) kind rest other e = absurd (other p e)
 
 record Passed (b : List ℕ) (m : Parts) : Type 0 where
-  long : Admission.long_fault b ≡ Nothing
-  chunk : BankFraming.chunk_fault b ≡ Nothing
-  records : BankFraming.records_fault b ≡ Nothing
-  index : BankIndexes.index_fault b m ≡ Nothing
-  number : BankLinks.number_fault b m ≡ Nothing
-  rate : BankRates.rate_fault b m ≡ Nothing
-  window : BankBounds.window_fault b m ≡ Nothing
+  long : Admission.long_fault b ≡ None
+  chunk : BankFraming.chunk_fault b ≡ None
+  records : BankFraming.records_fault b ≡ None
+  index : BankIndexes.index_fault b m ≡ None
+  number : BankLinks.number_fault b m ≡ None
+  rate : BankRates.rate_fault b m ≡ None
+  window : BankBounds.window_fault b m ≡ None
 
 passed : (b : List ℕ) → Admission.fault_of b ≡ Fine → Passed b (parts_of b)
 unfolding Admission.fault_of
@@ -127,22 +126,22 @@ passed b e =
 
 -- ---- each test, and its rule
 
-short : (b : List ℕ) → Admission.long_fault b ≡ Nothing → length b ≤ 65536
+short : (b : List ℕ) → Admission.long_fault b ≡ None → length b ≤ 65536
 unfolding Admission.long_fault
 short b e = ltb-false 65536 (length b) (given-none (ltb 65536 (length b)) 65536 e)
 
 -- a search from 0 that finds nothing
-none-at : (p : ℕ → Bool) (place : ℕ → ℕ) (n : ℕ) → placed place (first p 0 n) ≡ Nothing → (k : ℕ) → k < n → p k ≡ false
+none-at : (p : ℕ → Bool) (place : ℕ → ℕ) (n : ℕ) → placed place (first p 0 n) ≡ None → (k : ℕ) → k < n → p k ≡ false
 none-at p place n e k h = rw zero-add at (first-nothing p 0 n (placed-none place (first p 0 n) e) k h)
 
-good-chunk : (b : List ℕ) → BankFraming.chunk_fault b ≡ Nothing → (k : ℕ) → k < 9 → (name_at b k ≡ get_or names k 0) × (chunk_at b (k + 1) ≤ length b)
+good-chunk : (b : List ℕ) → BankFraming.chunk_fault b ≡ None → (k : ℕ) → k < 9 → (name_at b k ≡ get_or names k 0) × (chunk_at b (k + 1) ≤ length b)
 unfolding BankFraming.chunk_fault BankFraming.bad_chunk
 good-chunk b e k h =
     let r = or-none (placed (chunk_at b) (first (BankFraming.bad_chunk b) 0 9)) (given (ltb (chunk_at b 9) (length b)) (chunk_at b 9)) e in
     let g = or-false (not (eqb (name_at b k) (get_or names k 0))) (ltb (length b) (chunk_at b (k + 1))) (none-at (BankFraming.bad_chunk b) (chunk_at b) 9 r.0 k h) in
     (eqb-true (name_at b k) (get_or names k 0) (not-false (eqb (name_at b k) (get_or names k 0)) g.0), ltb-false (length b) (chunk_at b (k + 1)) g.1)
 
-pub whole-bank : (b : List ℕ) → BankFraming.chunk_fault b ≡ Nothing → chunk_at b 9 ≡ length b
+pub whole-bank : (b : List ℕ) → BankFraming.chunk_fault b ≡ None → chunk_at b 9 ≡ length b
 unfolding BankFraming.chunk_fault
 whole-bank b e =
     let r = or-none (placed (chunk_at b) (first (BankFraming.bad_chunk b) 0 9)) (given (ltb (chunk_at b 9) (length b)) (chunk_at b 9)) e in
@@ -150,27 +149,27 @@ whole-bank b e =
     let high : chunk_at b 9 ≤ length b = (good-chunk b e 8 (omega arith)).1 in
     omega arith
 
-good-records : (b : List ℕ) → BankFraming.records_fault b ≡ Nothing → (k : ℕ) → k < 9 → (bytes_in b k % get_or sizes k 0 ≡ 0) × (get_or leasts k 0 ≤ records b k)
+good-records : (b : List ℕ) → BankFraming.records_fault b ≡ None → (k : ℕ) → k < 9 → (bytes_in b k % get_or sizes k 0 ≡ 0) × (get_or leasts k 0 ≤ records b k)
 unfolding BankFraming.records_fault BankFraming.bad_records
 good-records b e k h =
     let t = eqb (bytes_in b k % get_or sizes k 0) 0 in
     let g = or-false (not t) (ltb (records b k) (get_or leasts k 0)) (none-at (BankFraming.bad_records b) (chunk_at b) 9 e k h) in
     (eqb-true (bytes_in b k % get_or sizes k 0) 0 (not-false t g.0), ltb-false (records b k) (get_or leasts k 0) g.1)
 
-good-links : (b : List ℕ) (s : Side) → BankLinks.link_fault b s ≡ Nothing → (h z : ℕ) → Sounding b s h z → (zone_at b s z).link < s.nlinks - 1
+good-links : (b : List ℕ) (s : Side) → BankLinks.link_fault b s ≡ None → (h z : ℕ) → Sounding b s h z → (zone_at b s z).link < s.nlinks - 1
 unfolding BankLinks.link_fault BankLinks.bad_number
 good-links b s e h z w =
     let t = ltb (zone_at b s z).link (s.nlinks - 1) in
     let f = no-zone b s (BankLinks.bad_number b s) (placed-none (BankLinks.zone_link_at b s) (first_zone b s (BankLinks.bad_number b s)) e) h z w in
     ltb-true (zone_at b s z).link (s.nlinks - 1) (not-false t (and_left (zone_at b s z).sounding (not t) f w.sounds))
 
-good-bag : (b : List ℕ) (s : Side) → BankIndexes.bag_fault b s ≡ Nothing → (i : ℕ) → i < s.nbags → (BankIndexes.bad_at (gen_of b s (i - 1)) (gen_of b s i) i s.nbags s.ngens ≡ false) × (BankIndexes.bad_at (mod_of b s (i - 1)) (mod_of b s i) i s.nbags s.nmods ≡ false)
+good-bag : (b : List ℕ) (s : Side) → BankIndexes.bag_fault b s ≡ None → (i : ℕ) → i < s.nbags → (BankIndexes.bad_at (gen_of b s (i - 1)) (gen_of b s i) i s.nbags s.ngens ≡ false) × (BankIndexes.bad_at (mod_of b s (i - 1)) (mod_of b s i) i s.nbags s.nmods ≡ false)
 unfolding BankIndexes.bag_fault BankIndexes.bad_bag
 good-bag b s e i h =
     or-false (BankIndexes.bad_at (gen_of b s (i - 1)) (gen_of b s i) i s.nbags s.ngens) (BankIndexes.bad_at (mod_of b s (i - 1)) (mod_of b s i) i s.nbags s.nmods)
     (none-at (BankIndexes.bad_bag b s) (bag_at s) s.nbags e i h)
 
-good-side : (b : List ℕ) (s : Side) → BankIndexes.head_fault b s ≡ Nothing → BankIndexes.bag_fault b s ≡ Nothing → BankLinks.link_fault b s ≡ Nothing → GoodSide b s
+good-side : (b : List ℕ) (s : Side) → BankIndexes.head_fault b s ≡ None → BankIndexes.bag_fault b s ≡ None → BankLinks.link_fault b s ≡ None → GoodSide b s
 unfolding BankIndexes.head_fault BankIndexes.bad_head
 good-side b s heads bags links =
     record {
@@ -181,13 +180,13 @@ good-side b s heads bags links =
     }
 
 -- a sounding zone names its sample, so the sample is named
-named : (b : List ℕ) (s : Side) (h z : ℕ) → Sounding b s h z → is_at (first_zone b s (BankRates.names_sample b s (zone_at b s z).link)) ≡ true
+named : (b : List ℕ) (s : Side) (h z : ℕ) → Sounding b s h z → is_some (first_zone b s (BankRates.names_sample b s (zone_at b s z).link)) ≡ true
 unfolding BankRates.names_sample
 named b s h z w = go (first_zone b s (BankRates.names_sample b s (zone_at b s z).link)) refl
   where
-    go : (f : Found) → first_zone b s (BankRates.names_sample b s (zone_at b s z).link) ≡ f → is_at f ≡ true
-    go (At x) e = refl
-    go Nothing e =
+    go : (f : Option ℕ) → first_zone b s (BankRates.names_sample b s (zone_at b s z).link) ≡ f → is_some f ≡ true
+    go (Some x) e = refl
+    go None e =
         let n = no-zone b s (BankRates.names_sample b s (zone_at b s z).link) e h z w in
         let f = and_left (zone_at b s z).sounding (eqb (zone_at b s z).link (zone_at b s z).link) n w.sounds in
         let z : ◌≡◌ {A = ℕ} 0 1 = cc (eq-eqb (zone_at b s z).link (zone_at b s z).link refl) in absurd (omega arith)
@@ -196,14 +195,14 @@ and_right : (a b : Bool) → (a && b) ≡ false → b ≡ true → a ≡ false
 and_right false b e h = refl
 and_right true b e h = let z : ◌≡◌ {A = ℕ} 0 1 = cc in absurd (omega arith)
 
-good-rate : (b : List ℕ) (m : Parts) → BankRates.rate_fault b m ≡ Nothing → GoodSide b m.instruments → (h z : ℕ) → Sounding b m.instruments h z → (400 ≤ rate_of b m (zone_at b m.instruments z).link) × (rate_of b m (zone_at b m.instruments z).link ≤ 50000)
+good-rate : (b : List ℕ) (m : Parts) → BankRates.rate_fault b m ≡ None → GoodSide b m.instruments → (h z : ℕ) → Sounding b m.instruments h z → (400 ≤ rate_of b m (zone_at b m.instruments z).link) × (rate_of b m (zone_at b m.instruments z).link ≤ 50000)
 unfolding BankRates.rate_fault BankRates.bad_rate between
 good-rate b m e side h z w =
     let s = m.instruments in
     let k = (zone_at b s z).link in
     let f = none-at (BankRates.bad_rate b m) (sample_at m) (s.nlinks - 1) e k (side.links h z w) in
     let t = leb 400 (rate_of b m k) && leb (rate_of b m k) 50000 in
-    let g = and-true (leb 400 (rate_of b m k)) (leb (rate_of b m k) 50000) (not-false t (and_right (not t) (is_at (first_zone b s (BankRates.names_sample b s k))) f (named b s h z w))) in
+    let g = and-true (leb 400 (rate_of b m k)) (leb (rate_of b m k) 50000) (not-false t (and_right (not t) (is_some (first_zone b s (BankRates.names_sample b s k))) f (named b s h z w))) in
     (leb-true 400 (rate_of b m k) g.0, leb-true (rate_of b m k) 50000 g.1)
 
 -- a test of the loop's places that passes, where the mode loops
@@ -238,7 +237,7 @@ good-window b m k v e =
       loop-high = λ h. le_yes to end (and-true (le_z start from && lt_z from to) (le_z to end) (looped l inner r3.1 h)).1;
     }
 
-good-sounds : (b : List ℕ) (m : Parts) → BankRates.rate_fault b m ≡ Nothing → BankBounds.window_fault b m ≡ Nothing → GoodSide b m.instruments → GoodSounds b m
+good-sounds : (b : List ℕ) (m : Parts) → BankRates.rate_fault b m ≡ None → BankBounds.window_fault b m ≡ None → GoodSide b m.instruments → GoodSounds b m
 unfolding BankBounds.window_fault BankBounds.bad_window
 good-sounds b m rate window side =
     record {
@@ -280,18 +279,18 @@ fine-rules b e =
 -- ---- the other way round
 
 -- a search from 0 that finds nothing
-absent : (p : ℕ → Bool) (place : ℕ → ℕ) (n : ℕ) → ((k : ℕ) → k < n → p k ≡ false) → placed place (first p 0 n) ≡ Nothing
+absent : (p : ℕ → Bool) (place : ℕ → ℕ) (n : ℕ) → ((k : ℕ) → k < n → p k ≡ false) → placed place (first p 0 n) ≡ None
 absent p place n h = ap (placed place) (first_absent p 0 n (λ k l. rw zero-add (h k l)))
 
-pub long-none : (b : List ℕ) → length b ≤ 65536 → Admission.long_fault b ≡ Nothing
+pub long-none : (b : List ℕ) → length b ≤ 65536 → Admission.long_fault b ≡ None
 unfolding Admission.long_fault
 long-none b h = rw (le-ltb 65536 (length b) h) refl
 
-pub long-some : (b : List ℕ) → 65536 < length b → Admission.long_fault b ≡ At 65536
+pub long-some : (b : List ℕ) → 65536 < length b → Admission.long_fault b ≡ Some 65536
 unfolding Admission.long_fault
 long-some b h = rw (lt-ltb 65536 (length b) h) refl
 
-chunk-none : (b : List ℕ) → Admitted b → BankFraming.chunk_fault b ≡ Nothing
+chunk-none : (b : List ℕ) → Admitted b → BankFraming.chunk_fault b ≡ None
 unfolding BankFraming.chunk_fault BankFraming.bad_chunk
 chunk-none b a =
     rw (absent (BankFraming.bad_chunk b) (chunk_at b) 9 each) (rw (le-ltb (chunk_at b 9) (length b) (omega (arith, a.whole))) refl)
@@ -302,7 +301,7 @@ chunk-none b a =
         let up : chunk_at b (k + 1) ≤ chunk_at b 9 = rw e at (chunk-up b (k + 1) (9 - (k + 1))) in
         rw (eq-eqb (name_at b k) (get_or names k 0) (a.named k h), le-ltb (length b) (chunk_at b (k + 1)) (omega (arith, a.whole))) refl
 
-records-none : (b : List ℕ) → Admitted b → BankFraming.records_fault b ≡ Nothing
+records-none : (b : List ℕ) → Admitted b → BankFraming.records_fault b ≡ None
 unfolding BankFraming.records_fault BankFraming.bad_records
 records-none b a = absent (BankFraming.bad_records b) (chunk_at b) 9 each
   where
@@ -325,7 +324,7 @@ good-index index n m i r h = rw (falls i h, wrong (eqb (i + 1) n) refl) refl
     wrong false e = rw e refl
     wrong true e = rw (e, eq-eqb (index i + 1) m (r.ends i (eqb-true (i + 1) n e))) refl
 
-side-none : (b : List ℕ) (s : Side) → GoodSide b s → (BankIndexes.head_fault b s ≡ Nothing) × (BankIndexes.bag_fault b s ≡ Nothing)
+side-none : (b : List ℕ) (s : Side) → GoodSide b s → (BankIndexes.head_fault b s ≡ None) × (BankIndexes.bag_fault b s ≡ None)
 unfolding BankIndexes.head_fault BankIndexes.bag_fault BankIndexes.bad_head BankIndexes.bad_bag
 side-none b s g = (
   absent (BankIndexes.bad_head b s) (head_at s) s.nheads (λ i h. good-index (bag_of b s) s.nheads s.nbags i g.heads h),
@@ -333,11 +332,11 @@ side-none b s g = (
 )
 
 -- no zone passes p
-zone-absent : (b : List ℕ) (s : Side) (p : ℕ → ℕ → Bool) → ((h z : ℕ) → h + 1 < s.nheads → bag_of b s h ≤ z → z < bag_of b s (h + 1) → p h z ≡ false) → first_zone b s p ≡ Nothing
+zone-absent : (b : List ℕ) (s : Side) (p : ℕ → ℕ → Bool) → ((h z : ℕ) → h + 1 < s.nheads → bag_of b s h ≤ z → z < bag_of b s (h + 1) → p h z ≡ false) → first_zone b s p ≡ None
 unfolding first_zone zone_below zone_count
 zone-absent b s p none = go (s.nheads - 1) (omega arith)
   where
-    go : (n : ℕ) → n ≤ s.nheads - 1 → zone_below b s p n ≡ Nothing
+    go : (n : ℕ) → n ≤ s.nheads - 1 → zone_below b s p n ≡ None
     go zero l = refl
     go (suc n) l = rw (go n (omega arith), first_absent (p n) (bag_of b s n) (bag_of b s (n + 1) - bag_of b s n) (λ k h. none n (bag_of b s n + k) (omega arith) (omega arith) (omega arith))) refl
 
@@ -349,15 +348,15 @@ record Held (b : List ℕ) (s : Side) (p : ℕ → ℕ → Bool) (z : ℕ) : Typ
   high : z < bag_of b s (head + 1)
   holds : p head z ≡ true
 
-zone-is : (b : List ℕ) (s : Side) (p : ℕ → ℕ → Bool) (z : ℕ) → first_zone b s p ≡ At z → Held b s p z
+zone-is : (b : List ℕ) (s : Side) (p : ℕ → ℕ → Bool) (z : ℕ) → first_zone b s p ≡ Some z → Held b s p z
 unfolding first_zone zone_below zone_count
 zone-is b s p z e = go (s.nheads - 1) (omega arith) e
   where
-    either : (f g : Found) → or_else f g ≡ At z → (f ≡ At z) ⊎ (g ≡ At z)
-    either Nothing g e = inr e
-    either (At x) g e = inl e
+    either : (f g : Option ℕ) → or_else f g ≡ Some z → (f ≡ Some z) ⊎ (g ≡ Some z)
+    either None g e = inr e
+    either (Some x) g e = inl e
 
-    go : (n : ℕ) → n ≤ s.nheads - 1 → zone_below b s p n ≡ At z → Held b s p z
+    go : (n : ℕ) → n ≤ s.nheads - 1 → zone_below b s p n ≡ Some z → Held b s p z
     go zero l e = let z : ◌≡◌ {A = ℕ} 0 1 = cc in absurd (omega arith)
     go (suc n) l e =
         ⊎_elim (λ f. go n (omega arith) f)
@@ -365,7 +364,7 @@ zone-is b s p z e = go (s.nheads - 1) (omega arith) e
         (either (zone_below b s p n) (first (p n) (bag_of b s n) (bag_of b s (n + 1) - bag_of b s n)) e)
 
 -- a test of sounding zones that none fails
-sounding-absent : (b : List ℕ) (s : Side) (p : ℕ → ℕ → Bool) (t : ℕ → ℕ → Bool) → ((h z : ℕ) → p h z ≡ ((zone_at b s z).sounding && not (t h z))) → ((h z : ℕ) → Sounding b s h z → t h z ≡ true) → first_zone b s p ≡ Nothing
+sounding-absent : (b : List ℕ) (s : Side) (p : ℕ → ℕ → Bool) (t : ℕ → ℕ → Bool) → ((h z : ℕ) → p h z ≡ ((zone_at b s z).sounding && not (t h z))) → ((h z : ℕ) → Sounding b s h z → t h z ≡ true) → first_zone b s p ≡ None
 sounding-absent b s p t is good = zone-absent b s p each
   where
     each : (h z : ℕ) → h + 1 < s.nheads → bag_of b s h ≤ z → z < bag_of b s (h + 1) → p h z ≡ false
@@ -375,19 +374,19 @@ sounding-absent b s p t is good = zone-absent b s p each
         go false e = refl
         go true e = rw (good h z (record { head = head; low = low; high = high; sounds = e })) refl
 
-link-none : (b : List ℕ) (s : Side) → GoodSide b s → BankLinks.link_fault b s ≡ Nothing
+link-none : (b : List ℕ) (s : Side) → GoodSide b s → BankLinks.link_fault b s ≡ None
 unfolding BankLinks.link_fault BankLinks.bad_number
 link-none b s g =
     ap (placed (BankLinks.zone_link_at b s))
     (sounding-absent b s (BankLinks.bad_number b s) (λ h z. ltb (zone_at b s z).link (s.nlinks - 1)) (λ h z. refl) (λ h z w. lt-ltb (zone_at b s z).link (s.nlinks - 1) (g.links h z w)))
 
-rate-none : (b : List ℕ) (m : Parts) → GoodSounds b m → BankRates.rate_fault b m ≡ Nothing
+rate-none : (b : List ℕ) (m : Parts) → GoodSounds b m → BankRates.rate_fault b m ≡ None
 unfolding BankRates.rate_fault BankRates.bad_rate BankRates.names_sample between
 rate-none b m g = absent (BankRates.bad_rate b m) (sample_at m) (m.instruments.nlinks - 1) (λ k h. each k (first_zone b m.instruments (BankRates.names_sample b m.instruments k)) refl)
   where
-    each : (k : ℕ) (f : Found) → first_zone b m.instruments (BankRates.names_sample b m.instruments k) ≡ f → BankRates.bad_rate b m k ≡ false
-    each k Nothing e = rw e (and-false (not (leb 400 (rate_of b m k) && leb (rate_of b m k) 50000)))
-    each k (At z) e =
+    each : (k : ℕ) (f : Option ℕ) → first_zone b m.instruments (BankRates.names_sample b m.instruments k) ≡ f → BankRates.bad_rate b m k ≡ false
+    each k None e = rw e (and-false (not (leb 400 (rate_of b m k) && leb (rate_of b m k) 50000)))
+    each k (Some z) e =
         let s = m.instruments in
         let w = zone-is b s (BankRates.names_sample b s k) z e in
         let n = and-true (zone_at b s z).sounding (eqb (zone_at b s z).link k) w.holds in
@@ -418,27 +417,27 @@ window-good b m k v g =
         let to = loop_end_of b m k v in
         rw (test (le_z start from) (g.loop-low e).le, test (lt_z from to) (g.loop-some e).lt, test (le_z to (end_of b m k v)) (g.loop-high e).le) refl
 
-window-none : (b : List ℕ) (m : Parts) → GoodSounds b m → BankBounds.window_fault b m ≡ Nothing
+window-none : (b : List ℕ) (m : Parts) → GoodSounds b m → BankBounds.window_fault b m ≡ None
 unfolding BankBounds.window_fault BankBounds.bad_window
 window-none b m g =
     let s = m.instruments in
     ap (placed (BankLinks.zone_link_at b s))
     (sounding-absent b s (BankBounds.bad_window b m) (λ h z. good_window b m (zone_at b s z).link (movers b m (zone_at b s z) (global_of b s h))) (λ h z. refl) (λ h z w. window-good b m (zone_at b s z).link (movers b m (zone_at b s z) (global_of b s h)) (g.windows h z w)))
 
-index-none : (b : List ℕ) (m : Parts) → GoodSide b m.presets → GoodSide b m.instruments → BankIndexes.index_fault b m ≡ Nothing
+index-none : (b : List ℕ) (m : Parts) → GoodSide b m.presets → GoodSide b m.instruments → BankIndexes.index_fault b m ≡ None
 unfolding BankIndexes.index_fault
 index-none b m p i =
     let x = side-none b m.presets p in
     let y = side-none b m.instruments i in
     rw (x.0, x.1, y.0, y.1) refl
 
-number-none : (b : List ℕ) (m : Parts) → GoodSide b m.presets → GoodSide b m.instruments → BankLinks.number_fault b m ≡ Nothing
+number-none : (b : List ℕ) (m : Parts) → GoodSide b m.presets → GoodSide b m.instruments → BankLinks.number_fault b m ≡ None
 unfolding BankLinks.number_fault
 number-none b m p i = rw (link-none b m.presets p, link-none b m.instruments i) refl
 
-along : (f : Found) (kind : ℕ → Fault) (rest : Fault) → f ≡ Nothing → rest ≡ Fine → elim f [ At p ↦ kind p | Nothing ↦ rest ] ≡ Fine
-along Nothing kind rest e r = r
-along (At p) kind rest e r = let z : ◌≡◌ {A = ℕ} 0 1 = cc in absurd (omega arith)
+along : (f : Option ℕ) (kind : ℕ → Fault) (rest : Fault) → f ≡ None → rest ≡ Fine → elim f [ Some p ↦ kind p | None ↦ rest ] ≡ Fine
+along None kind rest e r = r
+along (Some p) kind rest e r = let z : ◌≡◌ {A = ℕ} 0 1 = cc in absurd (omega arith)
 
 -- in a bank that obeys every rule no fault is found
 pub rules-fine : (b : List ℕ) → Admitted b → Admission.fault_of b ≡ Fine

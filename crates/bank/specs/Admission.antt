@@ -1,11 +1,9 @@
 -- 01, "Bank admission", as seven tests, of which the first at fault counts. Each gives the first byte place at fault, or nothing.
-use Rattle.std.specs.Prelude.{List, ℕ, ltb, eqb, length, Bool}
+use Rattle.std.specs.Prelude.{List, ℕ, ltb, eqb, length, Bool, Option, None, Some}
 use Rattle.records.specs.Looking.{given}
-use Rattle.records.specs.declared.Found.{Found}
 use Rattle.records.specs.Sides.{parts_of}
 use Rattle.bank.specs.declared.Fault.{Fault}
 use Rattle.bank.specs.declared.Fault.TheVariants.{Fine, Long, Chunk, Records, Index, Number, Rate, Window}
-use Rattle.records.specs.declared.Found.TheVariants.{Nothing, At}
 use Rattle.bank.specs.Framing.{chunk_fault, records_fault}
 use Rattle.bank.specs.Indexes.{index_fault}
 use Rattle.bank.specs.Links.{number_fault}
@@ -13,32 +11,32 @@ use Rattle.bank.specs.Rates.{rate_fault}
 use Rattle.bank.specs.Bounds.{window_fault}
 
 -- 1. too long
-unfoldable pub long_fault : List ℕ → Found
+unfoldable pub long_fault : List ℕ → Option ℕ
 long_fault b = given (ltb 65536 (length b)) 65536
 
 -- the first kind at fault, with its place
 unfoldable pub fault_of : List ℕ → Fault
 fault_of b =
     elim (long_fault b) [
-      | At p ↦ Long p
-      | Nothing ↦
+      | Some p ↦ Long p
+      | None ↦
           elim (chunk_fault b) [
-            | At p ↦ Chunk p
-            | Nothing ↦
+            | Some p ↦ Chunk p
+            | None ↦
                 elim (records_fault b) [
-                  | At p ↦ Records p
-                  | Nothing ↦
+                  | Some p ↦ Records p
+                  | None ↦
                       let m = parts_of b in
                       elim (index_fault b m) [
-                        | At p ↦ Index p
-                        | Nothing ↦
+                        | Some p ↦ Index p
+                        | None ↦
                             elim (number_fault b m) [
-                              | At p ↦ Number p
-                              | Nothing ↦
+                              | Some p ↦ Number p
+                              | None ↦
                                   elim (rate_fault b m) [
-                                    | At p ↦ Rate p
-                                    | Nothing ↦
-                                        elim (window_fault b m) [ At p ↦ Window p | Nothing ↦ Fine ]
+                                    | Some p ↦ Rate p
+                                    | None ↦
+                                        elim (window_fault b m) [ Some p ↦ Window p | None ↦ Fine ]
                                   ]
                             ]
                       ]

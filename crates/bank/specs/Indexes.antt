@@ -1,9 +1,8 @@
 -- 01, "Bank admission", test 4: indexes that fall or end wrong.
-use Rattle.std.specs.Prelude.{Bool, ◌&&◌, not, ◌||◌, ℕ, ◌+◌, ◌-◌, ltb, eqb, List}
+use Rattle.std.specs.Prelude.{Bool, ◌&&◌, not, ◌||◌, ℕ, ◌+◌, ◌-◌, ltb, eqb, List, Option}
 use Rattle.records.specs.Sides.{bag_of, gen_of, mod_of, head_at, bag_at}
 use Rattle.records.specs.declared.Side.{Side}
 use Rattle.records.specs.Looking.{placed, first, or_else}
-use Rattle.records.specs.declared.Found.{Found}
 use Rattle.records.specs.declared.Parts.{Parts}
 
 -- 4. an index that falls or ends wrong: index i is below the one before
@@ -31,14 +30,14 @@ unfoldable pub bad_bag : List ℕ → Side → ℕ → Bool
 bad_bag b s z = bad_index (gen_of b s) s.nbags s.ngens z || bad_index (mod_of b s) s.nbags s.nmods z
 
 -- the first bad head, which is the later one where an index falls and the terminal one where it ends wrong
-unfoldable pub head_fault : List ℕ → Side → Found
+unfoldable pub head_fault : List ℕ → Side → Option ℕ
 head_fault b s = placed (head_at s) (first (bad_head b s) 0 s.nheads)
 
 -- the first bad bag, in the same way
-unfoldable pub bag_fault : List ℕ → Side → Found
+unfoldable pub bag_fault : List ℕ → Side → Option ℕ
 bag_fault b s = placed (bag_at s) (first (bad_bag b s) 0 s.nbags)
 
 -- phdr, pbag, inst, ibag stand in this order in the file
-unfoldable pub index_fault : List ℕ → Parts → Found
+unfoldable pub index_fault : List ℕ → Parts → Option ℕ
 index_fault b m =
     or_else (or_else (head_fault b m.presets) (bag_fault b m.presets)) (or_else (head_fault b m.instruments) (bag_fault b m.instruments))

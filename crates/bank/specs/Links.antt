@@ -1,9 +1,8 @@
 -- 01, "Bank admission", test 5: an instrument's or sample's number too high.
-use Rattle.std.specs.Prelude.{Bool, not, ◌&&◌, List, ℕ, ◌-◌, ltb}
+use Rattle.std.specs.Prelude.{Bool, not, ◌&&◌, List, ℕ, ◌-◌, ltb, Option}
 use Rattle.records.specs.Zones.{zone_at, link_at, first_zone}
 use Rattle.records.specs.declared.Side.{Side}
 use Rattle.records.specs.Looking.{placed, or_else}
-use Rattle.records.specs.declared.Found.{Found}
 use Rattle.records.specs.declared.Parts.{Parts}
 
 -- 5. an instrument or sample number too high: zone z is sounding, and its number is not below the terminal's
@@ -15,9 +14,9 @@ unfoldable pub zone_link_at : List ℕ → Side → ℕ → ℕ
 zone_link_at b s z = link_at s (zone_at b s z)
 
 -- the record of a side's first zone with a number too high
-unfoldable pub link_fault : List ℕ → Side → Found
+unfoldable pub link_fault : List ℕ → Side → Option ℕ
 link_fault b s = placed (zone_link_at b s) (first_zone b s (bad_number b s))
 
 -- presets stand before instruments
-unfoldable pub number_fault : List ℕ → Parts → Found
+unfoldable pub number_fault : List ℕ → Parts → Option ℕ
 number_fault b m = or_else (link_fault b m.presets) (link_fault b m.instruments)

@@ -8,7 +8,7 @@ ghost use Rattle.records.specs.Sides.{bag_of};
 ghost use Rattle.records.specs.Zones.{zone_count};
 
 use arith::less;
-use records::{Found, Parts};
+use records::Parts;
 
 // Whether a zone is sounding and, over the amounts of the global zone, has no good window.
 fn bad_over(b: &[u8], m: Parts, global: [i16; 61], z: u32) -> bool
@@ -24,7 +24,7 @@ fn bad_over(b: &[u8], m: Parts, global: [i16; 61], z: u32) -> bool
 }
 
 // The first zone of instrument h whose window is not good; where its 53 stands.
-fn window_in(b: &[u8], m: Parts, h: u32) -> Found
+fn window_in(b: &[u8], m: Parts, h: u32) -> Option<usize>
     ensures { result ≡ placed (zone_link_at b.now m.instruments) (first (bad_window b.now m h) (bag_of b.now m.instruments h) (zone_count b.now m.instruments h)) }
 {
     let i = m.instruments;
@@ -35,15 +35,15 @@ fn window_in(b: &[u8], m: Parts, h: u32) -> Found
     while j < count {
         let z = from + j;
         if bad_over(b, m, global, z) {
-            return Found::At(records::link_at(i, records::zone_at(b, i, z)));
+            return Some(records::link_at(i, records::zone_at(b, i, z)));
         }
         j = j + 1;
     }
-    Found::Nothing
+    None
 }
 
 // The same over all instruments, in file order.
-pub fn window_fault(b: &[u8], m: Parts) -> Found
+pub fn window_fault(b: &[u8], m: Parts) -> Option<usize>
     ensures { result ≡ window_fault b.now m }
 {
     let i = m.instruments;
@@ -51,10 +51,10 @@ pub fn window_fault(b: &[u8], m: Parts) -> Found
     let mut h: u32 = 0;
     while h < heads {
         let found = window_in(b, m, h);
-        if let Found::At(p) = found {
-            return Found::At(p);
+        if let Some(p) = found {
+            return Some(p);
         }
         h = h + 1;
     }
-    Found::Nothing
+    None
 }

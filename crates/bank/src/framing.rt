@@ -3,8 +3,6 @@ ghost use Rattle.std.specs.Prelude.{◌≡◌, ◌<◌, get_or};
 ghost use Rattle.bank.specs.Framing.{bad_chunk, chunk_fault, bad_records, records_fault};
 ghost use Rattle.records.specs.Chunks.{names, leasts};
 
-use records::Found;
-
 const NAMES: [u32; 9] = [
     1919182960, 1734435440, 1685024112, 1852139376, 1953721961, 1734435433, 1685024105, 1852139369,
     1919182963,
@@ -40,21 +38,21 @@ fn bad_chunk(b: &[u8], k: usize) -> bool
 }
 
 // Test 2: chunk name, order or length.
-pub fn chunk_fault(b: &[u8]) -> Found
+pub fn chunk_fault(b: &[u8]) -> Option<usize>
     ensures { result ≡ chunk_fault b.now }
 {
     let mut k: usize = 0;
     while k < 9 {
         if bad_chunk(b, k) {
-            return Found::At(records::chunk_at(b, k));
+            return Some(records::chunk_at(b, k));
         }
         k = k + 1;
     }
     let end = records::chunk_at(b, 9);
     if end < b.len() {
-        return Found::At(end);
+        return Some(end);
     }
-    Found::Nothing
+    None
 }
 
 // Chunk k is no whole number of records, or has too few.
@@ -69,15 +67,15 @@ fn bad_records(b: &[u8], k: usize) -> bool
 }
 
 // Test 3: record size or too few.
-pub fn records_fault(b: &[u8]) -> Found
+pub fn records_fault(b: &[u8]) -> Option<usize>
     ensures { result ≡ records_fault b.now }
 {
     let mut k: usize = 0;
     while k < 9 {
         if bad_records(b, k) {
-            return Found::At(records::chunk_at(b, k));
+            return Some(records::chunk_at(b, k));
         }
         k = k + 1;
     }
-    Found::Nothing
+    None
 }

@@ -2,9 +2,8 @@
 ghost use Rattle.std.specs.Prelude.{◌≡◌};
 ghost use Rattle.bank.specs.Indexes.{falls_at, ends_wrong, bad_at, bad_head, bad_bag, head_fault, bag_fault, index_fault};
 
-use crate::or_else;
 use arith::less;
-use records::{Found, Parts, Side};
+use records::{Parts, Side};
 
 // Index i is below the one before.
 fn falls(before: u16, here: u16, i: u32) -> bool
@@ -72,43 +71,41 @@ fn bad_bag(b: &[u8], s: Side, z: u32) -> bool
 }
 
 // Where the first head stands whose bag index falls or ends wrong.
-fn head_fault(b: &[u8], s: Side) -> Found
+fn head_fault(b: &[u8], s: Side) -> Option<usize>
     ensures { result ≡ head_fault b.now s }
 {
     let n = s.nheads;
     let mut h: u32 = 0;
     while h < n {
         if bad_head(b, s, h) {
-            return Found::At((s.heads as usize) + records::times(s.width, h as usize));
+            return Some((s.heads as usize) + records::times(s.width, h as usize));
         }
         h = h + 1;
     }
-    Found::Nothing
+    None
 }
 
 // Where the first bag stands whose generator or modulator index falls or ends wrong.
-fn bag_fault(b: &[u8], s: Side) -> Found
+fn bag_fault(b: &[u8], s: Side) -> Option<usize>
     ensures { result ≡ bag_fault b.now s }
 {
     let n = s.nbags;
     let mut z: u32 = 0;
     while z < n {
         if bad_bag(b, s, z) {
-            return Found::At((s.bags as usize) + 4 * (z as usize));
+            return Some((s.bags as usize) + 4 * (z as usize));
         }
         z = z + 1;
     }
-    Found::Nothing
+    None
 }
 
 // Test 4: an index that falls or ends wrong.
-pub fn index_fault(b: &[u8], m: Parts) -> Found
+pub fn index_fault(b: &[u8], m: Parts) -> Option<usize>
     ensures { result ≡ index_fault b.now m }
 {
     let p = m.presets;
     let i = m.instruments;
-    or_else(
-        or_else(head_fault(b, p), bag_fault(b, p)),
-        or_else(head_fault(b, i), bag_fault(b, i)),
-    )
+    let first = head_fault(b, p).or(bag_fault(b, p));
+    first.or(head_fault(b, i).or(bag_fault(b, i)))
 }

@@ -3,7 +3,6 @@
 #![tactic(auto)]
 
 ghost use Rattle.std.specs.Prelude.{◌≡◌};
-ghost use Rattle.records.specs.Looking.{or_else};
 ghost use Rattle.bank.specs.Admission.{fault_of, fault_number, admitted};
 
 mod bounds;
@@ -16,7 +15,6 @@ mod rates;
 
 pub use listing::listed_at;
 pub use past::past_memory;
-use records::Found;
 
 // What is wrong with a bank, with the byte place, in the order in which it is tested.
 #[derive(Clone, Copy)]
@@ -43,16 +41,6 @@ pub enum Listed {
     },
 }
 
-// What the first test found, else what the second found.
-fn or_else(a: Found, b: Found) -> Found
-    ensures { result ≡ or_else a b }
-{
-    match a {
-        Found::Nothing => b,
-        Found::At(x) => Found::At(x),
-    }
-}
-
 // Admission: the first fault of the first kind, or none.
 pub fn admission(b: &[u8]) -> Fault
     ensures { result ≡ fault_of b.now }
@@ -60,23 +48,23 @@ pub fn admission(b: &[u8]) -> Fault
     if 65536 < b.len() {
         return Fault::Long(65536);
     }
-    if let Found::At(p) = framing::chunk_fault(b) {
+    if let Some(p) = framing::chunk_fault(b) {
         return Fault::Chunk(p);
     }
-    if let Found::At(p) = framing::records_fault(b) {
+    if let Some(p) = framing::records_fault(b) {
         return Fault::Records(p);
     }
     let m = records::parts_of(b);
-    if let Found::At(p) = indexes::index_fault(b, m) {
+    if let Some(p) = indexes::index_fault(b, m) {
         return Fault::Index(p);
     }
-    if let Found::At(p) = links::number_fault(b, m) {
+    if let Some(p) = links::number_fault(b, m) {
         return Fault::Number(p);
     }
-    if let Found::At(p) = rates::rate_fault(b, m) {
+    if let Some(p) = rates::rate_fault(b, m) {
         return Fault::Rate(p);
     }
-    if let Found::At(p) = bounds::window_fault(b, m) {
+    if let Some(p) = bounds::window_fault(b, m) {
         return Fault::Window(p);
     }
     Fault::Fine

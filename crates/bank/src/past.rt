@@ -11,7 +11,7 @@ ghost use Rattle.bank.specs.Internal.Past.{past_over};
 
 use crate::admitted;
 use arith::less;
-use records::{Found, Parts};
+use records::Parts;
 
 // Whether an end lies past so many samples.
 fn ends_behind(count: usize, end: i64) -> bool
@@ -48,7 +48,7 @@ fn past_over(b: &[u8], m: Parts, ram: usize, rom: usize, global: [i16; 61], z: u
 }
 
 // The first zone of instrument h whose window ends past its memory; where its 53 stands.
-fn past_in(b: &[u8], m: Parts, ram: usize, rom: usize, h: u32) -> Found
+fn past_in(b: &[u8], m: Parts, ram: usize, rom: usize, h: u32) -> Option<usize>
     ensures { result ≡ placed (zone_link_at b.now m.instruments) (first (zone_past b.now m ram rom h) (bag_of b.now m.instruments h) (zone_count b.now m.instruments h)) }
 {
     let i = m.instruments;
@@ -59,15 +59,15 @@ fn past_in(b: &[u8], m: Parts, ram: usize, rom: usize, h: u32) -> Found
     while j < count {
         let z = from + j;
         if past_over(b, m, ram, rom, global, z) {
-            return Found::At(records::link_at(i, records::zone_at(b, i, z)));
+            return Some(records::link_at(i, records::zone_at(b, i, z)));
         }
         j = j + 1;
     }
-    Found::Nothing
+    None
 }
 
 // The same over all instruments, in file order.
-fn past_fault(b: &[u8], m: Parts, ram: usize, rom: usize) -> Found
+fn past_fault(b: &[u8], m: Parts, ram: usize, rom: usize) -> Option<usize>
     ensures { result ≡ past_fault b.now m ram rom }
 {
     let i = m.instruments;
@@ -75,20 +75,20 @@ fn past_fault(b: &[u8], m: Parts, ram: usize, rom: usize) -> Found
     let mut h: u32 = 0;
     while h < heads {
         let found = past_in(b, m, ram, rom, h);
-        if let Found::At(p) = found {
-            return Found::At(p);
+        if let Some(p) = found {
+            return Some(p);
         }
         h = h + 1;
     }
-    Found::Nothing
+    None
 }
 
 // The same of an admitted bank, with memories of so many samples; nothing of another.
-pub fn past_memory(bank: &[u8], ram: usize, rom: usize) -> Found
+pub fn past_memory(bank: &[u8], ram: usize, rom: usize) -> Option<usize>
     ensures { result ≡ past_memory bank.now ram rom }
 {
     if admitted(bank) {
         return past_fault(bank, records::parts_of(bank), ram, rom);
     }
-    Found::Nothing
+    None
 }

@@ -8,7 +8,7 @@ ghost use Rattle.arith.specs.Holds.{between};
 ghost use Rattle.records.specs.Zones.{zone_count};
 
 use arith::less;
-use records::{Found, Parts};
+use records::Parts;
 
 // A rate of 400 to 50,000.
 fn good_rate(rate: u32) -> bool
@@ -21,12 +21,12 @@ fn good_rate(rate: u32) -> bool
 }
 
 // The lower of what was found and k.
-fn lower(f: Found, k: usize) -> Found
+fn lower(f: Option<usize>, k: usize) -> Option<usize>
     ensures { result ≡ lower f k }
 {
     match f {
-        Found::Nothing => Found::At(k),
-        Found::At(x) => { if x < k { Found::At(x) } else { Found::At(k) } }
+        None => Some(k),
+        Some(x) => { if x < k { Some(x) } else { Some(k) } }
     }
 }
 
@@ -42,7 +42,7 @@ fn bad_rated(b: &[u8], m: Parts, z: u32) -> bool
 }
 
 // The lowest sample at fault, zone z looked at too.
-fn with_zone(b: &[u8], m: Parts, z: u32, low: Found) -> Found
+fn with_zone(b: &[u8], m: Parts, z: u32, low: Option<usize>) -> Option<usize>
     ensures { result ≡ with_zone b.now m z low }
 {
     if bad_rated(b, m, z) {
@@ -54,7 +54,7 @@ fn with_zone(b: &[u8], m: Parts, z: u32, low: Found) -> Found
 }
 
 // The same with all zones of instrument h.
-fn with_instrument(b: &[u8], m: Parts, h: u32, low: Found) -> Found
+fn with_instrument(b: &[u8], m: Parts, h: u32, low: Option<usize>) -> Option<usize>
     ensures { result ≡ with_zones b.now m (bag_of b.now m.instruments h) (zone_count b.now m.instruments h) low }
 {
     let i = m.instruments;
@@ -70,12 +70,12 @@ fn with_instrument(b: &[u8], m: Parts, h: u32, low: Found) -> Found
 }
 
 // The lowest sample that has a bad rate and that a sounding zone names: one pass over the zones.
-fn lowest_bad(b: &[u8], m: Parts) -> Found
+fn lowest_bad(b: &[u8], m: Parts) -> Option<usize>
     ensures { result ≡ first (bad_rate b.now m) 0 (m.instruments.nlinks - 1) }
 {
     let i = m.instruments;
     let heads = less(i.nheads, 1);
-    let mut low = Found::Nothing;
+    let mut low = None;
     let mut h: u32 = 0;
     while h < heads {
         low = with_instrument(b, m, h, low);
@@ -85,11 +85,11 @@ fn lowest_bad(b: &[u8], m: Parts) -> Found
 }
 
 // Where that sample's header stands.
-pub fn rate_fault(b: &[u8], m: Parts) -> Found
+pub fn rate_fault(b: &[u8], m: Parts) -> Option<usize>
     ensures { result ≡ rate_fault b.now m }
 {
     match lowest_bad(b, m) {
-        Found::Nothing => Found::Nothing,
-        Found::At(k) => Found::At((m.samples as usize) + 46 * k),
+        None => None,
+        Some(k) => Some((m.samples as usize) + 46 * k),
     }
 }

@@ -1,14 +1,12 @@
 -- What is told of a window past its memory, as numbers.
-use Rattle.std.specs.Prelude.{ℕ}
-use Rattle.records.specs.declared.Found.{Found}
-use Rattle.records.specs.declared.Found.TheVariants.{Nothing, At}
+use Rattle.std.specs.Prelude.{ℕ, Option, None, Some}
 
 -- 8 where one was found, as a note-on that needs it answers
-abbrev pub past_number : Found → ℕ
-past_number Nothing = 0
-past_number (At p) = 8
+abbrev pub past_number : Option ℕ → ℕ
+past_number None = 0
+past_number (Some p) = 8
 
 -- its place, 0 where there is none
-abbrev pub past_place : Found → ℕ
-past_place Nothing = 0
-past_place (At p) = p
+abbrev pub past_place : Option ℕ → ℕ
+past_place None = 0
+past_place (Some p) = p

@@ -1,10 +1,11 @@
 -- The flat twin of a player's state: what C keeps, with no enum and no bool in it.
-use Rattle.std.specs.Prelude.{ℕ, Bool, cond, not, map, eqb}
+use Rattle.std.specs.Prelude.{ℕ, Bool, cond, not, map, eqb, None, Some}
 use Rattle.voice.specs.declared.Stage.{Stage}
 use Rattle.voice.specs.declared.Stage.TheVariants as at
 use Rattle.voice.specs.declared.Voice.{Voice}
 use Rattle.state.specs.declared.Engine.{Engine}
 use Rattle.player.specs.declared.Player.{Player}
+use Rattle.player.specs.Cues.{song_over, coming_event}
 use Rattle.cabinet.specs.declared.FlatStage.{FlatStage}
 use Rattle.cabinet.specs.declared.FlatVoice.{FlatVoice}
 use Rattle.cabinet.specs.declared.FlatEngine.{FlatEngine}
@@ -126,15 +127,14 @@ engine_to e =
       clock = e.clock;
     }
 
--- a player from its twin
+-- a player from its twin: no event is left where its flag says so, whatever stands in the event's place
 unfoldable pub player_of : FlatPlayer → Player
 player_of p =
     record {
       engine = engine_of p.engine;
       cursor = p.cursor;
-      event = p.event;
+      event = cond (flag_of p.ended) None (Some p.event);
       began = p.began;
-      ended = flag_of p.ended;
     }
 
 -- a player's twin
@@ -143,7 +143,7 @@ player_to p =
     record {
       engine = engine_to p.engine;
       cursor = p.cursor;
-      event = p.event;
+      event = coming_event p;
       began = p.began;
-      ended = flag_to p.ended;
+      ended = flag_to (song_over p);
     }

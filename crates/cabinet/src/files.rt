@@ -5,6 +5,7 @@ ghost use Rattle.bank.specs.Listing.{listed};
 ghost use Rattle.merge.specs.Merging.{merged_of, room_of, answer_of, written_into};
 ghost use Rattle.riff.specs.Form.{find_of};
 ghost use Rattle.smf.specs.Songs.{test_of};
+ghost use Rattle.wave.specs.Answers.{told_number};
 ghost use Rattle.wave.specs.Headings.{heading_number, headed};
 ghost use Rattle.wave.specs.Pours.{pour_number, poured_into};
 ghost use Rattle.wave.specs.Playback.{heard_of, replayed};
@@ -12,6 +13,7 @@ ghost use Rattle.cabinet.specs.Files.{fault_kind, fault_place, row_kind, row_pro
 
 use bank::{Fault, Listed};
 use riff::Font;
+use wave::Refusal;
 
 // A row of the listing as numbers.
 #[derive(Clone, Copy)]
@@ -22,18 +24,11 @@ struct Row {
     next: usize,
 }
 
-// A number of a document, widened.
-pub fn number(n: u8) -> u32
-    ensures { result ≡ n }
-{
-    n as u32
-}
-
 // 0 where the bank is admitted, else 1.
 pub fn thularek_admit(bank: &[u8]) -> u32
     ensures { result ≡ fault_number (fault_of bank.now) }
 {
-    number(engine::admit(bank))
+    u32::from(engine::admit(bank))
 }
 
 // A fault's kind as a number.
@@ -137,7 +132,7 @@ pub fn thularek_font(
 {
     let (font, fault_at, answer) = match riff::find(file) {
         Ok(font) => (font, 0, 0),
-        Err(fault) => (Font::default(), fault.place, number(fault.kind.number())),
+        Err(fault) => (Font::default(), fault.place, u32::from(fault.kind.number())),
     };
     *bank = font.bank.at;
     *bank_size = font.bank.size;
@@ -153,7 +148,7 @@ pub fn thularek_song_test(song: &[u8], place: &mut u32) -> u32
 {
     let t = smf::test(song);
     *place = t.place;
-    number(t.number)
+    u32::from(t.number)
 }
 
 // A song of several tracks as one of one track: its number (0: written), how many bytes were written, and the place of its first fault.
@@ -163,28 +158,45 @@ pub fn thularek_merge(file: &[u8], out: &mut [u8], size: &mut usize, place: &mut
     let m = merge::merge(file, out);
     *size = m.size;
     *place = m.place;
-    number(m.number)
+    u32::from(m.number)
+}
+
+// 0 where a wave is written, else the number of the refusal.
+fn done_or_refused(answer: Result<(), Refusal>) -> u32
+    ensures { result ≡ told_number answer }
+{
+    match answer {
+        Ok(()) => 0,
+        Err(refusal) => u32::from(refusal.number()),
+    }
 }
 
 // The 44 bytes in front of so many frames.
 pub fn thularek_wave_heading(frames: u64, out: &mut [u8]) -> u32
     ensures { (result ≡ heading_number frames (length out.old)) × (out.new ≡ headed frames out.old) }
 {
-    number(wave::heading(frames, out))
+    done_or_refused(wave::heading(frames, out))
 }
 
 // Output numbers as bytes, two for each.
 pub fn thularek_wave_pour(numbers: &[f32], out: &mut [u8]) -> u32
     ensures { (result ≡ pour_number numbers.now (length out.old)) × (out.new ≡ poured_into numbers.now out.old) }
 {
-    number(wave::pour(numbers, out))
+    done_or_refused(wave::pour(numbers, out))
 }
 
 // The frames of a file that these made, and its numbers.
 pub fn thularek_wave_read(file: &[u8], out: &mut [i16], frames: &mut u32) -> u32
     ensures { (result ≡ (heard_of file.now (length out.old)).number) × (frames.new ≡ (heard_of file.now (length out.old)).frames) × (out.new ≡ replayed file.now out.old) }
 {
-    let h = wave::read(file, out);
-    *frames = h.frames;
-    number(h.number)
+    match wave::read(file, out) {
+        Ok(heard) => {
+            *frames = heard;
+            0
+        }
+        Err(refusal) => {
+            *frames = 0;
+            u32::from(refusal.number())
+        }
+    }
 }

@@ -3,8 +3,7 @@ ghost use Rattle.std.specs.Prelude.{◌≡◌};
 ghost use Rattle.state.specs.Answers.{answered};
 ghost use Rattle.cabinet.specs.Keeping.{player_in, kept, kept_answer, kept_start, kept_play};
 
-use crate::Flat;
-use crate::twins::{player_of, player_to};
+use crate::{Flat, FlatPlayer};
 use engine::{Engine, Refusal, status_of};
 use player::{Answer, Begun, Player};
 
@@ -12,8 +11,7 @@ use player::{Answer, Begun, Player};
 pub fn player_in(s: Flat) -> Player
     ensures { result ≡ player_in s }
 {
-    let p = s.player;
-    player_of(p)
+    Player::from(s.player)
 }
 
 // C's memory, from the four numbers of an answer and a player.
@@ -21,11 +19,11 @@ pub fn keep(number: u8, count: u32, refused: u32, place: u32, p: Player) -> Flat
     ensures { result ≡ kept number count refused place p }
 {
     Flat {
-        number: number as u32,
+        number: u32::from(number),
         count,
         refused,
         place,
-        player: player_to(p),
+        player: FlatPlayer::from(p),
     }
 }
 
@@ -41,14 +39,12 @@ pub fn keep_answer(a: Result<u32, Refusal>, e: Engine, s: Flat) -> Flat
 pub fn keep_start(b: Begun) -> Flat
     ensures { result ≡ kept_start b }
 {
-    let p = b.player;
-    keep(b.number, 0, 0, b.place, p)
+    keep(b.number, 0, 0, b.place, b.player)
 }
 
 // After a render of a song.
 pub fn keep_play(a: Answer) -> Flat
     ensures { result ≡ kept_play a }
 {
-    let p = a.player;
-    keep(a.number, a.applied, a.refused, 0, p)
+    keep(a.number, a.applied, a.refused, 0, a.player)
 }

@@ -6,18 +6,7 @@ ghost use Rattle.wave.specs.Lowering.{attenuation_for, sums_into, sums_poured};
 ghost use Rattle.cabinet.specs.Keeping.{engine_in, kept_answer};
 
 use crate::Flat;
-use crate::files::number;
 use crate::keeping::{keep_answer, player_in};
-
-// The engine's sums, and what C keeps of the call.
-fn sums<'a>(s: Flat, ram: &'a [i16], rom: &'a [i16], out: &mut [i32], to: u32) -> Flat
-    ensures { (result ≡ kept_answer (render to ram.now rom.now (length out.old) (engine_in s)) s) × (out.new ≡ summed to ram.now rom.now out.old (engine_in s)) }
-{
-    let p = player_in(s);
-    let mut e = p.engine;
-    let a = engine::sums(&mut e, ram, rom, out, to);
-    keep_answer(a, e, s)
-}
 
 // Frames up to a clock value, with no song, as the sums of their voices.
 pub fn thularek_sums<'a>(
@@ -29,7 +18,9 @@ pub fn thularek_sums<'a>(
 ) -> u32
     ensures { (state.new ≡ kept_answer (render to ram.now rom.now (length out.old) (engine_in state.old)) state.old) × (result ≡ (render to ram.now rom.now (length out.old) (engine_in state.old)).status) × (out.new ≡ summed to ram.now rom.now out.old (engine_in state.old)) }
 {
-    *state = sums(*state, ram, rom, out, to);
+    let mut e = player_in(*state).engine;
+    let a = engine::sums(&mut e, ram, rom, out, to);
+    *state = keep_answer(a, e, *state);
     state.number
 }
 
@@ -43,15 +34,23 @@ pub fn thularek_wave_sums(
 ) -> u32
     ensures { (result ≡ (sums_poured attenuation sums.now (length out.old)).number) × (held.new ≡ (sums_poured attenuation sums.now (length out.old)).held) × (loudest.new ≡ (sums_poured attenuation sums.now (length out.old)).loudest) × (out.new ≡ sums_into attenuation sums.now out.old) }
 {
-    let p = wave::pour_sums(sums, attenuation, out);
-    *held = p.held;
-    *loudest = p.loudest;
-    number(p.number)
+    match wave::pour_sums(sums, attenuation, out) {
+        Ok(poured) => {
+            *held = poured.held;
+            *loudest = poured.loudest;
+            0
+        }
+        Err(refusal) => {
+            *held = 0;
+            *loudest = 0;
+            u32::from(refusal.number())
+        }
+    }
 }
 
 // The least attenuation with which no sum of at most this size is held.
 pub fn thularek_attenuation_for(loudest: u32) -> u32
     ensures { result ≡ attenuation_for loudest }
 {
-    wave::attenuation_for(loudest) as u32
+    u32::from(wave::attenuation_for(loudest))
 }

@@ -7,16 +7,6 @@ ghost use Rattle.cabinet.specs.Keeping.{player_in, engine_in, kept_answer, kept_
 use crate::Flat;
 use crate::keeping::{keep_answer, keep_play, player_in};
 
-// The engine's render, and what C keeps of it.
-fn render<'a>(s: Flat, ram: &'a [i16], rom: &'a [i16], out: &mut [f32], to: u32) -> Flat
-    ensures { (result ≡ kept_answer (render to ram.now rom.now (length out.old) (engine_in s)) s) × (out.new ≡ rendered to ram.now rom.now out.old (engine_in s)) }
-{
-    let p = player_in(s);
-    let mut e = p.engine;
-    let a = engine::render(&mut e, ram, rom, out, to);
-    keep_answer(a, e, s)
-}
-
 // Frames up to a clock value, with no song.
 pub fn thularek_render<'a>(
     state: &mut Flat,
@@ -27,25 +17,10 @@ pub fn thularek_render<'a>(
 ) -> u32
     ensures { (state.new ≡ kept_answer (render to ram.now rom.now (length out.old) (engine_in state.old)) state.old) × (result ≡ (render to ram.now rom.now (length out.old) (engine_in state.old)).status) × (out.new ≡ rendered to ram.now rom.now out.old (engine_in state.old)) }
 {
-    *state = render(*state, ram, rom, out, to);
+    let mut e = player_in(*state).engine;
+    let a = engine::render(&mut e, ram, rom, out, to);
+    *state = keep_answer(a, e, *state);
     state.number
-}
-
-// The player's render.
-fn song_render<'a>(
-    s: Flat,
-    song: &[u8],
-    bank: &[u8],
-    ram: &'a [i16],
-    rom: &'a [i16],
-    out: &mut [f32],
-    to: u32,
-) -> Flat
-    ensures { (result ≡ kept_play (answered song.now bank.now ram.now rom.now to (length out.old) (player_in s))) × (out.new ≡ sounded_into song.now bank.now ram.now rom.now to out.old (player_in s)) }
-{
-    let p = player_in(s);
-    let a = player::render(p, song, bank, ram, rom, out, to);
-    keep_play(a)
 }
 
 // Frames up to a clock value, with each event of the song before its frame.
@@ -60,6 +35,8 @@ pub fn thularek_song_render<'a>(
 ) -> u32
     ensures { (state.new ≡ kept_play (answered song.now bank.now ram.now rom.now to (length out.old) (player_in state.old))) × (result ≡ (answered song.now bank.now ram.now rom.now to (length out.old) (player_in state.old)).number) × (out.new ≡ sounded_into song.now bank.now ram.now rom.now to out.old (player_in state.old)) }
 {
-    *state = song_render(*state, song, bank, ram, rom, out, to);
+    let p = player_in(*state);
+    let a = player::render(p, song, bank, ram, rom, out, to);
+    *state = keep_play(a);
     state.number
 }

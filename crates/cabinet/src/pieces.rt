@@ -7,49 +7,26 @@ ghost use Rattle.cabinet.specs.Keeping.{player_in, kept, kept_start};
 use crate::Flat;
 use crate::keeping::{keep, keep_start, player_in};
 
-// What C keeps at the beginning.
-fn begin() -> Flat
-    ensures { result ≡ kept 0 0 0 0 idle }
-{
-    keep(0, 0, 0, 0, player::fresh())
-}
-
 // A fresh engine, and no song. Whatever stood in C's memory is gone.
 pub fn thularek_init(state: &mut Flat) -> u32
     ensures { (state.new ≡ kept 0 0 0 0 idle) × (result ≡ 0) }
 {
-    *state = begin();
+    *state = keep(0, 0, 0, 0, player::fresh());
     state.number
-}
-
-// The player's start, and what C keeps of it.
-fn song_start(s: Flat, song: &[u8]) -> Flat
-    ensures { result ≡ kept_start (started song.now (player_in s)) }
-{
-    let p = player_in(s);
-    keep_start(player::start(p, song))
 }
 
 // A song starts at the clock's value. A refused file changes nothing of the player.
 pub fn thularek_song_start(state: &mut Flat, song: &[u8]) -> u32
     ensures { (state.new ≡ kept_start (started song.now (player_in state.old))) × (result ≡ (started song.now (player_in state.old)).number) }
 {
-    *state = song_start(*state, song);
+    *state = keep_start(player::start(player_in(*state), song));
     state.number
-}
-
-// The player's stop.
-fn song_stop(s: Flat) -> Flat
-    ensures { result ≡ kept 0 0 0 0 (stopped (player_in s)) }
-{
-    let p = player_in(s);
-    keep(0, 0, 0, 0, player::stop(p))
 }
 
 // The song stops.
 pub fn thularek_song_stop(state: &mut Flat) -> u32
     ensures { (state.new ≡ kept 0 0 0 0 (stopped (player_in state.old))) × (result ≡ 0) }
 {
-    *state = song_stop(*state);
+    *state = keep(0, 0, 0, 0, player::stop(player_in(*state)));
     state.number
 }

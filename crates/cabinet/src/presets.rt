@@ -4,8 +4,15 @@ ghost use Rattle.bank.specs.Past.{past_memory};
 ghost use Rattle.layers.specs.Spans.{sheet_of};
 ghost use Rattle.cabinet.specs.Presets.{past_number, past_place};
 
-use crate::files::number;
-use records::Found;
+use layers::{NoSheet, Sheet};
+
+// What is written where nothing is told.
+const BLANK: Sheet = Sheet {
+    name: 0,
+    zones: 0,
+    low: 0,
+    high: 0,
+};
 
 // A preset's sheet: 0 and where its name begins, its zones, its lowest and its highest key; 1 where the bank is not admitted; 2 at the end.
 pub fn thularek_preset(
@@ -18,31 +25,35 @@ pub fn thularek_preset(
 ) -> u32
     ensures { (result ≡ (sheet_of bytes.now place).kind) × (name.new ≡ (sheet_of bytes.now place).name) × (zones.new ≡ (sheet_of bytes.now place).zones) × (low.new ≡ (sheet_of bytes.now place).low) × (high.new ≡ (sheet_of bytes.now place).high) }
 {
-    let s = layers::preset_sheet(bytes, place);
+    let (kind, s) = match layers::preset_sheet(bytes, place) {
+        Ok(s) => (0, s),
+        Err(NoSheet::NotAdmitted) => (1, BLANK),
+        Err(NoSheet::AtEnd) => (2, BLANK),
+    };
     *name = s.name as usize;
     *zones = s.zones;
     *low = s.low;
     *high = s.high;
-    number(s.kind)
+    kind
 }
 
 // 8 where a window past its memory was found, as a note-on answers; else 0.
-fn past_number(f: Found) -> u32
+fn past_number(f: Option<usize>) -> u32
     ensures { result ≡ past_number f }
 {
     match f {
-        Found::Nothing => 0,
-        Found::At(_) => 8,
+        None => 0,
+        Some(_) => 8,
     }
 }
 
 // Its place.
-fn past_place(f: Found) -> usize
+fn past_place(f: Option<usize>) -> usize
     ensures { result ≡ past_place f }
 {
     match f {
-        Found::Nothing => 0,
-        Found::At(p) => p,
+        None => 0,
+        Some(p) => p,
     }
 }
 

@@ -2,132 +2,70 @@
 ghost use Rattle.std.specs.Prelude.{◌≡◌};
 ghost use Rattle.state.specs.Board.{ask, voice_count};
 ghost use Rattle.player.specs.Asking.{is_silent, held_count};
+ghost use Rattle.player.specs.Cues.{song_over};
 ghost use Rattle.cabinet.specs.Twins.{flag_to};
 ghost use Rattle.cabinet.specs.Keeping.{player_in, engine_in};
 ghost use Rattle.cabinet.specs.Questions.{lamp_stage, lamp_level};
 
 use crate::Flat;
 use crate::keeping::player_in;
-use crate::twins::flag_to;
 use voice::Shown;
-
-// The count that the last call left.
-fn count_in(s: Flat) -> u32
-    ensures { result ≡ s.count }
-{
-    s.count
-}
 
 // The last call's count: the voices that a message started, let off or changed, or the events that a song's render or step applied.
 pub fn thularek_count(state: &Flat) -> u32
     ensures { result ≡ state.now.count }
 {
-    count_in(*state)
-}
-
-// The refused events that it left.
-fn refused_in(s: Flat) -> u32
-    ensures { result ≡ s.refused }
-{
-    s.refused
+    state.count
 }
 
 // The refused events among those that the last render of a song, or a step, applied.
 pub fn thularek_refused(state: &Flat) -> u32
     ensures { result ≡ state.now.refused }
 {
-    refused_in(*state)
-}
-
-// The place that it left.
-fn place_in(s: Flat) -> u32
-    ensures { result ≡ s.place }
-{
-    s.place
+    state.refused
 }
 
 // The place of the first fault of a song that the last call refused to start.
 pub fn thularek_place(state: &Flat) -> u32
     ensures { result ≡ state.now.place }
 {
-    place_in(*state)
-}
-
-// The clock of the engine.
-fn clock_in(s: Flat) -> u32
-    ensures { result ≡ (engine_in s).clock }
-{
-    let p = s.player;
-    let e = p.engine;
-    e.clock
+    state.place
 }
 
 // The clock: the frame that the next render begins with.
+#[tactic(auto, unfolding(crate::specs::Twins::player_of, crate::specs::Twins::engine_of))]
 pub fn thularek_clock(state: &Flat) -> u32
     ensures { result ≡ (engine_in state.now).clock }
 {
-    clock_in(*state)
-}
-
-// The player's answer as a number.
-fn song_is_over(s: Flat) -> u32
-    ensures { result ≡ flag_to (player_in s).ended }
-{
-    let p = player_in(s);
-    flag_to(player::is_over(p)) as u32
+    state.player.engine.clock
 }
 
 // 1 where no event of the song is left.
 pub fn thularek_song_is_over(state: &Flat) -> u32
-    ensures { result ≡ flag_to (player_in state.now).ended }
+    ensures { result ≡ flag_to (song_over (player_in state.now)) }
 {
-    song_is_over(*state)
-}
-
-// The player's answer as a number.
-fn is_silent(s: Flat) -> u32
-    ensures { result ≡ flag_to (is_silent (player_in s)) }
-{
-    let p = player_in(s);
-    flag_to(player::is_silent(p)) as u32
+    u32::from(player::is_over(player_in(*state)))
 }
 
 // 1 where no voice sounds.
 pub fn thularek_is_silent(state: &Flat) -> u32
     ensures { result ≡ flag_to (is_silent (player_in state.now)) }
 {
-    is_silent(*state)
-}
-
-// The engine's count.
-fn voice_count(s: Flat) -> u32
-    ensures { result ≡ voice_count (engine_in s) }
-{
-    let p = player_in(s);
-    let e = p.engine;
-    engine::voice_count(e)
+    u32::from(player::is_silent(player_in(*state)))
 }
 
 // How many voices sound.
 pub fn thularek_voice_count(state: &Flat) -> u32
     ensures { result ≡ voice_count (engine_in state.now) }
 {
-    voice_count(*state)
-}
-
-// The player's count.
-fn held_count(s: Flat) -> u32
-    ensures { result ≡ held_count (player_in s) }
-{
-    let p = player_in(s);
-    player::held_count(p)
+    engine::voice_count(player_in(*state).engine)
 }
 
 // How many voices are held.
 pub fn thularek_held_count(state: &Flat) -> u32
     ensures { result ≡ held_count (player_in state.now) }
 {
-    held_count(*state)
+    player::held_count(player_in(*state))
 }
 
 // What the panel is told, as a number.
@@ -146,20 +84,11 @@ fn lamp_stage(x: Shown) -> u32
     }
 }
 
-// What the panel is told of a slot: the stage.
-fn panel_stage(s: Flat, slot: u8) -> u32
-    ensures { result ≡ lamp_stage (ask slot (engine_in s)) }
-{
-    let p = player_in(s);
-    let e = p.engine;
-    lamp_stage(engine::panel(e, slot))
-}
-
 // The stage of a slot's voice; 6 where the slot is free, 7 past the last slot.
 pub fn thularek_panel_stage(state: &Flat, slot: u8) -> u32
     ensures { result ≡ lamp_stage (ask slot (engine_in state.now)) }
 {
-    panel_stage(*state, slot)
+    lamp_stage(engine::panel(player_in(*state).engine, slot))
 }
 
 // Its level; 0 where the stage has none.
@@ -178,18 +107,9 @@ fn lamp_level(x: Shown) -> f32
     }
 }
 
-// .. and the level.
-fn panel_level(s: Flat, slot: u8) -> f32
-    ensures { result ≡ lamp_level (ask slot (engine_in s)) }
-{
-    let p = player_in(s);
-    let e = p.engine;
-    lamp_level(engine::panel(e, slot))
-}
-
 // The level of a slot's voice, 0 to 1.
 pub fn thularek_panel_level(state: &Flat, slot: u8) -> f32
     ensures { result ≡ lamp_level (ask slot (engine_in state.now)) }
 {
-    panel_level(*state, slot)
+    lamp_level(engine::panel(player_in(*state).engine, slot))
 }

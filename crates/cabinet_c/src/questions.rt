@@ -2,6 +2,7 @@
 ghost use Rattle.std.specs.Prelude.{◌≡◌};
 ghost use Rattle.state.specs.Board.{ask, voice_count};
 ghost use Rattle.player.specs.Asking.{is_silent, held_count};
+ghost use Rattle.player.specs.Cues.{song_over};
 ghost use Rattle.cabinet.specs.Twins.{flag_to};
 ghost use Rattle.cabinet.specs.Keeping.{player_in, engine_in};
 ghost use Rattle.cabinet.specs.Questions.{lamp_stage, lamp_level};
@@ -43,7 +44,7 @@ pub extern "C" fn thularek_clock(state: &Flat) -> u32
 // 1 where no event of the song is left.
 #[unsafe(no_mangle)]
 pub extern "C" fn thularek_song_is_over(state: &Flat) -> u32
-    ensures { result ≡ flag_to (player_in state.now).ended }
+    ensures { result ≡ flag_to (song_over (player_in state.now)) }
 {
     cabinet::thularek_song_is_over(state)
 }

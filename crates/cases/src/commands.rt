@@ -1,12 +1,11 @@
 // The commands of a case: a letter, and the bytes behind it as the numbers that they are.
 ghost use Rattle.std.specs.Prelude.{◌≤◌};
 
-use crate::input::{Place, next_byte, next_bytes};
+use crate::input::{Bad, Input};
 
 // A command. What its letter does not have is 0, and the bytes of a bank, a song, a memory or a name are still to be read.
 #[derive(Clone, Copy)]
 pub struct Command {
-    // 0, which nobody knows, where the command is cut off
     pub letter: u8,
     // the bytes in order
     pub one: u8,
@@ -18,9 +17,6 @@ pub struct Command {
     // four bytes and the next four, each as one number
     pub first: u32,
     pub second: u32,
-    pub place: Place,
-    // no letter is left
-    pub over: bool,
 }
 
 // How many bytes stand behind a letter before those of a bank, a song, a memory or a name.
@@ -37,24 +33,8 @@ fn bytes_behind(letter: u8) -> usize
     }
 }
 
-// No letter is left.
-fn end(place: Place) -> Command {
-    Command {
-        letter: 0,
-        one: 0,
-        two: 0,
-        three: 0,
-        four: 0,
-        bend: 0,
-        first: 0,
-        second: 0,
-        place,
-        over: true,
-    }
-}
-
 // The command that a letter and eight bytes make.
-fn of_bytes(letter: u8, bytes: &[u8; 8], place: Place) -> Command {
+fn of_bytes(letter: u8, bytes: &[u8; 8]) -> Command {
     Command {
         letter,
         one: bytes[0],
@@ -64,24 +44,17 @@ fn of_bytes(letter: u8, bytes: &[u8; 8], place: Place) -> Command {
         bend: arith::u16_at(bytes, 1),
         first: arith::u32_at(bytes, 0),
         second: arith::u32_at(bytes, 4),
-        place,
-        over: false,
     }
 }
 
-// The next command.
-pub fn next_command(room: &mut [u8], from: Place) -> Command {
-    let b = next_byte(room, from);
-    let letter = b.value;
-    let begun = b.place;
-    if begun.cut {
-        return end(begun);
+impl Input<'_> {
+    // The next command, where a letter is left. One that is cut off is bad.
+    pub fn command(&mut self) -> Result<Option<Command>, Bad> {
+        let Some(letter) = self.byte() else {
+            return Ok(None);
+        };
+        let mut bytes = [0u8; 8];
+        self.fill(&mut bytes[..bytes_behind(letter)])?;
+        Ok(Some(of_bytes(letter, &bytes)))
     }
-    let mut bytes = [0u8; 8];
-    let n = bytes_behind(letter);
-    let place = next_bytes(room, begun, &mut bytes[..n]);
-    if place.cut {
-        return of_bytes(0, &bytes, place);
-    }
-    of_bytes(letter, &bytes, place)
 }

@@ -1,9 +1,7 @@
 // The FNV-1a hash of 64 bits over bytes, over the bits of binary32 numbers and over those of samples.
-ghost use Rattle.std.specs.Prelude.{◌≡◌};
+ghost use Rattle.std.specs.Prelude.{◌≡◌, ℕ, List, refl};
 ghost use Rattle.arith.specs.Floors.{mod_z};
-ghost use Rattle.cases.specs.Internal.Hash.{bits_of, hash_all, hash_bits, hash_byte, hash_bytes, hash_sample, hash_samples, times as Hash·times};
-
-use crate::writing::magnitude;
+ghost use Rattle.cases.specs.Internal.Hash.{bits_of, hash_all, hash_bits, hash_byte, hash_bytes, hash_each, hash_number, hash_sample, hash_samples, times as Hash·times};
 
 // A number's 32 bits, the quiet pattern for a NaN.
 pub fn bits_of(x: f32) -> u32
@@ -33,52 +31,18 @@ fn hash_byte(h: u64, b: u64) -> u64
 fn hash_bits(h: u64, n: u32) -> u64
     ensures { result ≡ hash_bits h n }
 {
-    let w = n as u64;
+    let w = u64::from(n);
     let h1 = hash_byte(h, w % 256);
     let h2 = hash_byte(h1, w / 256 % 256);
     let h3 = hash_byte(h2, w / 65536 % 256);
     hash_byte(h3, w / 16777216)
 }
 
-// The hash over all of the numbers.
-pub fn fnv(numbers: &[f32]) -> u64
-    ensures { result ≡ hash_all 14695981039346656037 numbers.now }
-{
-    let mut h: u64 = 14695981039346656037;
-    let mut i = 0;
-    while i < numbers.len() {
-        h = hash_bits(h, bits_of(numbers[i]));
-        i += 1;
-    }
-    h
-}
-
-// A byte, widened to be hashed.
-fn wide(b: u8) -> u64
-    ensures { result ≡ b }
-{
-    b as u64
-}
-
-// The hash over all of the bytes.
-pub fn fnv_bytes(bytes: &[u8]) -> u64
-    ensures { result ≡ hash_bytes 14695981039346656037 bytes.now }
-{
-    let mut h: u64 = 14695981039346656037;
-    let mut i = 0;
-    while i < bytes.len() {
-        h = hash_byte(h, wide(bytes[i]));
-        i += 1;
-    }
-    h
-}
-
 // A sample's 16 bits, in two's complement.
 fn sample_bits(s: i16) -> u64
     ensures { result ≡ mod_z s 65536 }
 {
-    let size = magnitude(s as i32);
-    if s < 0 { 65536 - size } else { size }
+    u64::from(s.cast_unsigned())
 }
 
 // The two bytes of a sample, the low one first.
@@ -90,15 +54,64 @@ fn hash_sample(h: u64, s: i16) -> u64
     hash_byte(low, n / 256)
 }
 
-// The hash over all of the samples.
-pub fn fnv_samples(samples: &[i16]) -> u64
-    ensures { result ≡ hash_samples 14695981039346656037 samples.now }
+// What can be hashed.
+pub trait Hashed: Copy {
+    // the hash after one more
+    ghost after: { ℕ → Self → ℕ };
+
+    // the hash after all of a list more
+    ghost after_all: { ℕ → List Self → ℕ };
+
+    fn into_hash(self, h: u64) -> u64
+        ensures { result ≡ after h self };
+
+    // one after the other
+    ghost in_order: { (h : ℕ) (xs : List Self) → after_all h xs ≡ hash_each after h xs };
+}
+
+impl Hashed for f32 {
+    ghost after = { hash_number };
+
+    ghost after_all = { hash_all };
+
+    ghost in_order = { λ h xs. refl };
+
+    fn into_hash(self, h: u64) -> u64 {
+        hash_bits(h, bits_of(self))
+    }
+}
+
+impl Hashed for u8 {
+    ghost after = { hash_byte };
+
+    ghost after_all = { hash_bytes };
+
+    ghost in_order = { λ h xs. refl };
+
+    fn into_hash(self, h: u64) -> u64 {
+        hash_byte(h, u64::from(self))
+    }
+}
+
+impl Hashed for i16 {
+    ghost after = { hash_sample };
+
+    ghost after_all = { hash_samples };
+
+    ghost in_order = { λ h xs. refl };
+
+    fn into_hash(self, h: u64) -> u64 {
+        hash_sample(h, self)
+    }
+}
+
+// The hash over all of the numbers, the bytes or the samples.
+pub fn fnv<T: Hashed>(items: &[T]) -> u64
+    ensures { result ≡ T.after_all 14695981039346656037 items.now }
 {
     let mut h: u64 = 14695981039346656037;
-    let mut i = 0;
-    while i < samples.len() {
-        h = hash_sample(h, samples[i]);
-        i += 1;
+    for x in items {
+        h = x.into_hash(h);
     }
     h
 }

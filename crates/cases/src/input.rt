@@ -4,166 +4,162 @@ ghost use Rattle.std.specs.Prelude.{◌≡◌, ◌+◌, ◌*◌, true, false};
 // The descriptor of standard input.
 const STDIN: i32 = 0;
 
-// The part of the room that is still to be read, and whether a read came up short. Once cut, always cut: a program tests it when it has read all that it wants.
+// A command that is unknown, cut off, or names more than there is room for. Behind it nothing is read.
 #[derive(Clone, Copy)]
-pub struct Place {
-    pub at: usize,
-    pub end: usize,
-    pub cut: bool,
+pub struct Bad;
+
+// Standard input: a room, and the part of it that is still to be read.
+#[derive(Drop)]
+pub struct Input<'a> {
+    room: &'a mut [u8],
+    at: usize,
+    end: usize,
+    // a read came up short, or a command was bad: nothing more is read
+    cut: bool,
     // nothing comes behind what stands in the room
-    pub last: bool,
+    last: bool,
 }
 
-// What was read, 0 where the input is cut off, and where to go on.
-#[derive(Clone, Copy)]
-pub struct Byte {
-    pub value: u8,
-    pub place: Place,
-}
+impl<'a> Input<'a> {
+    // Nothing is read yet.
+    pub fn start(room: &'a mut [u8]) -> Input<'a>
+        ensures { (result.at ≡ 0) × (result.end ≡ 0) × (result.cut ≡ false) × (result.last ≡ false) }
+    {
+        Input {
+            room,
+            at: 0,
+            end: 0,
+            cut: false,
+            last: false,
+        }
+    }
 
-// A number of two bytes, and the place behind it.
-#[derive(Clone, Copy)]
-pub struct Short {
-    pub value: u16,
-    pub place: Place,
-}
+    // The input is n bytes that stand in the room already.
+    pub fn whole(room: &'a mut [u8], n: usize) -> Input<'a>
+        ensures { (result.at ≡ 0) × (result.end ≡ n) × (result.cut ≡ false) × (result.last ≡ true) }
+    {
+        Input {
+            room,
+            at: 0,
+            end: n,
+            cut: false,
+            last: true,
+        }
+    }
 
-// A number of four bytes, and the place behind it.
-#[derive(Clone, Copy)]
-pub struct Long {
-    pub value: u32,
-    pub place: Place,
-}
+    // Nothing more is read. The input ends here, or a command is bad.
+    pub fn spoil(&mut self)
+        ensures { (self.new.at ≡ self.old.at) × (self.new.end ≡ self.old.end) × (self.new.cut ≡ true) × (self.new.last ≡ self.old.last) }
+    {
+        self.cut = true;
+    }
 
-// Nothing is read yet.
-pub fn start() -> Place
-    ensures { (result.at ≡ 0) × (result.end ≡ 0) × (result.cut ≡ false) × (result.last ≡ false) }
-{
-    Place {
-        at: 0,
-        end: 0,
-        cut: false,
-        last: false,
+    // How many bytes of the room are read.
+    pub fn place(&self) -> usize
+        ensures { result ≡ self.now.at }
+    {
+        self.at
+    }
+
+    // Whether no byte is left. The room is filled again where all of it is read. A read that fails counts as the end of the input.
+    pub fn is_over(&mut self) -> bool {
+        if self.cut || self.at < self.end {
+            return self.cut;
+        }
+        if self.last {
+            self.spoil();
+            return true;
+        }
+        self.at = 0;
+        self.end = io::read_full(STDIN, self.room);
+        self.cut = self.end == 0;
+        self.cut
+    }
+
+    // The next byte, where one is left.
+    pub fn byte(&mut self) -> Option<u8> {
+        if self.is_over() || self.room.len() <= self.at {
+            self.spoil();
+            return None;
+        }
+        let b = self.room[self.at];
+        self.at += 1;
+        Some(b)
+    }
+
+    // The next item, of one byte or of several.
+    pub fn next<T: Item>(&mut self) -> Result<T, Bad> {
+        T::of(self)
+    }
+
+    // As many items as are lent.
+    pub fn fill<T: Item>(&mut self, into: &mut [T]) -> Result<(), Bad> {
+        for x in into {
+            *x = T::of(self)?;
+        }
+        Ok(())
     }
 }
 
-// The input is n bytes that stand in the room already.
-pub fn whole(n: usize) -> Place
-    ensures { (result.at ≡ 0) × (result.end ≡ n) × (result.cut ≡ false) × (result.last ≡ true) }
-{
-    Place {
-        at: 0,
-        end: n,
-        cut: false,
-        last: true,
+// What stands in the input, of one byte or of several, the low one first.
+pub trait Item: Copy {
+    fn of(input: &mut Input) -> Result<Self, Bad>;
+}
+
+impl Item for u8 {
+    fn of(input: &mut Input) -> Result<u8, Bad> {
+        input.byte().ok_or(Bad)
     }
 }
 
-// The same place, marked: nothing more is read. The input ends here, or a command is bad: unknown, or one that names more than there is room for.
-pub fn spoilt(place: Place) -> Place
-    ensures { (result.at ≡ place.at) × (result.end ≡ place.end) × (result.cut ≡ true) × (result.last ≡ place.last) }
-{
-    let mut next = place;
-    next.cut = true;
-    next
-}
-
-// The room is filled again where all of it is read; the place is cut where no byte is left. A read that fails counts as the end of the input.
-pub fn filled(room: &mut [u8], from: Place) -> Place {
-    if from.cut || from.at < from.end {
-        return from;
-    }
-    if from.last {
-        return spoilt(from);
-    }
-    let n = io::read_full(STDIN, room);
-    Place {
-        at: 0,
-        end: n,
-        cut: n == 0,
-        last: false,
+impl Item for u16 {
+    fn of(input: &mut Input) -> Result<u16, Bad> {
+        let low = u8::of(input)?;
+        let high = u8::of(input)?;
+        Ok(two(low, high))
     }
 }
 
-// The next byte.
-pub fn next_byte(room: &mut [u8], from: Place) -> Byte {
-    let p = filled(room, from);
-    let at = p.at;
-    if at < p.end && at < room.len() {
-        let mut next = p;
-        next.at = at + 1;
-        return Byte {
-            value: room[at],
-            place: next,
-        };
-    }
-    Byte {
-        value: 0,
-        place: spoilt(p),
+impl Item for u32 {
+    fn of(input: &mut Input) -> Result<u32, Bad> {
+        let low = u16::of(input)?;
+        let high = u16::of(input)?;
+        Ok(four(low, high))
     }
 }
 
-// The next two bytes, the low one first.
-pub fn next_u16(room: &mut [u8], from: Place) -> Short {
-    let low = next_byte(room, from);
-    let middle = low.place;
-    let high = next_byte(room, middle);
-    let place = high.place;
-    Short {
-        value: two(low.value, high.value),
-        place,
+// A signed sample.
+impl Item for i16 {
+    fn of(input: &mut Input) -> Result<i16, Bad> {
+        Ok(u16::of(input)?.cast_signed())
     }
 }
 
-// The next four bytes, the lowest first.
-pub fn next_u32(room: &mut [u8], from: Place) -> Long {
-    let low = next_u16(room, from);
-    let middle = low.place;
-    let high = next_u16(room, middle);
-    let place = high.place;
-    Long {
-        value: four(low.value, high.value),
-        place,
+// A binary32 number, by its bits.
+impl Item for f32 {
+    fn of(input: &mut Input) -> Result<f32, Bad> {
+        Ok(of_bits(u32::of(input)?))
     }
+}
+
+// The number of these bits. The language gives no number for a NaN's bits: one NaN stands for all of them.
+fn of_bits(bits: u32) -> f32 {
+    if 2139095040 < bits % 2147483648 {
+        return 0.0 / 0.0;
+    }
+    f32::from_bits(bits)
 }
 
 // Two bytes, the low one first.
 fn two(low: u8, high: u8) -> u16
     ensures { result ≡ low + high * 256 }
 {
-    (low as u16) + (high as u16) * 256
+    u16::from(low) + u16::from(high) * 256
 }
 
 // Two pairs of bytes, the low one first.
 fn four(low: u16, high: u16) -> u32
     ensures { result ≡ low + high * 65536 }
 {
-    (low as u32) + (high as u32) * 65536
-}
-
-// As many bytes as are lent.
-pub fn next_bytes(room: &mut [u8], from: Place, into: &mut [u8]) -> Place {
-    let mut p = from;
-    let mut i = 0;
-    while i < into.len() {
-        let b = next_byte(room, p);
-        into[i] = b.value;
-        p = b.place;
-        i += 1;
-    }
-    p
-}
-
-// As many signed samples of two bytes as are lent.
-pub fn next_samples(room: &mut [u8], from: Place, into: &mut [i16]) -> Place {
-    let mut p = from;
-    let mut i = 0;
-    while i < into.len() {
-        let b = next_u16(room, p);
-        let s = arith::signed16(b.value);
-        into[i] = s;
-        p = b.place;
-        i += 1;
-    }
-    p
+    u32::from(low) + u32::from(high) * 65536
 }

@@ -1,173 +1,113 @@
 // What a case lends: the bytes or samples that are read into an array, and the first of them as a part that is lent on.
 ghost use Rattle.std.specs.Prelude.{◌≡◌, ◌≤◌, length, take};
-ghost use Rattle.cases.specs.Internal.Lending.{unlent};
 
 use crate::commands::Command;
-use crate::input::{Place, next_bytes, next_samples, spoilt};
-use arith::least;
+use crate::input::{Bad, Input, Item};
 
-// How many bytes or samples an array holds now, and the place behind them.
-#[derive(Clone, Copy)]
-pub struct Held {
-    pub count: usize,
-    pub place: Place,
-}
-
-// How many bytes of the bank and of the song are lent and how many samples of each memory; and how many samples each memory holds.
-#[derive(Clone, Copy)]
-pub struct Lent {
-    pub bank: usize,
-    pub song: usize,
-    pub ram: usize,
-    pub rom: usize,
-    pub ram_held: usize,
-    pub rom_held: usize,
-}
-
-// What is lent behind a command, and the place behind it.
-#[derive(Clone, Copy)]
-pub struct Loan {
-    pub lent: Lent,
-    pub place: Place,
-}
-
-// The first n bytes of what there is, at most all of it.
-pub fn first_bytes(bytes: &[u8], n: usize) -> &[u8]
-    ensures { result.now ≡ take n bytes.now }
+// The first n of what there is, at most all of it.
+pub fn first<T>(items: &[T], n: usize) -> &[T]
+    ensures { result.now ≡ take n items.now }
 {
-    if n < bytes.len() {
-        return &bytes[..n];
+    if n < items.len() { &items[..n] } else { items }
+}
+
+// A bank, a song or a memory: an array, how many items of a case it holds now, and how many of these are lent.
+#[derive(Drop)]
+pub struct Held<'a, T> {
+    items: &'a mut [T],
+    held: usize,
+    lent: usize,
+}
+
+impl<'a, T: Item> Held<'a, T> {
+    // Nothing is held yet.
+    pub fn nothing(items: &'a mut [T]) -> Held<'a, T>
+        ensures { (result.held ≡ 0) × (result.lent ≡ 0) }
+    {
+        Held {
+            items,
+            held: 0,
+            lent: 0,
+        }
     }
-    bytes
-}
 
-// The first n samples of what there is, at most all of it.
-pub fn first_samples(samples: &[i16], n: usize) -> &[i16]
-    ensures { result.now ≡ take n samples.now }
-{
-    if n < samples.len() {
-        return &samples[..n];
+    // The next n items, all of them lent. More than there is room for are bad before any is looked at, and then nothing is held.
+    pub fn read(&mut self, input: &mut Input, n: u32) -> Result<(), Bad>
+        ensures { (self.new.held ≤ length self.new.items.now) × (self.new.lent ≤ self.new.held) }
+    {
+        self.held = 0;
+        self.lent = 0;
+        let count = n as usize;
+        if self.items.len() < count {
+            input.spoil();
+            return Err(Bad);
+        }
+        input.fill(&mut self.items[..count])?;
+        self.held = count;
+        self.lent = count;
+        Ok(())
     }
-    samples
-}
 
-// A bank or a song of n bytes. One that is longer than what is lent for it is bad before its bytes are looked at, and holds nothing.
-pub fn next_bank(room: &mut [u8], from: Place, into: &mut [u8], n: u32) -> Held
-    ensures { result.count ≤ length into.old }
-{
-    let count = n as usize;
-    if into.len() < count {
-        return Held {
-            count: 0,
-            place: spoilt(from),
-        };
+    // Only the first n items are lent, at most all that are held.
+    pub fn lend_first(&mut self, n: u32)
+        ensures { self.new.lent ≤ self.new.held }
+    {
+        self.lent = self.held.min(n as usize);
     }
-    let place = next_bytes(room, from, &mut into[..count]);
-    Held { count, place }
-}
 
-// A memory of n samples, as a bank of bytes.
-pub fn next_memory(room: &mut [u8], from: Place, into: &mut [i16], n: u32) -> Held
-    ensures { result.count ≤ length into.old }
-{
-    let count = n as usize;
-    if into.len() < count {
-        return Held {
-            count: 0,
-            place: spoilt(from),
-        };
-    }
-    let place = next_samples(room, from, &mut into[..count]);
-    Held { count, place }
-}
-
-// Nothing is lent.
-pub fn nothing() -> Lent
-    ensures { result ≡ unlent }
-{
-    Lent {
-        bank: 0,
-        song: 0,
-        ram: 0,
-        rom: 0,
-        ram_held: 0,
-        rom_held: 0,
+    // What is lent.
+    pub fn lent(&self) -> &[T]
+        ensures { result.now ≡ take self.now.lent self.now.items.now }
+    {
+        first(self.items, self.lent)
     }
 }
 
-// So many samples, at most all that a memory holds.
-fn at_most(n: u32, held: usize) -> usize
-    ensures { result ≤ held }
-{
-    least(n as u64, held as u64) as usize
+// What the commands of a case lend to its calls.
+#[derive(Drop)]
+pub struct Loan<'a> {
+    pub bank: Held<'a, u8>,
+    pub song: Held<'a, u8>,
+    pub ram: Held<'a, i16>,
+    pub rom: Held<'a, i16>,
 }
 
-// B: a bank.
-fn lend_bank(bank: &mut [u8], room: &mut [u8], c: Command, lent: Lent) -> Loan {
-    let held = next_bank(room, c.place, bank, c.first);
-    let place = held.place;
-    let mut next = lent;
-    next.bank = held.count;
-    Loan { lent: next, place }
-}
-
-// L: a song.
-fn lend_song(song: &mut [u8], room: &mut [u8], c: Command, lent: Lent) -> Loan {
-    let held = next_bank(room, c.place, song, c.first);
-    let place = held.place;
-    let mut next = lent;
-    next.song = held.count;
-    Loan { lent: next, place }
-}
-
-// M: a RAM, all of it lent.
-fn lend_ram(ram: &mut [i16], room: &mut [u8], c: Command, lent: Lent) -> Loan {
-    let held = next_memory(room, c.place, ram, c.first);
-    let place = held.place;
-    let mut next = lent;
-    next.ram = held.count;
-    next.ram_held = held.count;
-    Loan { lent: next, place }
-}
-
-// O: a ROM, all of it lent.
-fn lend_rom(rom: &mut [i16], room: &mut [u8], c: Command, lent: Lent) -> Loan {
-    let held = next_memory(room, c.place, rom, c.first);
-    let place = held.place;
-    let mut next = lent;
-    next.rom = held.count;
-    next.rom_held = held.count;
-    Loan { lent: next, place }
-}
-
-// m, x: only the first samples of the RAM or of the ROM.
-fn cut(c: Command, lent: Lent) -> Loan {
-    let place = c.place;
-    let mut next = lent;
-    if c.letter == b'm' {
-        next.ram = at_most(c.first, lent.ram_held);
-    } else {
-        next.rom = at_most(c.first, lent.rom_held);
+impl<'a> Loan<'a> {
+    // Nothing is lent.
+    pub fn nothing(
+        bank: &'a mut [u8],
+        song: &'a mut [u8],
+        ram: &'a mut [i16],
+        rom: &'a mut [i16],
+    ) -> Loan<'a>
+        ensures bank { (result.bank.held ≡ 0) × (result.bank.lent ≡ 0) }
+        ensures song { (result.song.held ≡ 0) × (result.song.lent ≡ 0) }
+        ensures ram { (result.ram.held ≡ 0) × (result.ram.lent ≡ 0) }
+        ensures rom { (result.rom.held ≡ 0) × (result.rom.lent ≡ 0) }
+    {
+        Loan {
+            bank: Held::nothing(bank),
+            song: Held::nothing(song),
+            ram: Held::nothing(ram),
+            rom: Held::nothing(rom),
+        }
     }
-    Loan { lent: next, place }
-}
 
-// The commands that say what is lent: B, L, M, O, m and x.
-pub fn lend(
-    bank: &mut [u8],
-    song: &mut [u8],
-    ram: &mut [i16],
-    rom: &mut [i16],
-    room: &mut [u8],
-    c: Command,
-    lent: Lent,
-) -> Loan {
-    let letter = c.letter;
-    match letter {
-        b'B' => lend_bank(bank, room, c, lent),
-        b'L' => lend_song(song, room, c, lent),
-        b'M' => lend_ram(ram, room, c, lent),
-        b'O' => lend_rom(rom, room, c, lent),
-        _ => cut(c, lent),
+    // The commands that say what is lent: B, L, M and O lend all of what stands behind them, m and x only the first samples of a memory.
+    pub fn lend(&mut self, input: &mut Input, c: Command) -> Result<(), Bad> {
+        match c.letter {
+            b'B' => self.bank.read(input, c.first),
+            b'L' => self.song.read(input, c.first),
+            b'M' => self.ram.read(input, c.first),
+            b'O' => self.rom.read(input, c.first),
+            b'm' => {
+                self.ram.lend_first(c.first);
+                Ok(())
+            }
+            _ => {
+                self.rom.lend_first(c.first);
+                Ok(())
+            }
+        }
     }
 }

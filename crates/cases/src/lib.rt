@@ -1,4 +1,4 @@
-// Case files and traces: what the programs that play cases share. They lend a room to read into and one to write from.
+// Case files and traces: what the programs that play cases share. They lend a room to read into.
 
 #![tactic(auto)]
 
@@ -9,14 +9,9 @@ mod lending;
 mod lines;
 mod writing;
 
-pub use commands::{Command, next_command};
-pub use hash::{fnv, fnv_bytes, fnv_samples};
-pub use input::{Byte, Long, Place, filled, next_byte, next_u32, spoilt, start, whole};
-pub use lending::{
-    Held, Lent, Loan, first_bytes, first_samples, lend, next_bank, next_memory, nothing,
-};
-pub use lines::{
-    Line, bad, called, counted, hashed, level, listed_end, listed_row, name, rendered, spaced,
-    state,
-};
-pub use writing::{decimal, flush, hex, magnitude, put, signed, word};
+pub use commands::Command;
+pub use hash::{Hashed, fnv};
+pub use input::{Bad, Input, Item};
+pub use lending::{Held, Loan, first};
+pub use lines::name;
+pub use writing::{Text, magnitude};

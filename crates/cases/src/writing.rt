@@ -1,75 +1,76 @@
-// Writing text to standard output in few large blocks, through a lent room. `at` is how much of the room is to be written yet.
-ghost use Rattle.std.specs.Prelude.{◌≡◌, unsigned_abs};
+// Text for standard output, which goes out in few large blocks.
+ghost use Rattle.std.specs.Prelude.{◌≡◌, ◌≤◌, unsigned_abs};
 
 // The descriptor of standard output.
 const STDOUT: i32 = 1;
 
-// Writes out what stands in the room.
-pub fn flush(room: &[u8; 65536], at: usize) {
-    write_out(room, at);
+// What is still to go out: the first bytes of a room, as many as `at` says.
+#[derive(Drop)]
+pub struct Text {
+    bytes: [u8; 65536],
+    at: usize,
+    ghost within: { at ≤ 65536 },
 }
 
-// The first n bytes, at most all of them.
-fn write_out(all: &[u8], n: usize) {
-    if n < all.len() {
-        io::write_all(STDOUT, &all[..n]);
-    } else {
-        io::write_all(STDOUT, all);
+impl Text {
+    // Nothing is written yet.
+    pub fn begin() -> Text {
+        Text {
+            bytes: io::large_buffer(),
+            at: 0,
+        }
     }
-}
 
-// One byte.
-pub fn put(room: &mut [u8; 65536], at: usize, b: u8) -> usize {
-    if at < 65536 {
-        room[at] = b;
-        return at + 1;
+    // What is written goes out.
+    pub fn flush(&mut self)
+        ensures { self.new.at ≡ 0 }
+    {
+        io::write_all(STDOUT, &self.bytes[..self.at]);
+        self.at = 0;
     }
-    flush(room, at);
-    room[0] = b;
-    1
-}
 
-// Bytes as they are.
-pub fn word(room: &mut [u8; 65536], at: usize, text: &[u8]) -> usize {
-    let mut to = at;
-    let mut i = 0;
-    while i < text.len() {
-        to = put(room, to, text[i]);
-        i += 1;
+    // One byte.
+    pub fn put(&mut self, b: u8) {
+        if self.at == 65536 {
+            self.flush();
+        }
+        self.bytes[self.at] = b;
+        self.at += 1;
     }
-    to
-}
 
-// A number in decimal.
-pub fn decimal(room: &mut [u8; 65536], at: usize, n: u64) -> usize {
-    let mut text = [0u8; 20];
-    let k = io::decimal(n, &mut text);
-    word(room, at, &text[..k])
-}
-
-// A number that may be below 0, in decimal.
-pub fn signed(room: &mut [u8; 65536], at: usize, z: i32) -> usize {
-    if z < 0 {
-        let to = put(room, at, b'-');
-        return decimal(room, to, magnitude(z));
+    // Bytes as they are.
+    pub fn word(&mut self, word: &[u8]) {
+        for b in word {
+            self.put(*b);
+        }
     }
-    decimal(room, at, magnitude(z))
+
+    // A number in decimal.
+    pub fn decimal(&mut self, n: u64) {
+        let mut digits = [0u8; 20];
+        let k = io::decimal(n, &mut digits);
+        self.word(&digits[..k]);
+    }
+
+    // A number that may be below 0, in decimal.
+    pub fn signed(&mut self, z: i32) {
+        if z < 0 {
+            self.put(b'-');
+        }
+        self.decimal(magnitude(z));
+    }
+
+    // A number in lower-case hex, with zeros in front up to a width of at most 16.
+    pub fn hex(&mut self, n: u64, width: usize) {
+        let mut digits = [0u8; 16];
+        let k = io::hex(n, width, &mut digits);
+        self.word(&digits[..k]);
+    }
 }
 
 // How far a number is from 0.
 pub fn magnitude(z: i32) -> u64
     ensures { result ≡ unsigned_abs z }
 {
-    if z < 0 {
-        ((-1 - z) as u64) + 1
-    } else {
-        z as u64
-    }
-}
-
-// A number in lower-case hex, with zeros in front up to a width of at most 16.
-pub fn hex(room: &mut [u8; 65536], at: usize, n: u64, width: usize) -> usize {
-    let mut text = [0u8; 16];
-    let k = io::hex(n, width, &mut text);
-    word(room, at, &text[..k])
+    u64::from(z.unsigned_abs())
 }

@@ -3,23 +3,30 @@ ghost use Rattle.std.specs.Prelude.{◌+◌, ◌%◌, ◌≤◌, pos, neg_ℤ, n
 ghost use Rattle.arith.specs.Holds.{held_to};
 ghost use Rattle.curves.specs.Octave.{octaves};
 
-use crate::OctaveTable;
 use crate::octave_table::OCTAVES;
 
-// The table, made once by whoever reads it often.
-pub fn octaves() -> OctaveTable
-    ensures { result ≡ octaves }
-{
-    OCTAVES
+// The entry of each cent of an octave.
+#[derive(Clone, Copy)]
+pub struct OctaveTable {
+    entries: [u32; 1200],
+    ghost kept: { entries ≡ octaves },
 }
 
-// The entry for c cents above a whole octave's start.
-pub fn entry(t: &OctaveTable, c: u32) -> u64
-    requires { t.now ≡ octaves }
-    ensures { (result ≡ get_or octaves (c % 1200) 0) × (result ≤ 2147483647) }
-{
-    let i = (c % 1200) as usize;
-    t[i] as u64
+impl OctaveTable {
+    // The table, made once by whoever reads it often.
+    pub fn new() -> OctaveTable
+        ensures { result.entries ≡ octaves }
+    {
+        OctaveTable { entries: OCTAVES }
+    }
+
+    // The entry for c cents above a whole octave's start.
+    pub fn entry(&self, c: u32) -> u64
+        ensures { (result ≡ get_or octaves (c % 1200) 0) × (result ≤ 2147483647) }
+    {
+        let i = (c % 1200) as usize;
+        self.entries[i] as u64
+    }
 }
 
 // How far x, held to -low..high, stands above -low.

@@ -1,46 +1,28 @@
 // h: a key is struck on the lent bank by itself: how many layers it has, and a line for each voice that they start.
-use crate::tapes::Tape;
-use crate::{tapes, voices};
-use cases::Command;
-use records::Found;
+use crate::voices;
+use cases::{Command, Text};
+use layers::Struck;
 
-// No bank, or no such preset.
-fn none(text: &mut [u8; 65536], at: usize) -> usize {
-    cases::word(text, at, b"h none\n")
-}
-
-// A record's number, which is always below 2^32.
-fn short(h: usize) -> u32 {
-    if h < 4294967296 { h as u32 } else { 0 }
-}
-
-// The lines by program, bank, key and velocity. An admitted bank's chunks end within 65,536 bytes.
-fn struck(b: &[u8], text: &mut [u8; 65536], at: usize, c: Command) -> usize {
-    if 65536 < records::chunk_at(b, 9) {
-        return none(text, at);
+// What a key of an admitted bank starts, by program, bank, key and velocity. Its chunks end within 65,536 bytes.
+fn struck(bank: &[u8], c: Command) -> Option<Struck> {
+    if 65536 < records::chunk_at(bank, 9) {
+        return None;
     }
-    let m = records::parts_of(b);
-    match layers::preset_for(b, m, c.two as u16, c.one) {
-        Found::Nothing => none(text, at),
-        Found::At(h) => voices::found(
-            text,
-            at,
-            layers::voices_for(b, m, short(h), 0, c.three, c.four),
-        ),
-    }
+    let m = records::parts_of(bank);
+    let h = layers::preset_for(bank, m, u16::from(c.two), c.one)?;
+    let h = u32::try_from(h).unwrap_or(0);
+    Some(layers::voices_for(bank, m, h, 0, c.three, c.four))
 }
 
-// The same for any bank.
-fn strike(b: &[u8], text: &mut [u8; 65536], at: usize, c: Command) -> usize {
-    if bank::admitted(b) {
-        return struck(b, text, at, c);
+// The call and its lines; the player has no part in it. There are none for a bank that is not admitted, or has no such preset.
+pub fn hit(bank: &[u8], text: &mut Text, c: Command) {
+    let s = if bank::admitted(bank) {
+        struck(bank, c)
+    } else {
+        None
+    };
+    match s {
+        Some(s) => voices::found(text, s),
+        None => text.word(b"h none\n"),
     }
-    none(text, at)
-}
-
-// The call and its lines; the player has no part in it.
-pub fn hit(bank: &[u8; 66000], text: &mut [u8; 65536], c: Command, tape: Tape) -> Tape {
-    let lent = tape.lent;
-    let at = strike(cases::first_bytes(bank, lent.bank), text, tape.at, c);
-    tapes::written(tape, c, at)
 }

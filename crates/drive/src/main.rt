@@ -6,85 +6,61 @@ mod asking;
 mod calls;
 mod hammer;
 mod output;
-mod tapes;
 mod trace;
 mod voices;
 
-use cases::Command;
+use cases::{Bad, Command, Input, Loan, Text};
 use player::Player;
 use ringer::Kind;
-use tapes::Tape;
 
-// The player behind a command, and how much of the trace is to be written yet.
-#[derive(Clone, Copy)]
-pub struct Played {
-    pub player: Player,
-    pub at: usize,
-}
-
-// A command for the player, by its letter.
-fn play<'a>(
-    bank: &[u8; 66000],
-    song: &[u8; 66000],
-    ram: &'a [i16; 65536],
-    rom: &'a [i16; 65536],
-    text: &mut [u8; 65536],
-    c: Command,
-    p: Player,
-    tape: Tape,
-) -> Played {
-    let letter = c.letter;
-    match letter {
-        b'r' | b'V' => output::render(bank, song, ram, rom, text, c, p, tape),
-        _ => calls::call(bank, song, ram, rom, text, c, p, tape),
+// A command for the player, and the player behind it.
+fn play(loan: &Loan, text: &mut Text, c: Command, p: Player) -> Player {
+    match c.letter {
+        b'r' | b'V' => output::render(loan, text, c, p),
+        _ => calls::call(loan, text, c, p),
     }
 }
 
-// What leaves the player as it is: things lent, asked and written.
-fn tell(
-    bank: &mut [u8; 66000],
-    song: &mut [u8; 66000],
-    ram: &mut [i16; 65536],
-    rom: &mut [i16; 65536],
-    room: &mut [u8; 65536],
-    text: &mut [u8; 65536],
+// A command, and the player behind it. Things that are lent, asked and named leave it as it is.
+fn turn(
+    loan: &mut Loan,
+    input: &mut Input,
+    text: &mut Text,
     c: Command,
     p: Player,
-    tape: Tape,
-) -> Tape {
-    let kind = ringer::kind_of(c);
-    match kind {
-        Kind::Lends => tapes::lend(bank, song, ram, rom, room, c, tape),
-        Kind::Asks => asking::ask(bank, text, c, p, tape),
-        Kind::Strikes => hammer::hit(bank, text, c, tape),
-        Kind::Names => tapes::name(room, text, c, tape),
-        Kind::Bad => tapes::spoilt(tape, c),
+) -> Result<Player, Bad> {
+    match ringer::kind_of(c)? {
+        Kind::Plays => return Ok(play(loan, text, c, p)),
+        Kind::Lends => loan.lend(input, c)?,
+        Kind::Asks => asking::ask(loan.bank.lent(), text, c, p),
+        Kind::Strikes => hammer::hit(loan.bank.lent(), text, c),
+        Kind::Names => cases::name(input, text, c.one)?,
     }
+    Ok(p)
 }
 
-// A proved loop has to end, and nothing says that the input does: it counts down from a number that no run uses up.
-fn main() {
+// The commands one after the other, from a fresh player on, with nothing lent. Where no letter is left, they have ended as they should.
+// A proved loop has to end, and nothing says that the input does: this one ends at a number that no run comes to.
+fn play_all(input: &mut Input, text: &mut Text) -> Result<(), Bad> {
     let mut bank = [0u8; 66000];
     let mut song = [0u8; 66000];
     let mut ram = [0i16; 65536];
     let mut rom = [0i16; 65536];
-    let mut room = io::large_buffer();
-    let mut text = io::large_buffer();
+    let mut loan = Loan::nothing(&mut bank, &mut song, &mut ram, &mut rom);
     let mut p = player::fresh();
-    let mut tape = tapes::begin();
-    let mut turns = u64::MAX;
-    while turns > 0 && !tape.place.cut {
-        let c = tapes::next(&mut room, tape);
-        if ringer::moves(c) {
-            let done = play(&bank, &song, &ram, &rom, &mut text, c, p, tape);
-            p = done.player;
-            tape = tapes::written(tape, c, done.at);
-        } else {
-            tape = tell(
-                &mut bank, &mut song, &mut ram, &mut rom, &mut room, &mut text, c, p, tape,
-            );
-        }
-        turns -= 1;
+    for _ in 0..u64::MAX {
+        let Some(c) = input.command()? else {
+            break;
+        };
+        p = turn(&mut loan, input, text, c, p)?;
     }
-    tapes::finish(&mut text, tape);
+    Ok(())
+}
+
+fn main() {
+    let mut room = io::large_buffer();
+    let mut input = Input::start(&mut room);
+    let mut text = Text::begin();
+    let played = play_all(&mut input, &mut text);
+    text.finish(played);
 }

@@ -1,48 +1,35 @@
 // The state in a line of a trace.
-ghost use Rattle.std.specs.Prelude.{◌<◌};
-
+use cases::Text;
 use engine::Engine;
 use voice::Shown;
 
 // A stage, with its level where it carries one.
-pub fn stage(text: &mut [u8; 65536], at: usize, s: Shown) -> usize {
+pub fn stage(text: &mut Text, s: Shown) {
     match s {
-        Shown::Refused => at,
-        Shown::Free => cases::put(text, at, b'f'),
-        Shown::Delay => cases::put(text, at, b'd'),
-        Shown::Attack { level: x } => cases::level(text, at, b'a', x),
-        Shown::Hold => cases::put(text, at, b'h'),
-        Shown::Decay { level: x } => cases::level(text, at, b'y', x),
-        Shown::Sustain { level: x } => cases::level(text, at, b'u', x),
-        Shown::Release { level: x } => cases::level(text, at, b'r', x),
+        Shown::Refused => {}
+        Shown::Free => text.put(b'f'),
+        Shown::Delay => text.put(b'd'),
+        Shown::Attack { level } => text.level(b'a', level),
+        Shown::Hold => text.put(b'h'),
+        Shown::Decay { level } => text.level(b'y', level),
+        Shown::Sustain { level } => text.level(b'u', level),
+        Shown::Release { level } => text.level(b'r', level),
     }
 }
 
-// A slot that sounds, behind a space; nothing for a free one.
-fn slot(text: &mut [u8; 65536], at: usize, e: Engine, i: u32) -> usize
-    requires { i < 32 }
-{
-    if !arith::has(e.sounding, i) {
-        return at;
+// The slots that sound, in order, each behind a space.
+fn slots(text: &mut Text, e: Engine) {
+    for i in 0..32u8 {
+        if arith::has(e.sounding, u32::from(i)) {
+            text.spaced(u64::from(i));
+            stage(text, engine::panel(e, i));
+        }
     }
-    let to = cases::spaced(text, at, i as u64);
-    stage(text, to, engine::panel(e, i as u8))
-}
-
-// The slots that sound, in order.
-fn slots(text: &mut [u8; 65536], at: usize, e: Engine) -> usize {
-    let mut to = at;
-    let mut i: u32 = 0;
-    while i < 32 {
-        to = slot(text, to, e, i);
-        i += 1;
-    }
-    to
 }
 
 // The state, to the line's end.
-pub fn state(text: &mut [u8; 65536], at: usize, e: Engine) -> usize {
-    let mut to = cases::state(text, at, e.clock, e.sounding);
-    to = slots(text, to, e);
-    cases::put(text, to, b'\n')
+pub fn state(text: &mut Text, e: Engine) {
+    text.state(e.clock, e.sounding);
+    slots(text, e);
+    text.put(b'\n');
 }

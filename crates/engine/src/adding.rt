@@ -1,7 +1,5 @@
 // n frames of a state's voices, added up: voices outside, frames inside.
 ghost use Rattle.std.specs.Prelude.{◌≡◌, ◌*◌, ◌≤◌, ◌++◌, length, drop};
-ghost use Rattle.curves.specs.Levels.{gains};
-ghost use Rattle.curves.specs.Octave.{octaves};
 ghost use Rattle.voice.specs.Internal.Sums.{add_to, Small};
 ghost use Rattle.state.specs.Slots.{slots_of};
 ghost use Rattle.engine.specs.Rendering.{slot_after, played};
@@ -24,7 +22,6 @@ fn run_slot<'a>(
     acc: &mut [i32],
     n: usize,
 ) -> Slot
-    requires tables { (g.now ≡ gains) × (o.now ≡ octaves) }
     requires sums { (2 * n ≤ length acc.old) × Small 31 acc.old }
     ensures slot { result ≡ slot_after ram.now rom.now e n s }
     ensures sums { acc.new ≡ add_to (slot_heard ram.now rom.now e n s) acc.old }
@@ -49,7 +46,6 @@ pub fn run_all<'a>(
     acc: &mut [i32],
     n: usize,
 ) -> Engine
-    requires tables { (g.now ≡ gains) × (o.now ≡ octaves) }
     requires sums { (2 * n ≤ length acc.old) × Small 0 acc.old }
     ensures state { result ≡ played ram.now rom.now n e }
     ensures sums { acc.new ≡ add_all (slot_heard ram.now rom.now e n) (slots_of e) acc.old }

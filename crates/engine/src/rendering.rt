@@ -6,7 +6,7 @@ ghost use Rattle.state.specs.Answers.{answered, status_of};
 ghost use Rattle.engine.specs.Rendering.{distance, lacks, lacking, render_number, output, played, render, rendered};
 
 use crate::adding::{mix_all, run_all};
-use curves::{gains, octaves};
+use curves::{GainTable, OctaveTable};
 use state::{Engine, Refusal, ends_past, slot_of};
 use voice::Slot;
 
@@ -68,8 +68,8 @@ pub fn play<'a>(e: Engine, ram: &'a [i16], rom: &'a [i16], out: &mut [f32], n: u
     ensures state { result ≡ played ram.now rom.now n e }
     ensures output { out.new ≡ output ram.now rom.now e n ++ drop (2 * n) out.old }
 {
-    let g = gains();
-    let o = octaves();
+    let g = GainTable::new();
+    let o = OctaveTable::new();
     let mut acc = [0i32; 8192];
     let x = run_all(e, &g, &o, ram, rom, &mut acc, n);
     mix_all(&acc, out, n);

@@ -6,7 +6,7 @@ ghost use Rattle.engine.specs.Summing.{sums_of, summed};
 
 use crate::adding::run_all;
 use crate::rendering::{distance_to, render_number};
-use curves::{gains, octaves};
+use curves::{GainTable, OctaveTable};
 use state::{Engine, Refusal};
 
 // n frames of all slots into an output of just their length.
@@ -15,8 +15,8 @@ fn add_up<'a>(e: Engine, ram: &'a [i16], rom: &'a [i16], acc: &mut [i32], n: usi
     ensures state { result ≡ played ram.now rom.now n e }
     ensures output { acc.new ≡ sums_of ram.now rom.now e n }
 {
-    let g = gains();
-    let o = octaves();
+    let g = GainTable::new();
+    let o = OctaveTable::new();
     acc.fill(0);
     run_all(e, &g, &o, ram, rom, acc, n)
 }

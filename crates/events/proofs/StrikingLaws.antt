@@ -1,4 +1,5 @@
 -- Laws of note-on: its answer behind the test of ranges, by admission, preset and layers.
+use Rattle.std.specs.Prelude.{Option, None, Some, is_some}
 use Prim.Native.Nat.{ℕ, ◌-◌, ◌≤◌, ◌<◌}
 use mathlib.Core.Path.{◌≡◌, refl, ap, ◌∙◌, ap₂}
 use mathlib.Core.Bool.{Bool, true, false, cond, not}
@@ -19,9 +20,6 @@ use Rattle.bank.specs.Admission.{admitted}
 use Rattle.layers.specs.LayerSearch.{preset_for, is_preset}
 use Rattle.layers.specs.Voicing.{voices_of, has_preset, struck_voices}
 use Rattle.records.specs.Sides.{parts_of}
-use Rattle.records.specs.Looking.{is_at}
-use Rattle.records.specs.declared.Found.{Found}
-use Rattle.records.specs.declared.Found.TheVariants.{Nothing, At}
 use Rattle.state.specs.Channels.{channel_at}
 use Rattle.layers.specs.Internal.Voicing.{struck_of}
 use Rattle.voice.specs.Changes.{blank}
@@ -46,7 +44,7 @@ found-answer ram rom channel vs e a b p q = simp (p, q) (by (ltb 32 (length vs))
 
 module _ (b : List ℕ) (ram rom : List ℤ) (channel key velocity : ℕ) (e : Engine) where
   -- the preset that the channel names
-  abbrev preset : Found
+  abbrev preset : Option ℕ
   preset = preset_for b (parts_of b) (channel_bank e channel) (channel_at e channel).program
 
   -- a bank that is not admitted: 1
@@ -55,21 +53,21 @@ module _ (b : List ℕ) (ram rom : List ℤ) (channel key velocity : ℕ) (e : E
   answer-bad h = simp h
 
   -- no preset of the channel: 3
-  pub answer-none : admitted b ≡ true → preset ≡ Nothing → bank_answer (bank_from b) ram rom channel key velocity e ≡ refused 3 e
+  pub answer-none : admitted b ≡ true → preset ≡ None → bank_answer (bank_from b) ram rom channel key velocity e ≡ refused 3 e
   unfolding bank_answer bank_from note_on_number has_preset
   answer-none h p = simp (h, p)
 
-  found-voices : (h : ℕ) → preset ≡ At h
+  found-voices : (h : ℕ) → preset ≡ Some h
       → struck_voices b (channel_bank e channel) (channel_at e channel).program channel key velocity ≡ voices_of b (parts_of b) h channel key velocity
   unfolding struck_voices
   found-voices h p = rw p
 
-  found-preset : (h : ℕ) → preset ≡ At h → has_preset b (channel_bank e channel) (channel_at e channel).program ≡ true
+  found-preset : (h : ℕ) → preset ≡ Some h → has_preset b (channel_bank e channel) (channel_at e channel).program ≡ true
   unfolding has_preset
-  found-preset h p = ap is_at p
+  found-preset h p = ap is_some p
 
   -- a preset is found: its layers answer
-  pub answer-found : (h : ℕ) → admitted b ≡ true → preset ≡ At h
+  pub answer-found : (h : ℕ) → admitted b ≡ true → preset ≡ Some h
       → bank_answer (bank_from b) ram rom channel key velocity e
       ≡ layers_answer ram rom channel (voices_of b (parts_of b) h channel key velocity) e
   unfolding bank_answer bank_from note_on_number
@@ -94,6 +92,6 @@ few-by s vs e h =
     ap₂ (λ (n : ℕ) (l : List Voice). take n l) (few-count s vs e) (ap (λ (x : Struck). x.voices) e) ∙ few vs (omega (arith, few-count s vs e))
 
 -- the preset that was found is one of the heads
-pub preset-low : (b : List ℕ) (m : Parts) (bank program h : ℕ) → preset_for b m bank program ≡ At h → h < m.presets.nheads
+pub preset-low : (b : List ℕ) (m : Parts) (bank program h : ℕ) → preset_for b m bank program ≡ Some h → h < m.presets.nheads
 unfolding preset_for
 preset-low b m bank program h e = omega (arith, (first-is (is_preset b m bank program) 0 (m.presets.nheads - 1) h e).high)

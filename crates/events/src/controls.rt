@@ -6,7 +6,7 @@ ghost use Rattle.events.specs.Keys.{held, off};
 
 use crate::Whom;
 use crate::keys::{is_down, off_all};
-use curves::gains;
+use curves::GainTable;
 use state::{
     Engine, Refusal, channel_of, flag, freed_if, of_channel, past_two, slot_of, with_channel,
     with_word,
@@ -30,7 +30,7 @@ fn silenced(e: Engine, channel: u8) -> Engine
 fn every_off(e: Engine, channel: u8) -> Engine
     ensures { result ≡ off channel (held channel) e }
 {
-    let g = gains();
+    let g = GainTable::new();
     let down = is_down(e, channel);
     off_all(e, channel, Whom::Every, down, &g).1
 }
@@ -46,7 +46,7 @@ fn pedal_set(e: Engine, channel: u8, value: u8) -> Engine
     if 64 <= value {
         return x;
     }
-    let g = gains();
+    let g = GainTable::new();
     off_all(x, channel, Whom::Marked, false, &g).1
 }
 

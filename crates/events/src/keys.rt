@@ -1,13 +1,12 @@
 // Note-off, and which voices are let off.
 ghost use Rattle.std.specs.Prelude.{◌≡◌, cond};
-ghost use Rattle.curves.specs.Levels.{gains};
 ghost use Rattle.voice.specs.Release.{release};
 ghost use Rattle.state.specs.Answers.{answered, done};
 ghost use Rattle.events.specs.Keys.{held, held_key, pedal_down, mark, let_off, off_key, note_off, pedal_held};
 ghost use Rattle.events.specs.Internal.Keys.{picked, off_all};
 
 use crate::Whom;
-use curves::{GainTable, gains};
+use curves::GainTable;
 use state::{Engine, Refusal, channel_of, flag, of_channel, past_one, slot_of, with_word};
 use voice::{Slot, Voice, is_released, let_off, with_moved};
 
@@ -61,7 +60,6 @@ fn is_picked(s: Slot, channel: u8, whom: Whom) -> bool
 
 // Marked while the pedal is down, else released.
 fn off_voice(v: Voice, down: bool, g: &GainTable) -> Voice
-    requires { g.now ≡ gains }
     ensures { result ≡ cond down (mark v) (release v) }
 {
     if down {
@@ -73,7 +71,6 @@ fn off_voice(v: Voice, down: bool, g: &GainTable) -> Voice
 
 // The slot let off where it is picked.
 fn off_one(s: Slot, channel: u8, whom: Whom, down: bool, g: &GainTable) -> Slot
-    requires { g.now ≡ gains }
     ensures { result ≡ let_off down (picked channel whom) s }
 {
     if !is_picked(s, channel, whom) {
@@ -88,7 +85,6 @@ fn off_one(s: Slot, channel: u8, whom: Whom, down: bool, g: &GainTable) -> Slot
 
 // How many are picked, and the state with all of them let off.
 pub fn off_all(e: Engine, channel: u8, whom: Whom, down: bool, g: &GainTable) -> (u32, Engine)
-    requires { g.now ≡ gains }
     ensures { done result.0 result.1 ≡ off_all channel whom down e }
 {
     let mut x = e;
@@ -116,7 +112,7 @@ pub fn is_down(e: Engine, channel: u8) -> bool
 pub fn off_key(e: &mut Engine, channel: u8, key: u8) -> u32
     ensures { done result e.new ≡ off_key channel key e.old }
 {
-    let g = gains();
+    let g = GainTable::new();
     let down = is_down(*e, channel);
     let (count, after) = off_all(*e, channel, Whom::Key { key }, down, &g);
     *e = after;

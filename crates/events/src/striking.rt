@@ -8,7 +8,7 @@ ghost use Rattle.events.specs.Internal.Striking.{layers_answer, bank_answer};
 use crate::keys::off_key;
 use crate::starting::{any_past, strike};
 use layers::{preset_for, voices_for};
-use records::{Found, Parts};
+use records::Parts;
 use state::{Engine, Refusal, channel_of, past_two};
 
 // The bank number of a channel: 128 on channel 9.
@@ -68,8 +68,8 @@ fn strike_bank<'a>(
     let c = channel_of(*e, channel);
     let number = bank_number(*e, channel);
     match preset_for(bank, m, number, c.program) {
-        Found::Nothing => Err(Refusal::NoPreset),
-        Found::At(h) => strike_layers(e, bank, ram, rom, m, h as u32, channel, key, velocity),
+        None => Err(Refusal::NoPreset),
+        Some(h) => strike_layers(e, bank, ram, rom, m, h as u32, channel, key, velocity),
     }
 }
 

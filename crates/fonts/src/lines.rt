@@ -1,24 +1,25 @@
 // The line of a file: where its bank and its samples lie, or its first fault.
+use cases::Text;
 use riff::Part;
 
 // A part behind a space: where it begins, and its size.
-fn part(text: &mut [u8; 65536], at: usize, p: Part) -> usize {
-    let to = cases::spaced(text, at, p.at as u64);
-    cases::spaced(text, to, p.size as u64)
+fn part(text: &mut Text, p: Part) {
+    text.spaced(p.at as u64);
+    text.spaced(p.size as u64);
 }
 
 // The line of a file.
-pub fn font(file: &[u8], text: &mut [u8; 65536], at: usize) -> usize {
-    let to = match riff::find(file) {
+pub fn font(file: &[u8], text: &mut Text) {
+    match riff::find(file) {
         Ok(font) => {
-            let to = cases::decimal(text, at, 0);
-            let to = part(text, to, font.bank);
-            part(text, to, font.samples)
+            text.decimal(0);
+            part(text, font.bank);
+            part(text, font.samples);
         }
         Err(fault) => {
-            let to = cases::decimal(text, at, fault.kind.number() as u64);
-            cases::spaced(text, to, fault.place as u64)
+            text.decimal(u64::from(fault.kind.number()));
+            text.spaced(fault.place as u64);
         }
-    };
-    cases::put(text, to, b'\n')
+    }
+    text.put(b'\n');
 }

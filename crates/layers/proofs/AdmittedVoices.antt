@@ -1,4 +1,5 @@
 -- What is true of every voice that an admitted bank starts.
+use Rattle.std.specs.Prelude.{Option, None, Some}
 use mathlib.Core.Bool.{true, false, Bool, cond, ◌&&◌}
 use mathlib.Core.Path.{◌≡◌, refl, subst}
 use Prim.Native.Nat.{ℕ, ◌-◌, ◌≤◌, ◌<◌, zero, suc, ◌+◌}
@@ -21,11 +22,9 @@ use Rattle.totals.proofs.SettingsLaws.{mod4-lt}
 use Rattle.layers.specs.Voicing.{voice_by, voice_of, voices_of, struck_voices}
 use Rattle.layers.specs.declared.Pair.{Pair}
 use Rattle.records.proofs.LookingLaws.{first-is}
-use Rattle.records.specs.declared.Found.TheVariants.{At, Nothing}
 use Rattle.bank.specs.Admission.{admitted}
 use Rattle.bank.specs.Past.{past_memory}
 use Rattle.bank.proofs.PastLaws.{none-past}
-use Rattle.records.specs.declared.Found.{Found}
 use Rattle.layers.proofs.StruckLaws.{struck-none, struck-some}
 
 -- a voice struck with channel, key and velocity: a rate of 400..50,000; mode 0, 1 or 3; a window of some samples; in modes 1 and 3 a loop
@@ -181,12 +180,12 @@ module _ (b : List ℕ) (a : Admitted b) where
       all_map Layered Q (voice_of b (parts_of b) h channel key velocity) each (take 33 ls) (all_take Layered 33 ls all)
 
   -- a layer's voice ends within its memory
-  inside-voice : (ram rom : ℕ) → admitted b ≡ true → past_memory b ram rom ≡ Nothing → (h channel key velocity : ℕ) (l : Pair) → Layered l → Inside ram rom (voice_of b (parts_of b) h channel key velocity l)
+  inside-voice : (ram rom : ℕ) → admitted b ≡ true → past_memory b ram rom ≡ None → (h channel key velocity : ℕ) (l : Pair) → Layered l → Inside ram rom (voice_of b (parts_of b) h channel key velocity l)
   unfolding voice_of voice_by layer_of
   inside-voice ram rom ok none h channel key velocity l s = none-past b ram rom ok none (zone_at b p l.outer).link l.inner s
 
 -- a preset that is found is not the terminal record
-pub preset-in : (b : List ℕ) (bank program h : ℕ) → preset_for b (parts_of b) bank program ≡ At h → h + 1 < (parts_of b).presets.nheads
+pub preset-in : (b : List ℕ) (bank program h : ℕ) → preset_for b (parts_of b) bank program ≡ Some h → h + 1 < (parts_of b).presets.nheads
 unfolding preset_for
 preset-in b bank program h e = let t = first-is (is_preset b (parts_of b) bank program) 0 ((parts_of b).presets.nheads - 1) h e in omega (arith, t.high)
 
@@ -196,9 +195,9 @@ struck-each : (b : List ℕ) → admitted b ≡ true → (Q : Voice → Type 0) 
     → All Q (struck_voices b bank program channel key velocity)
 struck-each b ok Q bank program channel key velocity each = by (preset_for b (parts_of b) bank program) refl
   where
-    by : (f : Found) → preset_for b (parts_of b) bank program ≡ f → All Q (struck_voices b bank program channel key velocity)
-    by Nothing e = rw (struck-none b bank program e channel key velocity) tt
-    by (At h) e = rw (struck-some b bank program h e channel key velocity) (voices-each b (admitted-rules b ok) Q h channel key velocity (each h) (preset-in b bank program h e))
+    by : (f : Option ℕ) → preset_for b (parts_of b) bank program ≡ f → All Q (struck_voices b bank program channel key velocity)
+    by None e = rw (struck-none b bank program e channel key velocity) tt
+    by (Some h) e = rw (struck-some b bank program h e channel key velocity) (voices-each b (admitted-rules b ok) Q h channel key velocity (each h) (preset-in b bank program h e))
 
 -- every voice that an admitted bank starts is good
 pub struck-good : (b : List ℕ) → admitted b ≡ true → (bank program channel key velocity : ℕ) → All (GoodVoice channel key velocity) (struck_voices b bank program channel key velocity)
@@ -206,6 +205,6 @@ struck-good b ok bank program channel key velocity =
     struck-each b ok (GoodVoice channel key velocity) bank program channel key velocity (λ h l s. good-voice b (admitted-rules b ok) h channel key velocity l s)
 
 -- and ends within its memory, where no window past its memory is found
-pub struck-inside : (b : List ℕ) (ram rom : ℕ) → admitted b ≡ true → past_memory b ram rom ≡ Nothing → (bank program channel key velocity : ℕ) → All (Inside ram rom) (struck_voices b bank program channel key velocity)
+pub struck-inside : (b : List ℕ) (ram rom : ℕ) → admitted b ≡ true → past_memory b ram rom ≡ None → (bank program channel key velocity : ℕ) → All (Inside ram rom) (struck_voices b bank program channel key velocity)
 struck-inside b ram rom ok none bank program channel key velocity =
     struck-each b ok (Inside ram rom) bank program channel key velocity (λ h l s. inside-voice b (admitted-rules b ok) ram rom ok none h channel key velocity l s)

@@ -15,10 +15,9 @@ use Rattle.records.specs.Zones.{zone_at, global_of, zone_count}
 use Rattle.records.specs.declared.Parts.{Parts}
 use Rattle.records.specs.declared.Side.{Side}
 use Rattle.records.specs.declared.Zone.{Zone}
-use Rattle.layers.specs.Spans.{joined, keys_under, span_under, zone_span, span_below, span_of, row_sheet}
+use Rattle.layers.specs.Spans.{joined, keys_under, span_under, zone_span, span_below, span_of, row_sheet, SheetNumbers}
 use Rattle.layers.specs.declared.Area.{Area}
 use Rattle.layers.specs.declared.Range.{Range}
-use Rattle.layers.specs.declared.Sheet.{Sheet}
 
 -- one zone more of instrument k
 pub under-turn : (b : List ℕ) (i : Side) (a : Area) (k n from : ℕ) (zone beside : Zone) (span keys r : Range) → from ≡ bag_of b i k → zone ≡ zone_at b i (from + n) → beside ≡ global_of b i k → span ≡ span_under b i a k n → keys ≡ keys_under b i a zone beside → r ≡ joined span keys → r ≡ span_under b i a k (n + 1)
@@ -31,7 +30,7 @@ unfolding span_below
 below-turn b p i h n from zone above span keys r begins is global before found e = rw (add-one, e, before, found, is, global, begins) refl
 
 -- a sheet of its parts
-pub row_made : (b : List ℕ) (m : Parts) (h at zones : ℕ) (keys : Range) → at ≡ m.presets.width * h → zones ≡ zone_count b m.presets h → keys ≡ span_of b m h → ◌≡◌ {A = Sheet} (record { kind = 0; name = m.presets.heads + at; zones = zones; low = keys.low; high = keys.high }) (row_sheet b m h)
+pub row_made : (b : List ℕ) (m : Parts) (h at zones : ℕ) (keys : Range) → at ≡ m.presets.width * h → zones ≡ zone_count b m.presets h → keys ≡ span_of b m h → ◌≡◌ {A = SheetNumbers} (record { kind = 0; name = m.presets.heads + at; zones = zones; low = keys.low; high = keys.high }) (row_sheet b m h)
 unfolding row_sheet
 row_made b m h at zones keys place count span = rw (place, count, span) refl
 

@@ -1,4 +1,5 @@
 -- Laws of the voices in an array, as the loop that fills it wants them.
+use Rattle.std.specs.Prelude.{None, Some}
 use mathlib.Core.List.{List, [], ◌∷◌, ◌++◌, map, map-append, append_assoc}
 use Prim.Native.Nat.{ℕ, ◌-◌, ◌≤◌, ◌<◌, min, suc, ◌+◌}
 use mathlib.Core.Path.{◌≡◌, ap, ◌∙◌, refl, sym}
@@ -17,7 +18,6 @@ use Rattle.layers.specs.declared.Pair.{Pair}
 use Rattle.voice.specs.Changes.{blank}
 use Rattle.layers.specs.Internal.Voicing.{struck_of}
 use Rattle.records.specs.Sides.{parts_of}
-use Rattle.records.specs.declared.Found.TheVariants.{Nothing, At}
 use Rattle.layers.specs.LayerSearch.{preset_for, layers_of}
 use Rattle.layers.specs.Voicing.{voices_of, has_preset, struck_voices, voice_of}
 use Rattle.layers.proofs.LayerSearchLaws.{layer_count}
@@ -82,19 +82,19 @@ struck-voices vs few = rw (le-leb (length vs) 32 few) (take_at vs (replicate (32
 
 -- the voices of a preset that is there, and of none
 module _ (b : List ℕ) (bank program : ℕ) where
-  pub struck-none : preset_for b (parts_of b) bank program ≡ Nothing → (channel key velocity : ℕ) → struck_voices b bank program channel key velocity ≡ []
+  pub struck-none : preset_for b (parts_of b) bank program ≡ None → (channel key velocity : ℕ) → struck_voices b bank program channel key velocity ≡ []
   unfolding struck_voices
   struck-none e channel key velocity = rw e refl
 
-  pub struck-some : (h : ℕ) → preset_for b (parts_of b) bank program ≡ At h → (channel key velocity : ℕ) → struck_voices b bank program channel key velocity ≡ voices_of b (parts_of b) h channel key velocity
+  pub struck-some : (h : ℕ) → preset_for b (parts_of b) bank program ≡ Some h → (channel key velocity : ℕ) → struck_voices b bank program channel key velocity ≡ voices_of b (parts_of b) h channel key velocity
   unfolding struck_voices
   struck-some h e channel key velocity = rw e refl
 
-  pub preset-none : preset_for b (parts_of b) bank program ≡ Nothing → has_preset b bank program ≡ false
+  pub preset-none : preset_for b (parts_of b) bank program ≡ None → has_preset b bank program ≡ false
   unfolding has_preset
   preset-none e = rw e refl
 
-  pub preset-some : (h : ℕ) → preset_for b (parts_of b) bank program ≡ At h → has_preset b bank program ≡ true
+  pub preset-some : (h : ℕ) → preset_for b (parts_of b) bank program ≡ Some h → has_preset b bank program ≡ true
   unfolding has_preset
   preset-some h e = rw e refl
 

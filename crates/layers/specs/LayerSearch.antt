@@ -1,9 +1,8 @@
 -- 01, "From a key to layers": the preset, and its layers in order.
-use Rattle.std.specs.Prelude.{Bool, ◌&&◌, cond, List, [], ◌∷◌, ◌++◌, ℕ, ◌-◌, zero, suc, ◌+◌, eqb}
+use Rattle.std.specs.Prelude.{Bool, ◌&&◌, cond, List, [], ◌∷◌, ◌++◌, ℕ, ◌-◌, zero, suc, ◌+◌, eqb, Option}
 use Rattle.records.specs.Headers.{program_of, bank_of}
 use Rattle.records.specs.declared.Parts.{Parts}
 use Rattle.records.specs.Looking.{first}
-use Rattle.records.specs.declared.Found.{Found}
 use Rattle.records.specs.declared.Side.{Side}
 use Rattle.records.specs.declared.Zone.{Zone}
 use Rattle.layers.specs.Ranges.{matches}
@@ -17,7 +16,7 @@ unfoldable pub is_preset : List ℕ → Parts → ℕ → ℕ → ℕ → Bool
 is_preset b m bank program h = eqb (bank_of b m h) bank && eqb (program_of b m h) program
 
 -- the first phdr record with bank and program; the terminal is not one
-unfoldable pub preset_for : List ℕ → Parts → ℕ → ℕ → Found
+unfoldable pub preset_for : List ℕ → Parts → ℕ → ℕ → Option ℕ
 preset_for b m bank program = first (is_preset b m bank program) 0 (m.presets.nheads - 1)
 
 -- whether a zone, beside the global one of its head, is sounding and matches key and velocity

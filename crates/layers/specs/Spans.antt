@@ -1,5 +1,5 @@
 -- 01, "From a key to layers": what is told of a preset, and the keys that its layers reach.
-use Rattle.std.specs.Prelude.{cond, Bool, ◌&&◌, List, ℕ, zero, suc, ◌+◌, ◌-◌, min, max, leb, ltb}
+use Rattle.std.specs.Prelude.{cond, Result, Ok, Err, Bool, ◌&&◌, List, ℕ, zero, suc, ◌+◌, ◌-◌, min, max, leb, ltb}
 use Rattle.bank.specs.Admission.{admitted}
 use Rattle.records.specs.Sides.{bag_of, head_at, parts_of}
 use Rattle.records.specs.Zones.{zone_at, global_of, zone_count}
@@ -8,6 +8,8 @@ use Rattle.records.specs.declared.Side.{Side}
 use Rattle.records.specs.declared.Zone.{Zone}
 use Rattle.layers.specs.Ranges.{key_range, velocity_range, whole}
 use Rattle.layers.specs.declared.Area.{Area}
+use Rattle.layers.specs.declared.NoSheet.{NoSheet}
+use Rattle.layers.specs.declared.NoSheet.TheVariants.{NotAdmitted, AtEnd}
 use Rattle.layers.specs.declared.Range.{Range}
 use Rattle.layers.specs.declared.Sheet.{Sheet}
 
@@ -69,18 +71,32 @@ span_below b p i h (suc n) = joined (span_below b p i h n) (zone_span b p i (zon
 unfoldable pub span_of : List ℕ → Parts → ℕ → Range
 span_of b m h = span_below b m.presets m.instruments h (zone_count b m.presets h)
 
+-- what is told of a place as numbers: a kind, where the record begins, its zones, and the lowest and highest key of its layers
+pub record SheetNumbers : Type 0 where
+  pub kind : ℕ
+  pub name : ℕ
+  pub zones : ℕ
+  pub low : ℕ
+  pub high : ℕ
+
 -- where nothing is told: the kind alone
-abbrev pub no_sheet : ℕ → Sheet
+abbrev pub no_sheet : ℕ → SheetNumbers
 no_sheet kind = record { kind = kind; name = 0; zones = 0; low = 0; high = 0 }
 
 -- the phdr record at a place: where it begins, with 20 bytes of name, its zones and its keys
-unfoldable pub row_sheet : List ℕ → Parts → ℕ → Sheet
+unfoldable pub row_sheet : List ℕ → Parts → ℕ → SheetNumbers
 row_sheet b m h =
     let keys = span_of b m h in
     record { kind = 0; name = head_at m.presets h; zones = zone_count b m.presets h; low = keys.low; high = keys.high }
 
 -- 0 and what is told of a place; 1 where the bank is not admitted; 2 at or past the terminal's place
-unfoldable pub sheet_of : List ℕ → ℕ → Sheet
+unfoldable pub sheet_of : List ℕ → ℕ → SheetNumbers
 sheet_of b at =
     let m = parts_of b in
     cond (admitted b) (cond (ltb at (m.presets.nheads - 1)) (row_sheet b m at) (no_sheet 2)) (no_sheet 1)
+
+-- the numbers of an answer: 0 with a sheet, 1 where the bank is not admitted, 2 at the end
+abbrev pub told : Result Sheet NoSheet → SheetNumbers
+told (Ok s) = record { kind = 0; name = s.name; zones = s.zones; low = s.low; high = s.high }
+told (Err NotAdmitted) = no_sheet 1
+told (Err AtEnd) = no_sheet 2

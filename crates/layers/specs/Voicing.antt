@@ -1,5 +1,5 @@
 -- 01, "From a key to layers" and "A voice, frame by frame": the voice that a layer starts, and all that a key starts.
-use Rattle.std.specs.Prelude.{false, Bool, List, map, [], ℕ, take}
+use Rattle.std.specs.Prelude.{false, Bool, List, map, [], ℕ, take, Option, None, Some, is_some}
 use Rattle.records.specs.Windows.{movers}
 use Rattle.records.specs.declared.Parts.{Parts}
 use Rattle.voice.specs.declared.Stage.TheVariants.{Delay}
@@ -11,9 +11,6 @@ use Rattle.layers.specs.Tuning.{tuning_of}
 use Rattle.totals.specs.declared.Layer.{Layer}
 use Rattle.layers.specs.LayerSearch.{layer_of, layers_of, preset_for}
 use Rattle.layers.specs.declared.Pair.{Pair}
-use Rattle.records.specs.declared.Found.{Found}
-use Rattle.records.specs.declared.Found.TheVariants.{Nothing, At}
-use Rattle.records.specs.Looking.{is_at}
 use Rattle.records.specs.Sides.{parts_of}
 
 -- the voice that a layer starts: its extent, its tuning and its envelope
@@ -58,13 +55,13 @@ unfoldable pub voices_of : List ℕ → Parts → ℕ → ℕ → ℕ → ℕ �
 voices_of b m h channel key velocity = map (voice_of b m h channel key velocity) (take 33 (layers_of b m key velocity h))
 
 -- the voices of a preset that was looked for
-abbrev voices_at : List ℕ → Parts → Found → ℕ → ℕ → ℕ → List Voice
-voices_at b m Nothing channel key velocity = []
-voices_at b m (At h) channel key velocity = voices_of b m h channel key velocity
+abbrev voices_at : List ℕ → Parts → Option ℕ → ℕ → ℕ → ℕ → List Voice
+voices_at b m None channel key velocity = []
+voices_at b m (Some h) channel key velocity = voices_of b m h channel key velocity
 
 -- whether a bank's bytes have a preset with bank and program
 unfoldable pub has_preset : List ℕ → ℕ → ℕ → Bool
-has_preset b bank program = is_at (preset_for b (parts_of b) bank program)
+has_preset b bank program = is_some (preset_for b (parts_of b) bank program)
 
 -- the voices that it starts for channel, key and velocity, in order, the first 33
 unfoldable pub struck_voices : List ℕ → ℕ → ℕ → ℕ → ℕ → ℕ → List Voice

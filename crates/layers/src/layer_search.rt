@@ -7,7 +7,7 @@ ghost use Rattle.layers.specs.Internal.LayerSearch.{searched};
 use crate::barren::{is_barren, note_barren};
 use crate::ranges::matches;
 use crate::{Layers, Pair};
-use records::{Found, Parts, Side, Zone};
+use records::{Parts, Side, Zone};
 
 // Whether a zone, with the global one of its head, is sounding and matches.
 #[tactic(auto, unfolding(crate::specs::LayerSearch::picked))]
@@ -83,16 +83,16 @@ fn is_preset(b: &[u8], m: Parts, bank: u16, program: u8, h: u32) -> bool
 }
 
 // The first phdr record with bank and program; the terminal is not one.
-pub fn preset_for(b: &[u8], m: Parts, bank: u16, program: u8) -> Found
+pub fn preset_for(b: &[u8], m: Parts, bank: u16, program: u8) -> Option<usize>
     ensures { result ≡ preset_for b.now m bank program }
 {
     let count = m.presets.nheads;
     let mut h: u32 = 0;
     while h + 1 < count {
         if is_preset(b, m, bank, program, h) {
-            return Found::At(h as usize);
+            return Some(h as usize);
         }
         h = h + 1;
     }
-    Found::Nothing
+    None
 }

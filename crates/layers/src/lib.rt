@@ -46,14 +46,20 @@ pub struct Area {
     pub velocities: Range,
 }
 
-// What is told of a preset: its kind, the byte where its record begins, its zones, and the lowest and highest key of its layers.
+// What is told of a preset: the byte where its record begins, its zones, and the lowest and highest key of its layers.
 #[derive(Clone, Copy)]
 pub struct Sheet {
-    pub kind: u8,
     pub name: u32,
     pub zones: u32,
     pub low: u8,
     pub high: u8,
+}
+
+// Why nothing is told of a place: the bank is not admitted, or the place is at or past the terminal's.
+#[derive(Clone, Copy)]
+pub enum NoSheet {
+    NotAdmitted,
+    AtEnd,
 }
 
 // The layers that the search found, and how many: it stops at the thirty-third.

@@ -1,11 +1,10 @@
 // What is told of a preset: its name's place, its zones, and the lowest and highest key of its layers.
 ghost use Rattle.std.specs.Prelude.{◌≡◌};
-ghost use Rattle.layers.specs.Spans.{area_of, layer_keys, keys_under, span_under, zone_span, span_of, sheet_of, no_sheet};
+ghost use Rattle.layers.specs.Spans.{area_of, layer_keys, keys_under, span_under, zone_span, span_of, sheet_of, told};
 ghost use Rattle.records.specs.Zones.{zone_count};
 
 use crate::ranges::{key_range, velocity_range};
-use crate::{Area, Range, Sheet};
-use arith::less;
+use crate::{Area, NoSheet, Range, Sheet};
 use records::{Parts, Side, Zone};
 
 // The keys and velocities that match a zone, with the global one of its head: those of a note-on.
@@ -84,37 +83,23 @@ fn span_of(b: &[u8], m: Parts, h: u32) -> Range
     span
 }
 
-// A sheet on which nothing is told but its kind.
-fn no_sheet(kind: u8) -> Sheet
-    ensures { result ≡ no_sheet kind }
+// The sheet of the phdr record at a place, where the bank is admitted and the record is not the terminal.
+pub fn preset_sheet(bank: &[u8], place: u32) -> Result<Sheet, NoSheet>
+    ensures { told result ≡ sheet_of bank.now place }
 {
-    Sheet {
-        kind,
-        name: 0,
-        zones: 0,
-        low: 0,
-        high: 0,
+    if !bank::admitted(bank) {
+        return Err(NoSheet::NotAdmitted);
     }
-}
-
-// The sheet of the phdr record at a place: 0 and what is told of it, 1 where the bank is not admitted, 2 at or past the terminal.
-pub fn preset_sheet(bank: &[u8], place: u32) -> Sheet
-    ensures { result ≡ sheet_of bank.now place }
-{
-    if bank::admitted(bank) {
-        let m = records::parts_of(bank);
-        let p = m.presets;
-        if place < less(p.nheads, 1) {
-            let keys = span_of(bank, m, place);
-            return Sheet {
-                kind: 0,
-                name: ((p.heads as usize) + records::times(p.width, place as usize)) as u32,
-                zones: records::zone_count(bank, p, place) as u32,
-                low: keys.low,
-                high: keys.high,
-            };
-        }
-        return no_sheet(2);
+    let m = records::parts_of(bank);
+    let p = m.presets;
+    if p.nheads.saturating_sub(1) <= place {
+        return Err(NoSheet::AtEnd);
     }
-    no_sheet(1)
+    let keys = span_of(bank, m, place);
+    Ok(Sheet {
+        name: ((p.heads as usize) + records::times(p.width, place as usize)) as u32,
+        zones: u32::from(records::zone_count(bank, p, place)),
+        low: keys.low,
+        high: keys.high,
+    })
 }

@@ -1,6 +1,5 @@
 // The voices that a key starts (01, "From a key to layers").
 ghost use Rattle.std.specs.Prelude.{◌≡◌};
-ghost use Rattle.curves.specs.Octave.{octaves};
 ghost use Rattle.layers.specs.LayerSearch.{layer_of};
 ghost use Rattle.layers.specs.Voicing.{voice_by, voices_of};
 ghost use Rattle.layers.specs.Internal.Voicing.{struck_of};
@@ -38,7 +37,6 @@ fn voice_by(
     velocity: u8,
     t: &OctaveTable,
 ) -> Voice
-    requires { t.now ≡ octaves }
     ensures { result ≡ voice_by b.now m l channel key velocity }
 {
     let values = LayerValues::of(b, m, l);
@@ -85,7 +83,7 @@ pub fn voices_for(b: &[u8], m: Parts, h: u32, channel: u8, key: u8, velocity: u8
     if 32 < count {
         return Struck { count, voices };
     }
-    let t = curves::octaves();
+    let t = OctaveTable::new();
     let n = count as usize;
     let mut i: usize = 0;
     while i < n {

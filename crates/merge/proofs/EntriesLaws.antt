@@ -1,4 +1,6 @@
 -- Laws of a track's entries: each leads further, so that the turns are enough, and its tick has a bound.
+use Rattle.smf.specs.declared.Quantity.{Quantity}
+use Rattle.std.proofs.Common.{Option, Some, None}
 use mathlib.Core.Bool.{Bool, true, false, cond, true≢false}
 use mathlib.Core.List.{List, [], ◌∷◌}
 use mathlib.Core.Path.{◌≡◌, refl, sym, ap, subst, ◌∙◌}
@@ -8,17 +10,13 @@ use native.Mathlib.Numerals.{add-one}
 use lib.ListN.{length}
 use Rattle.smf.specs.declared.Item.{Item}
 use Rattle.smf.specs.declared.Item.TheVariants.{Bad, End, Passed, Tempo, Channel}
-use Rattle.smf.specs.declared.Quantity.{Quantity}
-use Rattle.smf.specs.declared.Quantity.TheVariants.{Good}
-use Rattle.smf.specs.Quantities.{quantity_at}
+use Rattle.smf.specs.Quantities.{quantity_at, quantity}
 use Rattle.smf.specs.Items.{item_at}
 use Rattle.smf.specs.Track.{is_bad}
 use Rattle.smf.specs.Songs.{turns}
 use Rattle.smf.proofs.QuantitiesLaws.{quantity-behind}
 use Rattle.smf.proofs.ItemsLaws.{Placed, item-placed}
 use Rattle.merge.specs.declared.Entry.{Entry}
-use Rattle.merge.specs.declared.Spot.{Spot}
-use Rattle.merge.specs.declared.Spot.TheVariants.{None, At}
 use Rattle.merge.specs.Entries.{no_tick, noted, settled_at, gone, behind_item, advanced_of, entries_from, flaw_behind, flaw_from}
 use Rattle.merge.specs.Internal.Entries.{EndsIn, Seated, Settled, goes_on, flaw_at}
 
@@ -26,12 +24,12 @@ use Rattle.merge.specs.Internal.Entries.{EndsIn, Seated, Settled, goes_on, flaw_
 
 module _ (b : List ℕ) (end running at tick : ℕ) where
   -- a delta time that is not well formed
-  pub settled-bad : quantity_at b end at ≡ Quantity.Bad → settled_at b end running at tick ≡ noted Bad tick at end
+  pub settled-bad : quantity_at b end at ≡ None → settled_at b end running at tick ≡ noted Bad tick at end
   unfolding settled_at
   settled-bad e = rw (e, settled_at) refl
 
   -- one that is
-  pub settled-good : (ticks place : ℕ) → quantity_at b end at ≡ Good ticks place → settled_at b end running at tick ≡ noted (item_at b end running place) (tick + ticks) place end
+  pub settled-good : (ticks place : ℕ) → quantity_at b end at ≡ quantity ticks place → settled_at b end running at tick ≡ noted (item_at b end running place) (tick + ticks) place end
   unfolding settled_at
   settled-good ticks place e = rw (e, settled_at) refl
 
@@ -47,22 +45,22 @@ ends-in place end (Channel status first second behind) p = (p.after, p.before)
 pub seated-at : (b : List ℕ) (end running at tick : ℕ) → end ≤ length b → Seated b (settled_at b end running at tick) × (at ≤ (settled_at b end running at tick).place)
 seated-at b end running at tick h = go (quantity_at b end at) refl
   where
-    go : (q : Quantity) → quantity_at b end at ≡ q → Seated b (settled_at b end running at tick) × (at ≤ (settled_at b end running at tick).place)
-    go Quantity.Bad e = rw (settled-bad b end running at tick e) (record { held = h; item_in = tt }, omega arith)
-    go (Good ticks place) e =
-        let q = quantity-behind b end at ticks place e in
-        rw (settled-good b end running at tick ticks place e)
-        (record { held = h; item_in = ends-in place end (item_at b end running place) (item-placed b end running place) }, omega (arith, q))
+    go : (q : Option Quantity) → quantity_at b end at ≡ q → Seated b (settled_at b end running at tick) × (at ≤ (settled_at b end running at tick).place)
+    go None e = rw (settled-bad b end running at tick e) (record { held = h; item_in = tt }, omega arith)
+    go (Some y) e =
+        let q = quantity-behind b end at y.value y.behind e in
+        rw (settled-good b end running at tick y.value y.behind e)
+        (record { held = h; item_in = ends-in y.behind end (item_at b end running y.behind) (item-placed b end running y.behind) }, omega (arith, q))
 
 -- its tick: none where it is not well formed
 module _ (b : List ℕ) (end running at tick : ℕ) (short : length b ≤ 16777216) (held : end ≤ length b) where
-  pub settled-none : quantity_at b end at ≡ Quantity.Bad → Settled b (settled_at b end running at tick)
+  pub settled-none : quantity_at b end at ≡ None → Settled b (settled_at b end running at tick)
   settled-none e =
       let s = (seated-at b end running at tick held).0 in
       let n = settled-bad b end running at tick e in
       record { seated = s; short = short; good = rw n (λ f. let z : ◌≡◌ {A = ℕ} 0 1 = cc in absurd (omega arith)); bad = rw n (λ f. refl) }
 
-  pub settled-some : (ticks place : ℕ) → tick ≤ at * 268435456 → ticks < 268435456 → quantity_at b end at ≡ Good ticks place → Settled b (settled_at b end running at tick)
+  pub settled-some : (ticks place : ℕ) → tick ≤ at * 268435456 → ticks < 268435456 → quantity_at b end at ≡ quantity ticks place → Settled b (settled_at b end running at tick)
   settled-some ticks place t small e =
       let s = (seated-at b end running at tick held).0 in
       let q = quantity-behind b end at ticks place e in
@@ -157,7 +155,7 @@ pub flaw-stop : (n : ℕ) (b : List ℕ) (e : Entry) → goes_on e.item ≡ fals
 unfolding flaw_at flaw_from
 flaw-stop n b e g = go e.item g
   where
-    go : (i : Item) → goes_on i ≡ false → flaw_behind i e.place (flaw_from n b (advanced_of b e)) ≡ cond (is_bad i) (At e.place) None
+    go : (i : Item) → goes_on i ≡ false → flaw_behind i e.place (flaw_from n b (advanced_of b e)) ≡ cond (is_bad i) (Some e.place) None
     go Bad f = refl
     go End f = refl
     go (Passed behind) f = absurd (true≢false f)

@@ -1,4 +1,5 @@
 -- What was written is read back as the sequence of its own marks, so that merging it again changes no byte.
+use Rattle.std.proofs.Common.{None}
 use mathlib.Core.Bool.{Bool, true, false, not, ◌&&◌}
 use mathlib.Core.List.{List, [], ◌∷◌, ◌++◌, append-nil}
 use mathlib.Core.Path.{◌≡◌, refl, sym, ap, ap₂, subst, ◌∙◌}
@@ -19,7 +20,6 @@ use Rattle.smf.proofs.HeadLaws.{Held, track-found, track-turn}
 use Rattle.smf.proofs.SpellingLaws.{read-quantity, end_read, item_of, mark-read, mark-good, ticks-good, marks-fit, Written, written}
 use Rattle.merge.specs.declared.Entry.{Entry}
 use Rattle.merge.specs.declared.Front.{Front}
-use Rattle.merge.specs.declared.Spot.TheVariants.{None}
 use Rattle.merge.specs.Fronts.{count_number, front_of}
 use Rattle.merge.specs.Entries.{noted, settled_at, advanced_of, entries_from, flaw_from}
 use Rattle.merge.specs.Lanes.{first_entry, flaw_of, lanes_from, flaw_in, entries_of}

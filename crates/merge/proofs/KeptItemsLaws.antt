@@ -1,4 +1,6 @@
 -- Every event of a sequence has numbers that a mark can have.
+use Rattle.smf.specs.declared.Quantity.{Quantity}
+use Rattle.std.proofs.Common.{Option, Some, None}
 use mathlib.Core.Bool.{Bool, true, false, cond, ◌||◌}
 use mathlib.Core.List.{List, [], ◌∷◌}
 use mathlib.Core.Path.{◌≡◌, refl}
@@ -9,8 +11,6 @@ use lib.ListN.{length}
 use Rattle.arith.specs.Bytes.{AllBytes, u8_at}
 use Rattle.smf.specs.declared.Item.{Item}
 use Rattle.smf.specs.declared.Item.TheVariants.{Bad, End, Passed, Tempo, Channel}
-use Rattle.smf.specs.declared.Quantity.{Quantity}
-use Rattle.smf.specs.declared.Quantity.TheVariants.{Good}
 use Rattle.smf.specs.Quantities.{two_at, three_at, quantity_at}
 use Rattle.smf.specs.Items.{is_channel, is_short, short_at, long_at, spoken_at, exclusive_at, meta_of, meta_at, item_at}
 use Rattle.smf.specs.Track.{is_bad}
@@ -19,8 +19,6 @@ use Rattle.smf.proofs.ItemsLaws.{either, Placed, item-placed}
 use Rattle.merge.specs.declared.Entry.{Entry}
 use Rattle.merge.specs.Entries.{settled_at, advanced_of, entries_from}
 use Rattle.merge.specs.Lanes.{lanes_from, entries_of, first_entry, flaw_of}
-use Rattle.merge.specs.declared.Spot.{Spot}
-use Rattle.merge.specs.declared.Spot.TheVariants.{None, At}
 use Rattle.merge.specs.Merging.{sequence_of}
 use Rattle.smf.specs.declared.Header.{Header}
 use Rattle.smf.specs.declared.Header.TheVariants.{Refused, Track}
@@ -67,9 +65,9 @@ module _ (b : List ℕ) (a : AllBytes b) (edge : ℕ) where
   unfolding exclusive_at
   exclusive-slow at = go (quantity_at b edge at)
     where
-      go : (q : Quantity) → Slow (elim q [ Quantity.Bad ↦ Bad | Good n p ↦ cond (ltb edge (p + n)) Bad (Passed (p + n)) ])
-      go Quantity.Bad = tt
-      go (Good n p) = either Slow (ltb edge (p + n)) Bad (Passed (p + n)) (λ t. tt) (λ t. tt)
+      go : (q : Option Quantity) → Slow (elim q [ None ↦ Bad | Some q ↦ cond (ltb edge (q.behind + q.value)) Bad (Passed (q.behind + q.value)) ])
+      go None = tt
+      go (Some q) = either Slow (ltb edge (q.behind + q.value)) Bad (Passed (q.behind + q.value)) (λ t. tt) (λ t. tt)
 
   -- a meta event by its type
   meta-of-slow : (kind n at : ℕ) → Slow (meta_of b kind n at)
@@ -83,9 +81,9 @@ module _ (b : List ℕ) (a : AllBytes b) (edge : ℕ) where
   unfolding meta_at
   meta-slow at = go (quantity_at b edge (at + 1))
     where
-      go : (q : Quantity) → Slow (elim q [ Quantity.Bad ↦ Bad | Good n p ↦ cond (ltb 127 (u8_at b at) || ltb edge (p + n)) Bad (meta_of b (u8_at b at) n p) ])
-      go Quantity.Bad = tt
-      go (Good n p) = either Slow (ltb 127 (u8_at b at) || ltb edge (p + n)) Bad (meta_of b (u8_at b at) n p) (λ t. tt) (λ t. meta-of-slow (u8_at b at) n p)
+      go : (q : Option Quantity) → Slow (elim q [ None ↦ Bad | Some q ↦ cond (ltb 127 (u8_at b at) || ltb edge (q.behind + q.value)) Bad (meta_of b (u8_at b at) q.value q.behind) ])
+      go None = tt
+      go (Some q) = either Slow (ltb 127 (u8_at b at) || ltb edge (q.behind + q.value)) Bad (meta_of b (u8_at b at) q.value q.behind) (λ t. tt) (λ t. meta-of-slow (u8_at b at) q.value q.behind)
 
   -- every event
   item-slow : (running at : ℕ) → Slow (item_at b edge running at)
@@ -113,11 +111,11 @@ module _ (b : List ℕ) (a : AllBytes b) where
   settled-fair : (end running at tick : ℕ) → Fair (settled_at b end running at tick).item
   settled-fair end running at tick = go (quantity_at b end at) refl
     where
-      go : (q : Quantity) → quantity_at b end at ≡ q → Fair (settled_at b end running at tick).item
-      go Quantity.Bad e = rw (settled-bad b end running at tick e) tt
-      go (Good ticks place) e =
-          rw (settled-good b end running at tick ticks place e)
-          (fair-by end place (item_at b end running place) (item-placed b end running place) (item-slow b a end running place))
+      go : (q : Option Quantity) → quantity_at b end at ≡ q → Fair (settled_at b end running at tick).item
+      go None e = rw (settled-bad b end running at tick e) tt
+      go (Some q) e =
+          rw (settled-good b end running at tick q.value q.behind e)
+          (fair-by end q.behind (item_at b end running q.behind) (item-placed b end running q.behind) (item-slow b a end running q.behind))
 
   -- the next event of a track
   advanced-fair : (e : Entry) → Fair (advanced_of b e).item
@@ -169,9 +167,9 @@ module _ (P : Entry → Type 0) (b : List ℕ) (start : (begin end : ℕ) → be
   each_lane zero at = tt
   each_lane (suc n) at = go (each_lane n) (track_from (length b) b at) refl
     where
-      by : (begin end : ℕ) → track_from (length b) b at ≡ Track begin end → Each P (lanes_from n b end) → (s : Spot) → flaw_of b (first_entry b begin end) ≡ s → Each P (lanes_from (suc n) b at)
+      by : (begin end : ℕ) → track_from (length b) b at ≡ Track begin end → Each P (lanes_from n b end) → (s : Option ℕ) → flaw_of b (first_entry b begin end) ≡ s → Each P (lanes_from (suc n) b at)
       by begin end e more None f = rw (lanes_on b n at begin end e f).0 (start begin end (track-begins (length b) b at begin end e).1 (track-held (length b) b at begin end e), more)
-      by begin end e more (At place) f = rw (lanes-flawed b n at begin end place e f).0 (start begin end (track-begins (length b) b at begin end e).1 (track-held (length b) b at begin end e), tt)
+      by begin end e more (Some place) f = rw (lanes-flawed b n at begin end place e f).0 (start begin end (track-begins (length b) b at begin end e).1 (track-held (length b) b at begin end e), tt)
 
       go : ((from : ℕ) → Each P (lanes_from n b from)) → (h : Header) → track_from (length b) b at ≡ h → Each P (lanes_from (suc n) b at)
       go more (Refused number place) e = rw (lanes-cut b n at number place e).0 tt

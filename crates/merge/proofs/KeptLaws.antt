@@ -1,4 +1,5 @@
 -- What is promised of merging: the events are kept.
+use Rattle.std.proofs.Common.{Option, Some, None}
 use mathlib.Core.Bool.{Bool, true, false, cond}
 use mathlib.Core.List.{List}
 use mathlib.Core.Path.{◌≡◌, refl, sym, ap, subst, ◌∙◌}
@@ -13,8 +14,6 @@ use Rattle.smf.specs.Songs.{events_of}
 use Rattle.smf.specs.Spelling.{GoodScore, file_bytes}
 use Rattle.smf.proofs.SpellingLaws.{written-is-rung}
 use Rattle.merge.specs.declared.Front.{Front}
-use Rattle.merge.specs.declared.Spot.{Spot}
-use Rattle.merge.specs.declared.Spot.TheVariants.{None, At}
 use Rattle.merge.specs.Fronts.{front_of}
 use Rattle.merge.specs.Lanes.{lanes_from, flaw_in, entries_of}
 use Rattle.merge.specs.Lateness.{late_of, struck_of}
@@ -41,9 +40,9 @@ pub record JoinedBy (b w : List ℕ) (count division at : ℕ) : Type 0 where
   pub bytes : joined_file division (sequence_of count b at) ≡ w
 
 -- what is judged good
-judged-good : (late flaw : Spot) (o : Joined) (w : List ℕ) → judged late flaw o ≡ Issued w → (late ≡ None) × (flaw ≡ None) × (o ≡ Issued w)
-judged-good (At place) flaw o w e = absurd (never-written 11 place w e)
-judged-good None (At place) o w e = absurd (never-written 9 place w e)
+judged-good : (late flaw : Option ℕ) (o : Joined) (w : List ℕ) → judged late flaw o ≡ Issued w → (late ≡ None) × (flaw ≡ None) × (o ≡ Issued w)
+judged-good (Some place) flaw o w e = absurd (never-written 11 place w e)
+judged-good None (Some place) o w e = absurd (never-written 9 place w e)
 judged-good None None o w e = (refl, refl, e)
 
 -- what fits

@@ -1,4 +1,6 @@
 -- What is written is never longer than a chunk's length can say: the tracks have fewer events than bytes, and bridges need ticks.
+use Rattle.smf.specs.declared.Quantity.{Quantity}
+use Rattle.std.proofs.Common.{Option, Some, None}
 use mathlib.Core.Bool.{Bool, true, false, cond, true≢false, ◌&&◌}
 use mathlib.Core.List.{List, [], ◌∷◌, ◌++◌}
 use mathlib.Core.Path.{◌≡◌, refl, sym, ap, subst, ◌∙◌}
@@ -12,8 +14,6 @@ use Rattle.smf.specs.declared.Header.{Header}
 use Rattle.smf.specs.declared.Header.TheVariants.{Refused, Track}
 use Rattle.smf.specs.declared.Item.{Item}
 use Rattle.smf.specs.declared.Item.TheVariants.{Bad, End, Passed, Tempo, Channel}
-use Rattle.smf.specs.declared.Quantity.{Quantity}
-use Rattle.smf.specs.declared.Quantity.TheVariants.{Good}
 use Rattle.smf.specs.Quantities.{quantity_at}
 use Rattle.smf.specs.Head.{track_from}
 use Rattle.smf.specs.Track.{is_bad}
@@ -24,8 +24,6 @@ use Rattle.smf.proofs.QuantitiesLaws.{quantity-behind, quantity-value}
 use Rattle.smf.proofs.SpellingLaws.{written}
 use Rattle.merge.specs.declared.Entry.{Entry}
 use Rattle.merge.specs.declared.Front.{Front}
-use Rattle.merge.specs.declared.Spot.{Spot}
-use Rattle.merge.specs.declared.Spot.TheVariants.{None, At}
 use Rattle.merge.specs.Entries.{settled_at, advanced_of, entries_from}
 use Rattle.merge.specs.Fronts.{front_of}
 use Rattle.merge.specs.Lateness.{late_of}
@@ -57,15 +55,15 @@ module _ (b : List ℕ) (a : AllBytes b) (short : length b ≤ 16777216) where
   lies_at : (end running at tick : ℕ) → end ≤ length b → at ≤ end → tick ≤ at * 268435456 → Lies b (settled_at b end running at tick) × ((settled_at b end running at tick).end ≡ end)
   lies_at end running at tick held h t = go (quantity_at b end at) refl
     where
-      go : (q : Quantity) → quantity_at b end at ≡ q → Lies b (settled_at b end running at tick) × ((settled_at b end running at tick).end ≡ end)
-      go Quantity.Bad e =
+      go : (q : Option Quantity) → quantity_at b end at ≡ q → Lies b (settled_at b end running at tick) × ((settled_at b end running at tick).end ≡ end)
+      go None e =
           let same = settled-bad b end running at tick e in
           (record { settled = settled-none b end running at tick short held e; inside = rw same h }, rw same refl)
-      go (Good ticks place) e =
-          let same = settled-good b end running at tick ticks place e in
-          let q = quantity-behind b end at ticks place e in
-          let v = quantity-value b end at ticks place (byte_at b a) e in
-          (record { settled = settled-some b end running at tick short held ticks place t v e; inside = rw same q.1 }, rw same refl)
+      go (Some y) e =
+          let same = settled-good b end running at tick y.value y.behind e in
+          let q = quantity-behind b end at y.value y.behind e in
+          let v = quantity-value b end at y.value y.behind (byte_at b a) e in
+          (record { settled = settled-some b end running at tick short held y.value y.behind t v e; inside = rw same q.1 }, rw same refl)
 
   -- so does the next, in the same track
   lies-on : (e : Entry) → Lies b e → Lies b (advanced_of b e) × ((advanced_of b e).end ≡ e.end)
@@ -137,7 +135,7 @@ module _ (b : List ℕ) (a : AllBytes b) (short : length b ≤ 16777216) where
           let from = (seated-at b end 0 begin 0 q).1 in
           omega (arith, few, from, l.1)
 
-      by : (begin end : ℕ) → track_from (length b) b at ≡ Track begin end → length (entries_of b (lanes_from n b end)) + end ≤ length b → (s : Spot) → flaw_of b (first_entry b begin end) ≡ s
+      by : (begin end : ℕ) → track_from (length b) b at ≡ Track begin end → length (entries_of b (lanes_from n b end)) + end ≤ length b → (s : Option ℕ) → flaw_of b (first_entry b begin end) ≡ s
           → length (entries_of b (lanes_from (suc n) b at)) + at ≤ length b
       by begin end e more None f =
           let k = track-begins (length b) b at begin end e in
@@ -145,7 +143,7 @@ module _ (b : List ℕ) (a : AllBytes b) (short : length b ≤ 16777216) where
           let l = length-append (entries_from (turns b) b (first_entry b begin end)) (entries_of b (lanes_from n b end)) in
           let same = ap (λ (es : List Entry). length (entries_of b es)) (lanes_on b n at begin end e f).0 in
           omega (arith, k, few, l, same, more)
-      by begin end e more (At place) f =
+      by begin end e more (Some place) f =
           let k = track-begins (length b) b at begin end e in
           let held = track-held (length b) b at begin end e in
           let few = first-few begin end k.1 held in

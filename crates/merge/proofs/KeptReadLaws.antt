@@ -1,4 +1,6 @@
 -- A file of format 0 is merged as M-101 reads it: with the same events, or the same refusal.
+use Rattle.smf.specs.declared.Quantity.{Quantity}
+use Rattle.std.proofs.Common.{Option, Some, None}
 use mathlib.Core.Bool.{Bool, true, false, cond, not, ◌||◌}
 use mathlib.Core.List.{List, [], ◌∷◌, append-nil}
 use mathlib.Core.Logic.{◌⊎◌, inl, inr, ⊎_elim}
@@ -15,9 +17,7 @@ use Rattle.smf.specs.declared.Header.{Header}
 use Rattle.smf.specs.declared.Item.{Item}
 use Rattle.smf.specs.declared.Item.TheVariants.{Bad, End, Passed, Tempo, Channel}
 use Rattle.smf.specs.declared.Met.{Met}
-use Rattle.smf.specs.declared.Quantity.{Quantity}
-use Rattle.smf.specs.declared.Quantity.TheVariants.{Good}
-use Rattle.smf.specs.Quantities.{two_at, four_at, quantity_at}
+use Rattle.smf.specs.Quantities.{two_at, four_at, quantity_at, quantity}
 use Rattle.smf.specs.Head.{head_name, track_name, chunk_end, track_from, head_of}
 use Rattle.smf.specs.Items.{item_at}
 use Rattle.smf.specs.Ticks.{sum_after, is_late, frame_of}
@@ -30,8 +30,6 @@ use Rattle.smf.proofs.SongsLaws.{events-is, has-track}
 use Rattle.smf.proofs.TrackLaws.{song_by, song-is}
 use Rattle.merge.specs.declared.Entry.{Entry}
 use Rattle.merge.specs.declared.Front.{Front}
-use Rattle.merge.specs.declared.Spot.{Spot}
-use Rattle.merge.specs.declared.Spot.TheVariants.{None, At}
 use Rattle.merge.specs.Fronts.{count_number, front_of}
 use Rattle.merge.specs.Entries.{noted, settled_at, advanced_of, entries_from, flaw_from}
 use Rattle.merge.specs.Lanes.{first_entry, flaw_of, lanes_from, flaw_in, entries_of}
@@ -83,19 +81,19 @@ places-from (suc n) b e place s h =
     go more false = (h, more)
 
 -- a place that is found lies at a place or behind it
-abbrev SpotFrom : ℕ → Spot → Type 0
+abbrev SpotFrom : ℕ → Option ℕ → Type 0
 SpotFrom place None = Unit {0}
-SpotFrom place (At other) = place ≤ other
+SpotFrom place (Some other) = place ≤ other
 
 -- so of those that are late the first is the nearest
-nearest : (place : ℕ) (s : Spot) → SpotFrom place s → nearer place s ≡ At place
+nearest : (place : ℕ) (s : Option ℕ) → SpotFrom place s → nearer place s ≡ Some place
 nearest place None h = refl
-nearest place (At other) h = ap At (omega (arith, h))
+nearest place (Some other) h = ap Some (omega (arith, h))
 
 -- the smaller of two places
-spot-nearer : (place at : ℕ) (s : Spot) → place ≤ at → SpotFrom place s → SpotFrom place (nearer at s)
+spot-nearer : (place at : ℕ) (s : Option ℕ) → place ≤ at → SpotFrom place s → SpotFrom place (nearer at s)
 spot-nearer place at None h k = h
-spot-nearer place at (At other) h k = omega (arith, h, k)
+spot-nearer place at (Some other) h k = omega (arith, h, k)
 
 -- what is late lies where the events lie
 late-from : (es : List Entry) (division tick tempo sum place : ℕ) → AllFrom place es → SpotFrom place (late_from division tick tempo sum es)
@@ -128,10 +126,10 @@ track-ordered (suc n) b e = go (track-ordered n b (advanced_of b e)) (is_bad e.i
 -- ---- 2. A song and the events of its track
 
 -- what a song tells of the events of its track, from a tick, a tempo and a U on, and of the track's fault
-abbrev Tells : ℕ → ℕ → ℕ → ℕ → Song → List Entry → Spot → Type 0
+abbrev Tells : ℕ → ℕ → ℕ → ℕ → Song → List Entry → Option ℕ → Type 0
 Tells division tick tempo sum (Events es) xs flaw = (struck_from division tick tempo sum xs ≡ es) × (late_from division tick tempo sum xs ≡ None) × (flaw ≡ None)
 Tells division tick tempo sum (Refused number place) xs flaw =
-    ((number ≡ 9) × (late_from division tick tempo sum xs ≡ None) × (flaw ≡ At place)) ⊎ ((number ≡ 11) × (late_from division tick tempo sum xs ≡ At place))
+    ((number ≡ 9) × (late_from division tick tempo sum xs ≡ None) × (flaw ≡ Some place)) ⊎ ((number ≡ 11) × (late_from division tick tempo sum xs ≡ Some place))
 
 module _ (division tick tempo sum u next : ℕ) (e : Entry) (xs : List Entry) (s : sum_at tick tempo sum e ≡ u) (t : tempo_after tempo e.item ≡ next) where
   -- an event that is not past an hour
@@ -140,7 +138,7 @@ module _ (division tick tempo sum u next : ℕ) (e : Entry) (xs : List Entry) (s
   late-skip l = rw (s, l, t) refl
 
   -- one that is
-  late-here : is_late division u ≡ true → AllFrom e.place xs → late_from division tick tempo sum (e ∷ xs) ≡ At e.place
+  late-here : is_late division u ≡ true → AllFrom e.place xs → late_from division tick tempo sum (e ∷ xs) ≡ Some e.place
   unfolding late_from
   late-here l a = rw (s, l, t) (nearest e.place (late_from division e.tick next u xs) (late-from xs division e.tick next u e.place a))
 
@@ -150,20 +148,20 @@ module _ (division tick tempo sum u next : ℕ) (e : Entry) (xs : List Entry) (s
   struck-on = rw (s, t) refl
 
   -- an event that is not heard
-  tells-quiet : (song : Song) (flaw : Spot) → is_late division u ≡ false → ((frame : ℕ) (es : List Event) → sounding frame e.item es ≡ es)
+  tells-quiet : (song : Song) (flaw : Option ℕ) → is_late division u ≡ false → ((frame : ℕ) (es : List Event) → sounding frame e.item es ≡ es)
       → Tells division e.tick next u song xs flaw → Tells division tick tempo sum song (e ∷ xs) flaw
   tells-quiet (Events es) flaw l q h = (struck-on ∙ q (frame_of division u) (struck_from division e.tick next u xs) ∙ h.0, late-skip l ∙ h.1, h.2)
   tells-quiet (Refused number place) flaw l q h = ⊎_elim (λ x. inl (x.0, late-skip l ∙ x.1, x.2)) (λ x. inr (x.0, late-skip l ∙ x.1)) h
 
   -- one that is
-  tells-heard : (song : Song) (flaw : Spot) (event : Event) → is_late division u ≡ false → ((es : List Event) → sounding (frame_of division u) e.item es ≡ event ∷ es)
+  tells-heard : (song : Song) (flaw : Option ℕ) (event : Event) → is_late division u ≡ false → ((es : List Event) → sounding (frame_of division u) e.item es ≡ event ∷ es)
       → Tells division e.tick next u song xs flaw → Tells division tick tempo sum (behind_event event song) (e ∷ xs) flaw
   tells-heard (Events es) flaw event l q h =
       (struck-on ∙ q (struck_from division e.tick next u xs) ∙ ap (λ (ys : List Event). event ∷ ys) h.0, late-skip l ∙ h.1, h.2)
   tells-heard (Refused number place) flaw event l q h = ⊎_elim (λ x. inl (x.0, late-skip l ∙ x.1, x.2)) (λ x. inr (x.0, late-skip l ∙ x.1)) h
 
 -- the same of the same
-tells-by : (division tick tempo sum : ℕ) (song song' : Song) (xs xs' : List Entry) (flaw flaw' : Spot) → song ≡ song' → xs ≡ xs' → flaw ≡ flaw'
+tells-by : (division tick tempo sum : ℕ) (song song' : Song) (xs xs' : List Entry) (flaw flaw' : Option ℕ) → song ≡ song' → xs ≡ xs' → flaw ≡ flaw'
     → Tells division tick tempo sum song' xs' flaw' → Tells division tick tempo sum song xs flaw
 tells-by division tick tempo sum song song' xs xs' flaw flaw' p q r h = rw (p, q, r) h
 
@@ -227,14 +225,14 @@ module _ (n : ℕ) (b : List ℕ) (c : Cursor) (tick : ℕ) (held : c.end ≤ le
   Told = Tells c.division tick c.tempo c.sum (song_from (suc n) b c) (entries_from (suc n) b first) (flaw_from (suc n) b first)
 
   -- a delta time that is not well formed
-  tells_none : quantity_at b c.end c.at ≡ Quantity.Bad → Told
+  tells_none : quantity_at b c.end c.at ≡ None → Told
   tells_none q =
-      let m = meet-bad b c (subst (λ (x : ℕ). quantity_at b x c.at ≡ Quantity.Bad) (sym edge) q) in
+      let m = meet-bad b c (subst (λ (x : ℕ). quantity_at b x c.at ≡ None) (sym edge) q) in
       let same = settled-bad b c.end c.running c.at tick q in
       tells-by c.division tick c.tempo c.sum _ _ _ _ _ _ (song-is b c n (Met.Fault 9 c.at) m) (ap (entries_from (suc n) b) same) (ap (flaw_from (suc n) b) same)
       (tells-fault n b c.division tick c.tempo c.sum tick c.at c.end)
 
-  module _ (ticks place : ℕ) (q : quantity_at b c.end c.at ≡ Good ticks place) where
+  module _ (ticks place : ℕ) (q : quantity_at b c.end c.at ≡ quantity ticks place) where
     -- U there
     abbrev sum : ℕ
     sum = sum_after c ticks
@@ -242,7 +240,7 @@ module _ (n : ℕ) (b : List ℕ) (c : Cursor) (tick : ℕ) (held : c.end ≤ le
     -- what is met
     met-is : (i : Item) → item_at b c.end c.running place ≡ i → meet_at b c ≡ obeyed i c sum place
     met-is i p =
-        meet-good b c ticks place (subst (λ (x : ℕ). quantity_at b x c.at ≡ Good ticks place) (sym edge) q)
+        meet-good b c ticks place (subst (λ (x : ℕ). quantity_at b x c.at ≡ quantity ticks place) (sym edge) q)
         ∙ ap (λ (x : ℕ). obeyed (item_at b x c.running place) c sum place) edge
         ∙ ap (λ (x : Item). obeyed x c sum place) p
 
@@ -354,9 +352,9 @@ song-tells : (n : ℕ) (b : List ℕ) → TellsFrom n b
 song-tells zero b c tick held in' enough = absurd (omega (arith, in', enough))
 song-tells (suc n) b c tick held in' enough = go (song-tells n b) (quantity_at b c.end c.at) refl
   where
-    go : TellsFrom n b → (q : Quantity) → quantity_at b c.end c.at ≡ q → Told n b c tick held
-    go more Quantity.Bad q = tells_none n b c tick held q
-    go more (Good ticks place) q = tells-item n b c tick held ticks place q (quantity-behind b c.end c.at ticks place q).0 enough more
+    go : TellsFrom n b → (q : Option Quantity) → quantity_at b c.end c.at ≡ q → Told n b c tick held
+    go more None q = tells_none n b c tick held q
+    go more (Some y) q = tells-item n b c tick held y.value y.behind q (quantity-behind b c.end c.at y.value y.behind q).0 enough more
 
 -- ---- 4. The head
 
@@ -447,9 +445,9 @@ module _ (b : List ℕ) (at begin end : ℕ) (e : track_from (length b) b at ≡
           ∙ ap in_order (append-nil (entries_from (turns b) b (first_entry b begin end)))
           ∙ order-stays (entries_from (turns b) b (first_entry b begin end)) (track-ordered (turns b) b (first_entry b begin end))
 
-      go : (s : Spot) → flaw_of b (first_entry b begin end) ≡ s → (sequence_of 1 b at ≡ entries_from (turns b) b (first_entry b begin end)) × (flaw_in 1 b at ≡ flaw_of b (first_entry b begin end))
+      go : (s : Option ℕ) → flaw_of b (first_entry b begin end) ≡ s → (sequence_of 1 b at ≡ entries_from (turns b) b (first_entry b begin end)) × (flaw_in 1 b at ≡ flaw_of b (first_entry b begin end))
       go None f = let l = lanes_on b 0 at begin end e f in (by l.0, l.1 ∙ sym f)
-      go (At place) f = let l = lanes-flawed b 0 at begin end place e f in (by l.0, l.1 ∙ sym f)
+      go (Some place) f = let l = lanes-flawed b 0 at begin end place e f in (by l.0, l.1 ∙ sym f)
 
   -- what its song tells
   one-tells : (song : Song) → song_from (turns b) b (start_at b begin end) ≡ song → Tells (two_at b 12) 0 500000 0 song (sequence_of 1 b at) (flaw_in 1 b at)

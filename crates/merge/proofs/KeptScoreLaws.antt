@@ -1,4 +1,5 @@
 -- The score of a sequence keeps its events and its time: bridges change no U, and what is left out adds its ticks to what comes next.
+use Rattle.std.proofs.Common.{Option, Some, None}
 use mathlib.Core.Bool.{Bool, true, false, cond, not, ◌&&◌}
 use mathlib.Core.List.{List, [], ◌∷◌}
 use mathlib.Core.Path.{◌≡◌, refl, ap, subst, ◌∙◌}
@@ -12,8 +13,6 @@ use Rattle.smf.specs.declared.Item.TheVariants.{Bad, End, Passed, Tempo, Channel
 use Rattle.smf.specs.Ticks.{is_late, frame_of}
 use Rattle.smf.specs.Spelling.{Mark, GoodMark, GoodMarks, GoodScore, has_one, rung_from, in_time_from, rung, in_time}
 use Rattle.merge.specs.declared.Entry.{Entry}
-use Rattle.merge.specs.declared.Spot.{Spot}
-use Rattle.merge.specs.declared.Spot.TheVariants.{None, At}
 use Rattle.merge.specs.Lateness.{tempo_after, sum_at, nearer, late_from, late_of, sounding, struck_from, struck_of}
 use Rattle.merge.specs.Bridges.{bridges_of, rest_of, bridged}
 use Rattle.merge.specs.Marks.{last_end_from, marks_from, last_from, score_of}
@@ -149,9 +148,9 @@ adds_none begun end tick tempo = (refl, refl, refl)
 -- ---- 4. Time
 
 -- the smaller of two places is one
-never-none : (place : ℕ) (s : Spot) → nearer place s ≡ None → ⊥
+never-none : (place : ℕ) (s : Option ℕ) → nearer place s ≡ None → ⊥
 never-none place None e = let z : ◌≡◌ {A = ℕ} 0 1 = cc in omega arith
-never-none place (At other) e = let z : ◌≡◌ {A = ℕ} 0 1 = cc in omega arith
+never-none place (Some other) e = let z : ◌≡◌ {A = ℕ} 0 1 = cc in omega arith
 
 -- where no event is past an hour, the first is not, nor is one behind it
 pub late-none : (division tick tempo sum : ℕ) (e : Entry) (es : List Entry) → late_from division tick tempo sum (e ∷ es) ≡ None
@@ -159,7 +158,7 @@ pub late-none : (division tick tempo sum : ℕ) (e : Entry) (es : List Entry) �
 unfolding late_from
 late-none division tick tempo sum e es n = go (is_late division (sum_at tick tempo sum e)) refl n
   where
-    behind : Spot
+    behind : Option ℕ
     behind = late_from division e.tick (tempo_after tempo e.item) (sum_at tick tempo sum e) es
 
     go : (t : Bool) → is_late division (sum_at tick tempo sum e) ≡ t → cond t (nearer e.place behind) behind ≡ None

@@ -1,4 +1,5 @@
 -- Laws of the tracks of a file, one behind the other.
+use Rattle.std.proofs.Common.{Some, None}
 use mathlib.Core.Bool.{Bool, true, false, cond}
 use mathlib.Core.List.{List, [], ◌∷◌, map}
 use mathlib.Core.Path.{◌≡◌, refl, sym, ap, ◌∙◌}
@@ -12,7 +13,6 @@ use Rattle.smf.specs.declared.Header.TheVariants.{Refused, Track}
 use Rattle.smf.specs.Quantities.{four_at}
 use Rattle.smf.specs.Head.{chunk_end, track_name, track_from}
 use Rattle.merge.specs.declared.Entry.{Entry}
-use Rattle.merge.specs.declared.Spot.TheVariants.{None, At}
 use Rattle.merge.specs.Lanes.{first_entry, flaw_of, lanes_behind, flaw_or, lanes_from, flaw_in}
 use Rattle.merge.specs.Internal.Lanes.{tick_of}
 
@@ -34,13 +34,13 @@ track-held (suc n) b at begin end e =
 
 module _ (b : List ℕ) (n at : ℕ) where
   -- no further track
-  pub lanes-cut : (number place : ℕ) → track_from (length b) b at ≡ Refused number place → (lanes_from (suc n) b at ≡ []) × (flaw_in (suc n) b at ≡ At place)
+  pub lanes-cut : (number place : ℕ) → track_from (length b) b at ≡ Refused number place → (lanes_from (suc n) b at ≡ []) × (flaw_in (suc n) b at ≡ Some place)
   unfolding lanes_from flaw_in
   lanes-cut number place e = (rw (e, lanes_from) refl, rw (e, flaw_in) refl)
 
   -- a track that has a fault
-  pub lanes-flawed : (begin end place : ℕ) → track_from (length b) b at ≡ Track begin end → flaw_of b (first_entry b begin end) ≡ At place
-      → (lanes_from (suc n) b at ≡ first_entry b begin end ∷ []) × (flaw_in (suc n) b at ≡ At place)
+  pub lanes-flawed : (begin end place : ℕ) → track_from (length b) b at ≡ Track begin end → flaw_of b (first_entry b begin end) ≡ Some place
+      → (lanes_from (suc n) b at ≡ first_entry b begin end ∷ []) × (flaw_in (suc n) b at ≡ Some place)
   unfolding lanes_from flaw_in
   lanes-flawed begin end place e f = (rw (e, lanes_from) (rw f refl), rw (e, flaw_in) (rw f refl))
 

@@ -1,4 +1,5 @@
 -- Laws of U that is held at one past the limit.
+use Rattle.std.proofs.Common.{Option}
 use mathlib.Core.Path.{◌≡◌, refl}
 use Prim.Native.Nat.{ℕ, ◌+◌, ◌*◌, ◌-◌, ◌/◌, ◌<◌, ◌≤◌, min}
 use native.Mathlib.Nat.{div-lt_iff_lt-mul, le-div_iff_mul-le}
@@ -6,7 +7,6 @@ use native.Mathlib.Omega.{arith}
 use borrow.Author.Tests.{lt-ltb, le-ltb}
 use Rattle.merge.specs.declared.Entry.{Entry}
 use Rattle.merge.specs.declared.Hour.{Hour}
-use Rattle.merge.specs.declared.Spot.{Spot}
 use Rattle.merge.specs.Lateness.{tempo_after, sum_at, nearer}
 use Rattle.merge.specs.Internal.Order.{hour_after}
 
@@ -21,7 +21,7 @@ module _ (limit sum ticks tempo : ℕ) (held : sum ≤ limit + 1) (some : 0 < te
 
 module _ (h : Hour) (e : Entry) (limit sum tempo : ℕ) (s : sum ≡ min (sum_at h.tick h.tempo h.sum e) (limit + 1)) (t : tempo ≡ tempo_after h.tempo e.item) where
   -- an event past the hour
-  pub hour-past : (late : Spot) → limit < sum → late ≡ nearer e.place h.late → record { tick = e.tick; tempo = tempo; sum = sum; late = late } ≡ hour_after h e limit
+  pub hour-past : (late : Option ℕ) → limit < sum → late ≡ nearer e.place h.late → record { tick = e.tick; tempo = tempo; sum = sum; late = late } ≡ hour_after h e limit
   unfolding hour_after
   hour-past late l n = let past = rw s at l in rw (s, t, n, lt-ltb _ _ past) refl
 

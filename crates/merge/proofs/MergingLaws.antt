@@ -1,4 +1,5 @@
 -- What the two walks through the sequence find is what the definitions say: what is late, how long the file is, and its bytes.
+use Rattle.std.proofs.Common.{Option, Some, None}
 use mathlib.Core.Bool.{Bool, true, false, cond}
 use mathlib.Core.List.{List, [], ◌∷◌, ◌++◌, append_assoc, append-nil}
 use mathlib.Core.Path.{◌≡◌, refl, sym, ap, ap₂, ◌∙◌}
@@ -14,8 +15,6 @@ use Rattle.merge.specs.declared.Entry.{Entry}
 use Rattle.merge.specs.declared.Hour.{Hour}
 use Rattle.merge.specs.declared.Line.{Line}
 use Rattle.merge.specs.declared.Tally.{Tally}
-use Rattle.merge.specs.declared.Spot.{Spot}
-use Rattle.merge.specs.declared.Spot.TheVariants.{None, At}
 use Rattle.merge.specs.Lateness.{tempo_after, sum_at, nearer, late_from, late_of}
 use Rattle.merge.specs.Bridges.{longest_delta, bridges_of, rest_of, bridged}
 use Rattle.merge.specs.Marks.{last_end_from, marks_from, last_from, score_of}
@@ -29,20 +28,20 @@ use Rattle.merge.specs.Internal.Order.{hour_after, told_of, tally_start, tally_o
 -- ---- 1. What is late
 
 -- the smaller of two places, where there are any
-abbrev either-spot : Spot → Spot → Spot
+abbrev either-spot : Option ℕ → Option ℕ → Option ℕ
 either-spot None s = s
-either-spot (At place) s = nearer place s
+either-spot (Some place) s = nearer place s
 
 -- a place told now or later
-spot-moves : (place : ℕ) (s t : Spot) → either-spot (nearer place s) t ≡ either-spot s (nearer place t)
+spot-moves : (place : ℕ) (s t : Option ℕ) → either-spot (nearer place s) t ≡ either-spot s (nearer place t)
 spot-moves place None t = refl
-spot-moves place (At other) None = ap At (omega arith)
-spot-moves place (At other) (At third) = ap At (omega arith)
+spot-moves place (Some other) None = ap Some (omega arith)
+spot-moves place (Some other) (Some third) = ap Some (omega arith)
 
 -- nothing is told of nothing
-spot-none : (s : Spot) → either-spot s None ≡ s
+spot-none : (s : Option ℕ) → either-spot s None ≡ s
 spot-none None = refl
-spot-none (At place) = refl
+spot-none (Some place) = refl
 
 -- U, held at one past the limit: the next U is the same
 held-sum : (limit sum gap tempo : ℕ) → min (min sum (limit + 1) + gap * tempo) (limit + 1) ≡ min (sum + gap * tempo) (limit + 1)
@@ -70,7 +69,7 @@ tally-late (e ∷ es) t division sum h =
     let late = ap (λ (x : ℕ). ltb limit x) same ∙ held-late limit next in
     more ∙ told (late_from division e.tick (tempo_after t.hour.tempo e.item) next es) (ltb limit (told_of t e limit).hour.sum) (ltb limit next) late
   where
-    told : (rest : Spot) (u v : Bool) → u ≡ v → either-spot (cond u (nearer e.place t.hour.late) t.hour.late) rest ≡ either-spot t.hour.late (cond v (nearer e.place rest) rest)
+    told : (rest : Option ℕ) (u v : Bool) → u ≡ v → either-spot (cond u (nearer e.place t.hour.late) t.hour.late) rest ≡ either-spot t.hour.late (cond v (nearer e.place rest) rest)
     told rest u v g = ap (λ (x : Bool). either-spot (cond x (nearer e.place t.hour.late) t.hour.late) rest) g ∙ by v
       where
         by : (v : Bool) → either-spot (cond v (nearer e.place t.hour.late) t.hour.late) rest ≡ either-spot t.hour.late (cond v (nearer e.place rest) rest)
@@ -313,12 +312,12 @@ file-length division es = ap length (file-is division es) ∙ length-append (hea
 
 module _ (b : List ℕ) (n division at room : ℕ) where
   -- something is past an hour
-  pub joined-late : (place : ℕ) → late_of division (sequence_of n b at) ≡ At place → joined_of b n division at room ≡ Declined 11 place
+  pub joined-late : (place : ℕ) → late_of division (sequence_of n b at) ≡ Some place → joined_of b n division at room ≡ Declined 11 place
   unfolding joined_of
   joined-late place e = rw e refl
 
   -- something is not well formed
-  pub joined-flaw : (place : ℕ) → late_of division (sequence_of n b at) ≡ None → flaw_in n b at ≡ At place → joined_of b n division at room ≡ Declined 9 place
+  pub joined-flaw : (place : ℕ) → late_of division (sequence_of n b at) ≡ None → flaw_in n b at ≡ Some place → joined_of b n division at room ≡ Declined 9 place
   unfolding joined_of
   joined-flaw place e f = rw (e, f) refl
 

@@ -1,4 +1,6 @@
 -- Laws of the one sequence: what is earliest in its track and among the tracks comes first.
+use Rattle.smf.specs.declared.Quantity.{Quantity}
+use Rattle.std.proofs.Common.{Option, Some, None}
 use mathlib.Core.Bool.{Bool, true, false, cond, true≢false}
 use mathlib.Core.List.{List, [], ◌∷◌, ◌++◌, map}
 use mathlib.Core.Path.{◌≡◌, refl, sym, ap, subst, ◌∙◌}
@@ -11,8 +13,6 @@ use lib.ListN.{length, set, take, get_or, length-set}
 use lib.Seq.{length-take-le, take-set-lt, get_or-take}
 use Rattle.smf.specs.declared.Item.{Item}
 use Rattle.smf.specs.declared.Item.TheVariants.{Bad, End, Passed, Tempo, Channel}
-use Rattle.smf.specs.declared.Quantity.{Quantity}
-use Rattle.smf.specs.declared.Quantity.TheVariants.{Good}
 use Rattle.smf.specs.Quantities.{quantity_at}
 use Rattle.smf.specs.Items.{item_at}
 use Rattle.smf.specs.Track.{is_bad}
@@ -41,9 +41,9 @@ least-append t (x ∷ xs) ys p q = (p.0, least-append t xs ys p.1 q)
 settled-rises : (b : List ℕ) (end running at tick : ℕ) → is_bad (settled_at b end running at tick).item ≡ false → tick ≤ (settled_at b end running at tick).tick
 settled-rises b end running at tick = go (quantity_at b end at) refl
   where
-    go : (q : Quantity) → quantity_at b end at ≡ q → is_bad (settled_at b end running at tick).item ≡ false → tick ≤ (settled_at b end running at tick).tick
-    go Quantity.Bad e = rw (settled-bad b end running at tick e) (λ f. absurd (true≢false f))
-    go (Good ticks place) e = rw (settled-good b end running at tick ticks place e) (λ f. rw f (omega arith))
+    go : (q : Option Quantity) → quantity_at b end at ≡ q → is_bad (settled_at b end running at tick).item ≡ false → tick ≤ (settled_at b end running at tick).tick
+    go None e = rw (settled-bad b end running at tick e) (λ f. absurd (true≢false f))
+    go (Some q) e = rw (settled-good b end running at tick q.value q.behind e) (λ f. rw f (omega arith))
 
 -- so the next event of a track is not earlier
 rises : (b : List ℕ) (e : Entry) → is_bad (advanced_of b e).item ≡ false → e.tick ≤ (advanced_of b e).tick

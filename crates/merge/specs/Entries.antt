@@ -1,15 +1,11 @@
 -- Songs of several tracks: the events of one track, each with its tick and its place, and the track's first fault.
-use Rattle.std.specs.Prelude.{cond, List, [], ◌∷◌, ℕ, zero, suc, ◌+◌}
+use Rattle.std.specs.Prelude.{cond, List, [], ◌∷◌, ℕ, zero, suc, ◌+◌, Some, None, Option}
 use Rattle.smf.specs.declared.Item.{Item}
 use Rattle.smf.specs.declared.Item.TheVariants.{Bad, End, Passed, Tempo, Channel}
-use Rattle.smf.specs.declared.Quantity.{Quantity}
-use Rattle.smf.specs.declared.Quantity.TheVariants.{Good}
 use Rattle.smf.specs.Quantities.{quantity_at}
 use Rattle.smf.specs.Items.{item_at}
 use Rattle.smf.specs.Track.{is_bad}
 use Rattle.merge.specs.declared.Entry.{Entry}
-use Rattle.merge.specs.declared.Spot.{Spot}
-use Rattle.merge.specs.declared.Spot.TheVariants.{None, At}
 
 -- stands for no tick, above any that a file has
 abbrev pub no_tick : ℕ
@@ -22,7 +18,7 @@ noted item tick place end = record { tick = cond (is_bad item) no_tick tick; pla
 -- the delta time at a place and the event behind it, where a status runs and a tick is reached. What is not well formed has its own place
 unfoldable pub settled_at : List ℕ → ℕ → ℕ → ℕ → ℕ → Entry
 settled_at b end running at tick =
-    elim (quantity_at b end at) [ Quantity.Bad ↦ noted Bad tick at end | Good ticks place ↦ noted (item_at b end running place) (tick + ticks) place end ]
+    elim (quantity_at b end at) [ None ↦ noted Bad tick at end | Some q ↦ noted (item_at b end running q.behind) (tick + q.value) q.behind end ]
 
 -- nothing comes behind an end of track, or behind a fault
 abbrev pub gone : Entry → Entry
@@ -46,14 +42,14 @@ entries_from zero b e = []
 entries_from (suc n) b e = cond (is_bad e.item) [] (e ∷ entries_from n b (advanced_of b e))
 
 -- the fault of a track at an event, where those behind it have another
-abbrev pub flaw_behind : Item → ℕ → Spot → Spot
-flaw_behind Bad place more = At place
+abbrev pub flaw_behind : Item → ℕ → Option ℕ → Option ℕ
+flaw_behind Bad place more = Some place
 flaw_behind End place more = None
 flaw_behind (Passed behind) place more = more
 flaw_behind (Tempo tempo behind) place more = more
 flaw_behind (Channel status first second behind) place more = more
 
 -- the track's first fault, within n events
-unfoldable pub flaw_from : ℕ → List ℕ → Entry → Spot
+unfoldable pub flaw_from : ℕ → List ℕ → Entry → Option ℕ
 flaw_from zero b e = None
 flaw_from (suc n) b e = flaw_behind e.item e.place (flaw_from n b (advanced_of b e))

@@ -1,12 +1,10 @@
 -- Songs of several tracks: from the bytes of a file of format 0 or 1 to those of one of format 0, or its refusal.
-use Rattle.std.specs.Prelude.{cond, Bool, true, List, ◌++◌, ℕ, ◌+◌, min, ltb, length, drop}
+use Rattle.std.specs.Prelude.{cond, Bool, true, List, ◌++◌, ℕ, ◌+◌, min, ltb, length, drop, Option, Some, None}
 use Rattle.smf.specs.Spelling.{file_bytes}
 use Rattle.merge.specs.declared.Entry.{Entry}
 use Rattle.merge.specs.declared.Front.{Front}
 use Rattle.merge.specs.declared.Front.TheVariants.{Song}
 use Rattle.merge.specs.declared.Merged.{Merged}
-use Rattle.merge.specs.declared.Spot.{Spot}
-use Rattle.merge.specs.declared.Spot.TheVariants.{None, At}
 use Rattle.merge.specs.Fronts.{front_of}
 use Rattle.merge.specs.Lanes.{lanes_from, flaw_in, entries_of}
 use Rattle.merge.specs.Order.{in_order}
@@ -31,9 +29,9 @@ unfoldable pub fitted : ℕ → List ℕ → Joined
 fitted room bytes = cond (ltb room (length bytes)) (Declined 43 0) (Issued bytes)
 
 -- what is past an hour goes before what is not well formed, which lies behind it
-abbrev pub judged : Spot → Spot → Joined → Joined
-judged (At place) flaw o = Declined 11 place
-judged None (At place) o = Declined 9 place
+abbrev pub judged : Option ℕ → Option ℕ → Joined → Joined
+judged (Some place) flaw o = Declined 11 place
+judged None (Some place) o = Declined 9 place
 judged None None o = o
 
 -- a file of n tracks, whose chunks stand from a place on

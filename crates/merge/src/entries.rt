@@ -4,11 +4,11 @@ ghost use Rattle.smf.specs.Songs.{turns};
 ghost use Rattle.merge.specs.Entries.{no_tick, noted, settled_at, gone, advanced_of, flaw_from};
 ghost use Rattle.merge.specs.Internal.Entries.{Settled, goes_on, flaw_at};
 
-use crate::{Entry, Spot};
+use crate::Entry;
+use smf::Item;
 use smf::items::item_at;
 use smf::quantities::quantity_at;
 use smf::track::is_bad;
-use smf::{Item, Quantity};
 
 // Stands for no tick.
 pub const NO_TICK: u64 = 18446744073709551615;
@@ -17,16 +17,8 @@ pub const NO_TICK: u64 = 18446744073709551615;
 fn noted_at(item: Item, tick: u64, place: u32, end: u32) -> Entry
     ensures { result ≡ noted item tick place end }
 {
-    if is_bad(item) {
-        return Entry {
-            tick: NO_TICK,
-            place,
-            end,
-            item,
-        };
-    }
     Entry {
-        tick,
+        tick: if is_bad(item) { NO_TICK } else { tick },
         place,
         end,
         item,
@@ -39,16 +31,11 @@ pub fn settled(b: &[u8], end: u32, running: u8, at: u32, tick: u64) -> Entry
     ensures value { result ≡ settled_at b.now end running at tick }
     ensures settled { Settled b.now result }
 {
-    let q = quantity_at(b, end, at);
-    match q {
-        Quantity::Bad => noted_at(Item::Bad, tick, at, end),
-        Quantity::Good { value, behind } => noted_at(
-            item_at(b, end, running, behind),
-            tick + (value as u64),
-            behind,
-            end,
-        ),
-    }
+    let Some(q) = quantity_at(b, end, at) else {
+        return noted_at(Item::Bad, tick, at, end);
+    };
+    let item = item_at(b, end, running, q.behind);
+    noted_at(item, tick + (q.value as u64), q.behind, end)
 }
 
 // Behind a track's last event.
@@ -57,9 +44,8 @@ fn gone_from(e: Entry) -> Entry
 {
     Entry {
         tick: NO_TICK,
-        place: e.place,
-        end: e.end,
         item: Item::Bad,
+        ..e
     }
 }
 
@@ -88,36 +74,21 @@ pub fn advanced(b: &[u8], e: Entry) -> Entry
 fn goes_on(item: Item) -> bool
     ensures { result ≡ goes_on item }
 {
-    match item {
-        Item::Bad => false,
-        Item::End => false,
-        Item::Passed { behind: _ } => true,
-        Item::Tempo {
-            tempo: _,
-            behind: _,
-        } => true,
-        Item::Channel {
-            status: _,
-            first: _,
-            second: _,
-            behind: _,
-        } => true,
-    }
+    !matches!(item, Item::Bad | Item::End)
 }
 
-// Where a track has come to its end: its fault, or none.
-fn flaw_at(e: Entry) -> Spot
+// Where a track has come to its end: the place of its fault, or none.
+fn flaw_at(e: Entry) -> Option<u32>
     ensures { result ≡ flaw_at e }
 {
-    let item = e.item;
-    if is_bad(item) {
-        return Spot::At { place: e.place };
+    if is_bad(e.item) {
+        return Some(e.place);
     }
-    Spot::None
+    None
 }
 
 // A track's first fault.
-pub fn flaw(b: &[u8], e: Entry) -> Spot
+pub fn flaw(b: &[u8], e: Entry) -> Option<u32>
     requires { Settled b.now e }
     ensures { result ≡ flaw_from (turns b.now) b.now e }
 {

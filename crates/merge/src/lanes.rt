@@ -3,7 +3,7 @@ ghost use Rattle.std.specs.Prelude.{◌≡◌, ◌≤◌, length};
 ghost use Rattle.merge.specs.Lanes.{lanes_from, flaw_in};
 ghost use Rattle.merge.specs.Internal.Lanes.{no_lane, lanes_of, Lined};
 
-use crate::{Entry, Spot, Tracks, entries};
+use crate::{Entry, Tracks, entries};
 use smf::head::track_from;
 use smf::{Header, Item};
 
@@ -38,7 +38,7 @@ pub fn lanes(b: &[u8], count: u16, from: u32) -> Tracks
                     ticks,
                     entries,
                     count: k,
-                    flaw: Spot::At { place },
+                    flaw: Some(place),
                 }
             }
             Header::Track { at: begin, end } => {
@@ -48,7 +48,7 @@ pub fn lanes(b: &[u8], count: u16, from: u32) -> Tracks
                 k += 1;
                 let flaw = entries::flaw(b, e);
                 match flaw {
-                    Spot::At { place: _ } => {
+                    Some(_) => {
                         return Tracks {
                             ticks,
                             entries,
@@ -56,7 +56,7 @@ pub fn lanes(b: &[u8], count: u16, from: u32) -> Tracks
                             flaw,
                         }
                     }
-                    Spot::None => at = end,
+                    None => at = end,
                 }
             }
         }
@@ -65,6 +65,6 @@ pub fn lanes(b: &[u8], count: u16, from: u32) -> Tracks
         ticks,
         entries,
         count: k,
-        flaw: Spot::None,
+        flaw: None,
     }
 }

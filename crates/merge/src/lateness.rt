@@ -3,17 +3,14 @@ ghost use Rattle.std.specs.Prelude.{◌≡◌, ◌+◌, ◌*◌, ◌-◌, ◌≤
 ghost use Rattle.merge.specs.Lateness.{tempo_after, nearer};
 ghost use Rattle.merge.specs.Internal.Order.{hour_after};
 
-use crate::{Entry, Hour, Spot};
+use crate::{Entry, Hour};
 use smf::Item;
 
 // The ticks from one to another; none where it is not behind.
 pub fn gap(from: u64, to: u64) -> u64
     ensures { result ≡ to - from }
 {
-    if to < from {
-        return 0;
-    }
-    to - from
+    to.saturating_sub(from)
 }
 
 // U behind so many ticks of a tempo, held at one past the limit.
@@ -36,34 +33,18 @@ fn tempo_after(tempo: u32, item: Item) -> u32
     ensures { result ≡ tempo_after tempo item }
 {
     match item {
-        Item::Bad => tempo,
-        Item::End => tempo,
-        Item::Passed { behind: _ } => tempo,
-        Item::Tempo {
-            tempo: next,
-            behind: _,
-        } => next,
-        Item::Channel {
-            status: _,
-            first: _,
-            second: _,
-            behind: _,
-        } => tempo,
+        Item::Tempo { tempo: next, .. } => next,
+        _ => tempo,
     }
 }
 
 // The smaller of two places.
-fn nearer_of(place: u32, s: Spot) -> Spot
+fn nearer_of(place: u32, s: Option<u32>) -> Option<u32>
     ensures { result ≡ nearer place s }
 {
     match s {
-        Spot::None => Spot::At { place },
-        Spot::At { place: other } => {
-            if other < place {
-                return Spot::At { place: other };
-            }
-            Spot::At { place }
-        }
+        None => Some(place),
+        Some(other) => Some(place.min(other)),
     }
 }
 

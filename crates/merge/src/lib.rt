@@ -24,13 +24,6 @@ pub enum Front {
     Song { count: u16, division: u16, at: u32 },
 }
 
-// A place in a file, or none.
-#[derive(Clone, Copy)]
-pub enum Spot {
-    None,
-    At { place: u32 },
-}
-
 // The next event of a track: its tick, its place behind its delta time, where its track ends, and what it is.
 #[derive(Clone, Copy)]
 pub struct Entry {
@@ -40,13 +33,13 @@ pub struct Entry {
     pub item: Item,
 }
 
-// The next event of each track, of which `count` are there, with their ticks beside them, and the first fault by 9.
+// The next event of each track, of which `count` are there, with their ticks beside them, and the place of the first fault by 9.
 #[derive(Clone, Copy)]
 pub struct Tracks {
     pub ticks: [u64; 256],
     pub entries: [Entry; 256],
     pub count: usize,
-    pub flaw: Spot,
+    pub flaw: Option<u32>,
 }
 
 // The smallest tick among those of some tracks, and the first track that has it.
@@ -62,7 +55,7 @@ pub struct Hour {
     pub tick: u64,
     pub tempo: u32,
     pub sum: u64,
-    pub late: Spot,
+    pub late: Option<u32>,
 }
 
 // The line that is written: the tick of its last event, the tempo and the status that run behind it, and the last end of track.
@@ -128,16 +121,11 @@ fn join(file: &[u8], out: &mut [u8], count: u16, division: u16, at: u32) -> Merg
 {
     let l = lanes::lanes(file, count, at);
     let t = order::tally(file, l, division);
-    let hour = t.hour;
-    let late = hour.late;
-    match late {
-        Spot::At { place } => return refused(11, place),
-        Spot::None => {}
+    if let Some(place) = t.hour.late {
+        return refused(11, place);
     }
-    let flaw = l.flaw;
-    match flaw {
-        Spot::At { place } => return refused(9, place),
-        Spot::None => {}
+    if let Some(place) = l.flaw {
+        return refused(9, place);
     }
     let size = sizes::whole_size(t);
     if sizes::room(out.len()) < size {

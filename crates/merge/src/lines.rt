@@ -80,18 +80,13 @@ pub fn line_after(l: Line, e: Entry) -> Line
     let item = e.item;
     match item {
         Item::Bad => l,
-        Item::End => Line {
-            tick: l.tick,
-            tempo: l.tempo,
-            running: l.running,
-            end: e.tick,
-        },
+        Item::End => Line { end: e.tick, ..l },
         Item::Passed { behind: _ } => l,
         Item::Tempo { tempo, behind: _ } => Line {
             tick: e.tick,
             tempo,
             running: 0,
-            end: l.end,
+            ..l
         },
         Item::Channel {
             status,
@@ -100,9 +95,8 @@ pub fn line_after(l: Line, e: Entry) -> Line
             behind: _,
         } => Line {
             tick: e.tick,
-            tempo: l.tempo,
             running: status,
-            end: l.end,
+            ..l
         },
     }
 }

@@ -8,7 +8,7 @@ use crate::entries::{NO_TICK, advanced};
 use crate::lateness::hour_after;
 use crate::lines::{line_after, line_start, put_end, put_entry, put_head};
 use crate::sizes::{entry_size, grown};
-use crate::{Best, Entry, Hour, Spot, Tally, Tracks};
+use crate::{Best, Entry, Hour, Tally, Tracks};
 
 // The smaller of two ticks; the first of two that are the same.
 fn better(best: Best, tick: u64, lane: usize) -> Best
@@ -29,10 +29,8 @@ fn earliest(ticks: &[u64; 256], count: usize) -> usize
         tick: NO_TICK,
         lane: count,
     };
-    let mut i = 0;
-    while i < count {
+    for i in 0..count {
         best = better(best, ticks[i], i);
-        i += 1;
     }
     best.lane
 }
@@ -46,7 +44,7 @@ fn tally_start() -> Tally
             tick: 0,
             tempo: 500000,
             sum: 0,
-            late: Spot::None,
+            late: None,
         },
         line: line_start(),
         size: 22,

@@ -11,12 +11,9 @@ pub fn put(out: &mut [u8], at: usize, bytes: &[u8]) -> usize
     ensures value { result ≡ at + length bytes.now }
     ensures output { out.new ≡ laid_over out.old at bytes.now }
 {
-    let mut i = 0;
-    while i < bytes.len() {
-        out[at + i] = bytes[i];
-        i += 1;
-    }
-    at + bytes.len()
+    let end = at + bytes.len();
+    out[at..end].copy_from_slice(bytes);
+    end
 }
 
 // A delta time.
@@ -74,11 +71,9 @@ fn put_bridges(out: &mut [u8], at: usize, tempo: u32, n: u64) -> usize
     ensures output { out.new ≡ laid_over out.old at (bridge_bytes tempo n) }
 {
     let mut p = at;
-    let mut k = 0;
-    while k < n {
+    for k in 0..n {
         p = put_quantity(out, p, 268435455);
         p = put_tempo(out, p, tempo);
-        k += 1;
     }
     p
 }

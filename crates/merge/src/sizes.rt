@@ -90,10 +90,7 @@ pub fn grown(size: u64, more: u64) -> u64
     requires { (size ≤ 4294967318) × (more ≤ 2000000000000) }
     ensures { result ≡ held_count (size + more) }
 {
-    if 4294967318 < size + more {
-        return 4294967318;
-    }
-    size + more
+    (size + more).min(4294967318)
 }
 
 // The bytes of a whole file: those so far, and the end of track.
@@ -108,8 +105,5 @@ pub fn whole_size(t: Tally) -> u64
 pub fn room(len: usize) -> u64
     ensures { result ≡ min len 4294967317 }
 {
-    if 4294967317 < len {
-        return 4294967317;
-    }
-    len as u64
+    (len as u64).min(4294967317)
 }

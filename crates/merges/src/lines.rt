@@ -1,52 +1,31 @@
 // The line of a file: its refusal, or the size of its merged song.
-use cases::{Line, Place};
+use cases::{Bad, Held, Input, Text};
 
 // The file is merged into the output that is lent, and the line has the hash of all of that.
-fn line(file: &[u8], out: &mut [u8], text: &mut [u8; 65536], at: usize) -> usize {
+fn line(file: &[u8], out: &mut [u8], text: &mut Text) {
     let m = merge::merge(file, out);
-    let mut to = cases::decimal(text, at, m.number as u64);
-    to = cases::spaced(text, to, m.place as u64);
-    to = cases::spaced(text, to, m.size as u64);
-    to = cases::hashed(text, to, cases::fnv_bytes(out));
-    cases::put(text, to, b'\n')
+    text.decimal(u64::from(m.number));
+    text.spaced(m.place as u64);
+    text.spaced(m.size as u64);
+    text.hashed(cases::fnv(out));
+    text.put(b'\n');
 }
 
-// An output of so many bytes, which hold a5 (hex) before.
-fn into_output(file: &[u8], text: &mut [u8; 65536], from: Place, at: usize, length: u32) -> Line {
-    if 66000 < length {
-        return Line {
-            place: cases::spoilt(from),
-            at,
-        };
-    }
+// An output of so many bytes, which hold a5 (hex) before. More than there is room for are bad.
+fn into_output(file: &[u8], text: &mut Text, length: u32) -> Result<(), Bad> {
     let mut out = [165u8; 66000];
     let n = length as usize;
-    Line {
-        place: from,
-        at: line(file, &mut out[..n], text, at),
+    if out.len() < n {
+        return Err(Bad);
     }
+    line(file, &mut out[..n], text);
+    Ok(())
 }
 
 // The next file, behind its length and that of its output.
-pub fn song(
-    bytes: &mut [u8; 66000],
-    room: &mut [u8],
-    text: &mut [u8; 65536],
-    from: Place,
-    at: usize,
-) -> Line {
-    let size = cases::next_u32(room, from);
-    let length = cases::next_u32(room, size.place);
-    let held = cases::next_bank(room, length.place, bytes, size.value);
-    let place = held.place;
-    if place.cut {
-        return Line { place, at };
-    }
-    into_output(
-        cases::first_bytes(bytes, held.count),
-        text,
-        place,
-        at,
-        length.value,
-    )
+pub fn song(file: &mut Held<u8>, input: &mut Input, text: &mut Text) -> Result<(), Bad> {
+    let size: u32 = input.next()?;
+    let length: u32 = input.next()?;
+    file.read(input, size)?;
+    into_output(file.lent(), text, length)
 }

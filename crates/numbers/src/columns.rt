@@ -1,110 +1,77 @@
 // The lines of each function, over its list of arguments.
-ghost use Rattle.std.specs.Prelude.{◌≡◌};
-ghost use Rattle.curves.specs.Levels.{gains};
-ghost use Rattle.curves.specs.Octave.{octaves};
-
 use crate::arguments::{bend_at, cents_at, level_at, rate_at, time_at};
-use crate::rows::{line, print_signed, signed_line};
+use crate::rows::{line, signed_line};
+use cases::Text;
 use curves::{GainTable, OctaveTable};
 
 // The step of a pitch at a rate.
-fn step_line(t: &OctaveTable, cents: i32, rate: u16)
-    requires { t.now ≡ octaves }
-{
-    io::write_all(1, b"step ");
-    print_signed(cents);
-    line(b" ", rate as i32, curves::step(t, cents, rate));
+fn step_line(text: &mut Text, t: &OctaveTable, cents: i32, rate: u16) {
+    text.word(b"step ");
+    text.signed(cents);
+    line(text, b" ", i32::from(rate), t.step(cents, rate));
 }
 
 // The steps of a pitch at each rate.
-fn steps_at(t: &OctaveTable, cents: i32)
-    requires { t.now ≡ octaves }
-{
-    let mut i: usize = 0;
-    while i < 10 {
-        step_line(t, cents, rate_at(i));
-        i = i + 1;
+fn steps_at(text: &mut Text, t: &OctaveTable, cents: i32) {
+    for i in 0..10 {
+        step_line(text, t, cents, rate_at(i));
     }
 }
 
 // The steps of each pitch.
-pub fn steps(t: &OctaveTable)
-    requires { t.now ≡ octaves }
-{
-    let mut i: usize = 0;
-    while i < 161 {
-        steps_at(t, cents_at(i));
-        i = i + 1;
+pub fn steps(text: &mut Text, t: &OctaveTable) {
+    for i in 0..161 {
+        steps_at(text, t, cents_at(i));
     }
 }
 
 // The frames of a time, with either upper hold.
-fn time_lines(t: &OctaveTable, time: i32)
-    requires { t.now ≡ octaves }
-{
-    line(b"frames ", time, curves::long_frames(t, time));
-    line(b"frames5000 ", time, curves::short_frames(t, time));
+fn time_lines(text: &mut Text, t: &OctaveTable, time: i32) {
+    line(text, b"frames ", time, t.long_frames(time));
+    line(text, b"frames5000 ", time, t.short_frames(time));
 }
 
 // The frames of each time.
-pub fn times(t: &OctaveTable)
-    requires { t.now ≡ octaves }
-{
-    let mut i: usize = 0;
-    while i < 175 {
-        time_lines(t, time_at(i));
-        i = i + 1;
+pub fn times(text: &mut Text, t: &OctaveTable) {
+    for i in 0..175 {
+        time_lines(text, t, time_at(i));
     }
 }
 
 // The gains, and five past the last.
-pub fn gains(g: &GainTable)
-    requires { g.now ≡ gains }
-{
-    let mut a: u32 = 0;
-    while a < 1446 {
-        line(b"gain ", a as i32, curves::gain(g, a as u64));
-        a = a + 1;
+pub fn gains(text: &mut Text, g: &GainTable) {
+    for a in 0..1446u16 {
+        line(text, b"gain ", i32::from(a), g.gain(u64::from(a)));
     }
 }
 
 // The attenuation of each velocity or control from the first on.
-pub fn attenuations(name: &[u8], first: u8) {
-    let mut v = first;
-    while v < 128 {
-        line(name, v as i32, curves::cb_of(v) as u32);
-        v = v + 1;
+pub fn attenuations(text: &mut Text, name: &[u8], first: u8) {
+    for v in first..128 {
+        line(text, name, i32::from(v), u32::from(curves::cb_of(v)));
     }
 }
 
 // The least attenuation for a level.
-fn level_line(g: &GainTable, level: u32)
-    requires { g.now ≡ gains }
-{
-    io::write_all(1, b"least ");
-    io::print_decimal(1, level as u64);
-    io::write_all(1, b" = ");
-    io::print_decimal(1, curves::least_cb(g, level) as u64);
-    io::write_all(1, b"\n");
+fn level_line(text: &mut Text, g: &GainTable, level: u32) {
+    text.word(b"least ");
+    text.decimal(u64::from(level));
+    text.word(b" = ");
+    text.decimal(u64::from(g.least_cb(level)));
+    text.put(b'\n');
 }
 
 // The least attenuation for each level.
-pub fn levels(g: &GainTable)
-    requires { g.now ≡ gains }
-{
-    let mut i: usize = 0;
-    while i < 109 {
-        level_line(g, level_at(i));
-        i = i + 1;
+pub fn levels(text: &mut Text, g: &GainTable) {
+    for i in 0..109 {
+        level_line(text, g, level_at(i));
     }
 }
 
 // The cents of each bend.
-pub fn bends() {
-    let mut i: usize = 0;
-    while i < 406 {
+pub fn bends(text: &mut Text) {
+    for i in 0..406 {
         let bend = bend_at(i);
-        signed_line(b"bend ", bend, curves::bend_cents(bend));
-        i = i + 1;
+        signed_line(text, b"bend ", bend, curves::bend_cents(bend));
     }
 }

@@ -8,13 +8,15 @@ mod rows;
 
 // All lists, one after the other.
 fn main() {
-    let octaves = curves::octaves();
-    let gains = curves::gains();
-    columns::steps(&octaves);
-    columns::times(&octaves);
-    columns::gains(&gains);
-    columns::attenuations(b"velocity ", 1);
-    columns::attenuations(b"control ", 0);
-    columns::levels(&gains);
-    columns::bends();
+    let mut text = cases::Text::begin();
+    let octaves = curves::OctaveTable::new();
+    let gains = curves::GainTable::new();
+    columns::steps(&mut text, &octaves);
+    columns::times(&mut text, &octaves);
+    columns::gains(&mut text, &gains);
+    columns::attenuations(&mut text, b"velocity ", 1);
+    columns::attenuations(&mut text, b"control ", 0);
+    columns::levels(&mut text, &gains);
+    columns::bends(&mut text);
+    text.flush();
 }

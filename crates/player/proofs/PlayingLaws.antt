@@ -12,7 +12,7 @@ use Rattle.engine.proofs.CutLaws.{played-cut, output-cut, played-clock, output-c
 use Rattle.player.specs.declared.Player.{Player}
 use Rattle.player.specs.declared.Tally.{Tally}
 use Rattle.player.specs.Acting.{heeded}
-use Rattle.player.specs.Cues.{with_engine, since, is_due, gap_of}
+use Rattle.player.specs.Cues.{song_over, coming_event, with_engine, since, is_due, gap_of}
 use Rattle.player.specs.Playing.{ticked, forward, applying, caught_up, prepared, performed, numbers}
 use Rattle.player.proofs.CuesLaws.{left, left-most, Fewer, fewer, due-open, reached-due, Quiet, quiet-still, gap-most, gap-quiet, gap-less}
 
@@ -120,7 +120,7 @@ output-forward ram rom m x = output_on ram rom m x.player.engine
 pub record Bounded (p : Player) : Type 0 where
   pub clock : p.engine.clock < 4294967296
   pub began : p.began < 4294967296
-  pub frame : p.event.frame < 4294967296
+  pub frame : (coming_event p).frame < 4294967296
 
 -- m frames on, as long as the count of frames does not wrap
 pub since-on : (ram rom : List ℤ) (m : ℕ) (x : Tally) → Bounded x.player → since x.player + m < 4294967296
@@ -145,6 +145,11 @@ forward-left : (song : List ℕ) (ram rom : List ℤ) (m : ℕ) (x : Tally) → 
 unfolding forward left
 forward-left song ram rom m x = refl
 
+-- and whether one comes
+pub forward-ended : (ram rom : List ℤ) (m : ℕ) (x : Tally) → song_over (forward ram rom m x).player ≡ song_over x.player
+unfolding forward
+forward-ended ram rom m x = refl
+
 -- and the counts
 pub forward-counts : (ram rom : List ℤ) (m : ℕ) (x : Tally) → ((forward ram rom m x).applied ≡ x.applied) × ((forward ram rom m x).refused ≡ x.refused)
 unfolding forward
@@ -154,8 +159,8 @@ forward-counts ram rom m x = (refl, refl)
 quiet-on : (ram rom : List ℤ) (m : ℕ) (x : Tally) → Bounded x.player → Quiet (suc m) x.player → Quiet m (forward ram rom 1 x).player
 unfolding forward
 quiet-on ram rom m x b q =
-    ⊎_elim (λ (e : x.player.ended ≡ true). inl e)
-    (λ (h : since x.player + suc m ≤ x.player.event.frame).
+    ⊎_elim (λ (e : song_over x.player ≡ true). inl e)
+    (λ (h : since x.player + suc m ≤ (coming_event x.player).frame).
     let s = since-on ram rom 1 x b (omega (arith, b.frame)) in
     inr (omega arith)) q
 
@@ -163,17 +168,17 @@ module _ (song bank : List ℕ) (ram rom : List ℤ) where
   -- ---- events
 
   -- fewer are left behind each
-  pub applying-fewer : (x : Tally) → x.player.ended ≡ false → Fewer (left song x.player) (left song (applying song bank ram rom x).player)
+  pub applying-fewer : (x : Tally) → song_over x.player ≡ false → Fewer (left song x.player) (left song (applying song bank ram rom x).player)
   unfolding applying left
   applying-fewer x e =
       let p = x.player in
       let c = p.cursor in
-      fewer song (with_engine p (heeded bank ram rom p.event p.engine).engine) (handed_of song c).cursor (handed_of song c).offer (handed-led song c) e
+      fewer song (with_engine p (heeded bank ram rom (coming_event p) p.engine).engine) (handed_of song c).cursor (handed_of song c).event (handed-led song c) e
 
   -- each is counted, and at most once as refused
   applying-counts : (x : Tally) → ((applying song bank ram rom x).applied ≡ x.applied + 1) × ((applying song bank ram rom x).refused ≤ x.refused + 1)
   unfolding applying
-  applying-counts x = (refl, by (eqb (heeded bank ram rom x.player.event x.player.engine).status 0))
+  applying-counts x = (refl, by (eqb (heeded bank ram rom (coming_event x.player) x.player.engine).status 0))
     where
       by : (t : Bool) → x.refused + cond t 0 1 ≤ x.refused + 1
       by true = omega arith

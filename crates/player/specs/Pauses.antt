@@ -1,5 +1,5 @@
 -- The player: start and stop. Both let all channels go, and a song that starts finds them as in a fresh engine.
-use Rattle.std.specs.Prelude.{ℕ, zero, suc, true, cond, List, ◌==◌}
+use Rattle.std.specs.Prelude.{ℕ, zero, suc, cond, List, None, ◌==◌}
 use Rattle.smf.specs.Songs.{opening_of, handed_of}
 use Rattle.state.specs.declared.Engine.{Engine}
 use Rattle.events.specs.Controls.{control_change}
@@ -34,7 +34,7 @@ freshened_to (suc n) e = freshened n (freshened_to n e)
 
 -- stop: all channels are let go, and no event is left
 unfoldable pub stopped : Player → Player
-stopped p = record { engine = hushed_to 16 p.engine; cursor = p.cursor; event = p.event; began = p.began; ended = true }
+stopped p = record { engine = hushed_to 16 p.engine; cursor = p.cursor; event = None; began = p.began }
 
 -- a player whose channels are let go and fresh, and whose song begins now
 abbrev pub readied : Player → Player
@@ -44,7 +44,6 @@ readied p =
       cursor = p.cursor;
       event = p.event;
       began = p.engine.clock;
-      ended = p.ended;
     }
 
 -- start: a refused file changes nothing; else what was playing stops, and the song's first event comes next

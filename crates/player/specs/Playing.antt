@@ -8,7 +8,7 @@ use Rattle.player.specs.declared.Answer.{Answer}
 use Rattle.player.specs.declared.Player.{Player}
 use Rattle.player.specs.declared.Tally.{Tally}
 use Rattle.player.specs.Acting.{heeded}
-use Rattle.player.specs.Cues.{with_engine, cued, is_due}
+use Rattle.player.specs.Cues.{coming_event, with_engine, cued, is_due}
 
 -- no event is applied yet
 abbrev pub opened : Player → Tally
@@ -36,7 +36,7 @@ module _ (song bank : List ℕ) (ram rom : List ℤ) where
   -- that event applied: it acts and is counted, and the one behind it, in the song that is lent, comes next
   unfoldable pub applying : Tally → Tally
   applying x =
-      let a = heeded bank ram rom x.player.event x.player.engine in
+      let a = heeded bank ram rom (coming_event x.player) x.player.engine in
       record {
         player = cued (with_engine x.player a.engine) (handed_of song x.player.cursor);
         applied = x.applied + 1;

@@ -24,7 +24,7 @@ fn channel_in(v: Event) -> u8
 fn bend_in(v: Event) -> u16
     ensures { result ≡ bend_in v }
 {
-    (v.first as u16) + 128 * (v.second as u16)
+    u16::from(v.first) + 128 * u16::from(v.second)
 }
 
 // The call of an event, made on an engine. Key and channel pressure have none.
@@ -37,9 +37,8 @@ pub fn heed<'a>(
 ) -> Result<u32, Refusal>
     ensures { answered result e.new ≡ heeded bank.now ram.now rom.now v e.old }
 {
-    let kind = kind_of(v);
     let channel = channel_in(v);
-    match kind {
+    match kind_of(v) {
         8 => engine::note_off(e, channel, v.first),
         9 => engine::note_on(e, bank, ram, rom, channel, v.first, v.second),
         11 => engine::control_change(e, channel, v.first, v.second),

@@ -1,10 +1,10 @@
 // The event that comes next: when it is due, and how the one behind it is read.
 ghost use Rattle.std.specs.Prelude.{◌≡◌};
-ghost use Rattle.player.specs.Cues.{no_event, idle, with_engine, cued, since, gap_of};
+ghost use Rattle.player.specs.Cues.{idle, with_engine, cued, since, gap_of};
 
 use crate::Player;
 use engine::Engine;
-use smf::{Cursor, Event, Handed, Offer};
+use smf::{Cursor, Handed};
 
 // A fresh player: a fresh engine, and no song.
 pub fn fresh() -> Player
@@ -20,21 +20,8 @@ pub fn fresh() -> Player
             tempo: 0,
             sum: 0,
         },
-        event: no_event(),
+        event: None,
         began: 0,
-        ended: true,
-    }
-}
-
-// What stands in the event's place where none comes.
-fn no_event() -> Event
-    ensures { result ≡ no_event }
-{
-    Event {
-        frame: 0,
-        status: 0,
-        first: 0,
-        second: 0,
     }
 }
 
@@ -42,58 +29,35 @@ fn no_event() -> Event
 pub fn with_engine(p: Player, e: Engine) -> Player
     ensures { result ≡ with_engine p e }
 {
-    let cursor = p.cursor;
-    let event = p.event;
-    Player {
-        engine: e,
-        cursor,
-        event,
-        began: p.began,
-        ended: p.ended,
-    }
+    Player { engine: e, ..p }
 }
 
 // The player behind what was handed out to it.
 pub fn cue(p: Player, h: Handed) -> Player
     ensures { result ≡ cued p h }
 {
-    let engine = p.engine;
-    let cursor = h.cursor;
-    let offer = h.offer;
-    match offer {
-        Offer::End => Player {
-            engine,
-            cursor,
-            event: no_event(),
-            began: p.began,
-            ended: true,
-        },
-        Offer::Given { event } => Player {
-            engine,
-            cursor,
-            event,
-            began: p.began,
-            ended: false,
-        },
+    Player {
+        cursor: h.cursor,
+        event: h.event,
+        ..p
     }
 }
 
 // The frames since the song began, modulo 2^32.
+#[tactic(auto, unfolding(crate::specs::Cues::since))]
 fn since_start(p: Player) -> u32
     ensures { result ≡ since p }
 {
-    let e = p.engine;
-    std::num::wrapping_sub_u32(e.clock, p.began)
+    p.engine.clock.wrapping_sub(p.began)
 }
 
 // The frames up to the next event, at most so many; all of them where none comes.
+#[tactic(auto, unfolding(crate::specs::Cues::gap_of))]
 pub fn gap(p: Player, most: u32) -> u32
     ensures { result ≡ gap_of p most }
 {
-    if p.ended {
+    let Some(v) = p.event else {
         return most;
-    }
-    let v = p.event;
-    let wait = arith::less(v.frame, since_start(p));
-    if wait < most { wait } else { most }
+    };
+    v.frame.saturating_sub(since_start(p)).min(most)
 }

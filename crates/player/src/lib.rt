@@ -23,12 +23,10 @@ pub struct Player {
     pub engine: Engine,
     // behind the event that comes next
     pub cursor: Cursor,
-    // the event that comes next, unless the song has ended
-    pub event: Event,
+    // the event that comes next; none where no event is left, or no song was started
+    pub event: Option<Event>,
     // the clock value at which the song began
     pub began: u32,
-    // no event is left, or no song was started
-    pub ended: bool,
 }
 
 // A player, how many events a render has applied, and how many of these were refused.

@@ -2,7 +2,7 @@
 ghost use Rattle.std.specs.Prelude.{◌≡◌};
 ghost use Rattle.player.specs.Pauses.{hushed, hushed_to, freshened, freshened_to, started, stopped};
 
-use crate::cues::{cue, with_engine};
+use crate::cues::cue;
 use crate::{Begun, Player};
 use engine::Engine;
 
@@ -17,14 +17,13 @@ fn hush(e: Engine, channel: u8) -> Engine
 }
 
 // All channels let go, in order.
+#[tactic(auto, unfolding(crate::specs::Pauses::hushed_to))]
 fn hush_all(e: Engine) -> Engine
     ensures { result ≡ hushed_to 16 e }
 {
     let mut x = e;
-    let mut channel: u8 = 0;
-    while channel < 16 {
+    for channel in 0..16 {
         x = hush(x, channel);
-        channel = channel + 1;
     }
     x
 }
@@ -43,26 +42,27 @@ fn freshen(e: Engine, channel: u8) -> Engine
 }
 
 // .. of all channels.
+#[tactic(auto, unfolding(crate::specs::Pauses::freshened_to))]
 fn freshen_all(e: Engine) -> Engine
     ensures { result ≡ freshened_to 16 e }
 {
     let mut x = e;
-    let mut channel: u8 = 0;
-    while channel < 16 {
+    for channel in 0..16 {
         x = freshen(x, channel);
-        channel = channel + 1;
     }
     x
 }
 
 // The song stops: all channels are let go, and no event is left.
+#[tactic(auto, unfolding(crate::specs::Pauses::stopped))]
 pub fn stop(p: Player) -> Player
     ensures { result ≡ stopped p }
 {
-    let e = p.engine;
-    let mut x = with_engine(p, hush_all(e));
-    x.ended = true;
-    x
+    Player {
+        engine: hush_all(p.engine),
+        event: None,
+        ..p
+    }
 }
 
 // A song starts at the clock's value, once the one that was playing is stopped. A refused file changes nothing.
@@ -77,13 +77,14 @@ pub fn start(p: Player, file: &[u8]) -> Begun
             player: p,
         };
     }
-    let e = p.engine;
-    let mut x = with_engine(p, freshen_all(hush_all(e)));
-    x.began = e.clock;
-    let cursor = o.cursor;
+    let x = Player {
+        engine: freshen_all(hush_all(p.engine)),
+        began: p.engine.clock,
+        ..p
+    };
     Begun {
         number: 0,
         place: 0,
-        player: cue(x, smf::next(file, cursor)),
+        player: cue(x, smf::next(file, o.cursor)),
     }
 }

@@ -1,11 +1,13 @@
 // Render: the engine's frames, with each event of the song before the frame that it names.
-ghost use Rattle.std.specs.Prelude.{◌≡◌, ◌+◌, ◌*◌, ◌<◌, ◌≤◌, ◌++◌, length, take, drop, if◌then◌else◌};
+ghost use Rattle.std.specs.Prelude.{◌≡◌, ◌+◌, ◌*◌, ◌<◌, ◌≤◌, ◌++◌, true, false, length, take, drop, if◌then◌else◌};
 ghost use Rattle.engine.specs.Rendering.{output};
-ghost use Rattle.player.specs.Playing.{opened, refusal, applying, forward, performed, numbers, answered, sounded_into};
+ghost use Rattle.player.specs.Cues.{song_over};
+ghost use Rattle.player.specs.Playing.{opened, applying, forward, performed, numbers, answered, sounded_into};
 
 use crate::acting::heed;
 use crate::cues::{cue, gap, with_engine};
 use crate::{Answer, Player, Tally};
+use smf::Event;
 
 // No event is applied yet.
 fn open(p: Player) -> Tally
@@ -18,27 +20,18 @@ fn open(p: Player) -> Tally
     }
 }
 
-// 1 where a call was refused.
-fn one_unless_done(status: u8) -> u32
-    ensures { result ≡ refusal status }
-{
-    if status == 0 { 0 } else { 1 }
-}
-
 // The event that comes next acts on the engine and is counted, and the one behind it is read.
-fn apply<'a>(x: Tally, file: &[u8], bank: &[u8], ram: &'a [i16], rom: &'a [i16]) -> Tally
-    requires { (x.applied < 4294967295) × (x.refused ≤ x.applied) }
+fn apply<'a>(x: Tally, v: Event, file: &[u8], bank: &[u8], ram: &'a [i16], rom: &'a [i16]) -> Tally
+    requires { (x.player.event ≡ Some v) × (x.applied < 4294967295) × (x.refused ≤ x.applied) }
     ensures { result ≡ applying file.now bank.now ram.now rom.now x }
 {
     let p = x.player;
-    let v = p.event;
     let mut e = p.engine;
     let a = heed(&mut e, bank, ram, rom, v);
-    let cursor = p.cursor;
     Tally {
-        player: cue(with_engine(p, e), smf::next(file, cursor)),
+        player: cue(with_engine(p, e), smf::next(file, p.cursor)),
         applied: x.applied + 1,
-        refused: x.refused + one_unless_done(engine::status_of(a)),
+        refused: x.refused + u32::from(engine::status_of(a) != 0),
     }
 }
 
@@ -51,13 +44,13 @@ fn apply_if<'a>(
     ram: &'a [i16],
     rom: &'a [i16],
 ) -> Tally
-    requires { (x.applied < 4294967295) × (x.refused ≤ x.applied) }
+    requires { (more ≡ true → song_over x.player ≡ false) × (x.applied < 4294967295) × (x.refused ≤ x.applied) }
     ensures { result ≡ (if more then applying file.now bank.now ram.now rom.now x else x) }
 {
-    if more {
-        return apply(x, file, bank, ram, rom);
+    match x.player.event {
+        Some(v) if more => apply(x, v, file, bank, ram, rom),
+        _ => x,
     }
-    x
 }
 
 // m frames of the engine alone, written from a place of the output on.
@@ -72,11 +65,10 @@ fn go_on<'a>(x: Tally, ram: &'a [i16], rom: &'a [i16], out: &mut [f32], at: usiz
     let p = x.player;
     let e = p.engine;
     let mut y = engine::rendering::play(e, ram, rom, &mut out[at..], m as usize);
-    y.clock = std::num::wrapping_add_u32(e.clock, m);
+    y.clock = e.clock.wrapping_add(m);
     Tally {
         player: with_engine(p, y),
-        applied: x.applied,
-        refused: x.refused,
+        ..x
     }
 }
 
@@ -97,10 +89,9 @@ fn play_on<'a>(
     let mut x = open(p);
     let mut k: u32 = 0;
     while k < n {
-        let q = x.player;
-        let m = gap(q, n - k);
+        let m = gap(x.player, n - k);
         x = go_on(x, ram, rom, out, 2 * (k as usize), m);
-        k = k + m;
+        k += m;
         x = apply_if(k < n, x, file, bank, ram, rom);
     }
     x
@@ -119,8 +110,7 @@ pub fn render<'a>(
     ensures answer { result ≡ answered file.now bank.now ram.now rom.now to (length out.old) p }
     ensures output { out.new ≡ sounded_into file.now bank.now ram.now rom.now to out.old p }
 {
-    let e = p.engine;
-    match engine::rendering::render_number(e, to, ram, rom, out.len()) {
+    match engine::rendering::render_number(p.engine, to, ram, rom, out.len()) {
         Err(refusal) => Answer {
             number: refusal.number(),
             applied: 0,
@@ -128,14 +118,13 @@ pub fn render<'a>(
             player: p,
         },
         Ok(()) => {
-            let n = engine::rendering::distance_to(e, to);
+            let n = engine::rendering::distance_to(p.engine, to);
             let x = play_on(p, file, bank, ram, rom, out, n);
-            let q = x.player;
             Answer {
                 number: 0,
                 applied: x.applied,
                 refused: x.refused,
-                player: q,
+                player: x.player,
             }
         }
     }

@@ -1,4 +1,5 @@
 -- Voices that calls start: what every one of them has, as its bank and its call say.
+use Rattle.std.specs.Prelude.{Option, None, Some}
 use Prim.Native.Nat.{ℕ, ◌≤◌, ◌+◌}
 use mathlib.Core.Path.{◌≡◌, subst, refl, sym}
 use mathlib.Core.Bool.{false, true, Bool, cond}
@@ -16,8 +17,6 @@ use Rattle.arith.specs.Within.{Within}
 use Rattle.arith.proofs.HoldsLaws.{held-within}
 use Rattle.records.specs.Sides.{parts_of}
 use Rattle.records.specs.declared.Parts.{Parts}
-use Rattle.records.specs.declared.Found.{Found}
-use Rattle.records.specs.declared.Found.TheVariants.{At, Nothing}
 use Rattle.totals.specs.Values.{instrument_only, held_total, total_of, total}
 use Rattle.totals.specs.declared.Layer.{Layer}
 use Rattle.layers.specs.declared.Pair.{Pair}
@@ -62,9 +61,9 @@ preset-made b h c k v = each (take 33 (layers_of b (parts_of b) k v h))
 struck-made : (b : List ℕ) (bank program c k v : ℕ) → All Made (struck_voices b bank program c k v)
 struck-made b bank program c k v = by (preset_for b (parts_of b) bank program) refl
   where
-    by : (f : Found) → preset_for b (parts_of b) bank program ≡ f → All Made (struck_voices b bank program c k v)
-    by Nothing e = rw (struck-none b bank program e c k v) tt
-    by (At h) e = rw (struck-some b bank program h e c k v) (preset-made b h c k v)
+    by : (f : Option ℕ) → preset_for b (parts_of b) bank program ≡ f → All Made (struck_voices b bank program c k v)
+    by None e = rw (struck-none b bank program e c k v) tt
+    by (Some h) e = rw (struck-some b bank program h e c k v) (preset-made b h c k v)
 
 -- a voice that begins, struck with channel, key and velocity
 pub record Begins (c k v : ℕ) (u : Voice) : Type 0 where

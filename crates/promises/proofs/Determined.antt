@@ -1,17 +1,15 @@
 -- Contracts that are equations determine what they speak of.
-use mathlib.Core.Path.{◌≡◌, sym, ◌∙◌, ap, ap₂, refl}
+use mathlib.Core.Path.{◌≡◌, refl, sym, ◌∙◌, ap, ap₂}
+use native.Mathlib.Omega.{arith}
 use mathlib.Core.List.{List}
 use lib.Ieee.{Float}
 use Prim.Native.Nat.{ℕ}
 use mathlib.Core.Bool.{Bool}
 use Rattle.promises.specs.Determined.{Settles, Outcome, Ends}
-use lib.Dec.{eqb}
-use mathlib.Core.Bool.{cond}
-use Rattle.std.specs.Prelude.{Result, Ok, Err}
-use Rattle.state.specs.Answers.{Answered, answered, number, status_of}
-use Rattle.state.proofs.AnswersLaws.{refusal-numbered}
+use Rattle.std.specs.Prelude.{Result, Ok, Err, Option}
+use Rattle.state.specs.Answers.{Answered, status_of}
+use Rattle.state.proofs.ToldLaws.{answered-apart}
 use Rattle.state.specs.declared.Refusal.{Refusal}
-use Rattle.state.specs.declared.Refusal.TheVariants.{NotAdmitted, OutOfRange, NoPreset, TooManyLayers, ClockBehind, TooManyFrames, OutputTooShort, PastMemory}
 use Rattle.voice.specs.declared.Shown.{Shown}
 use Rattle.state.specs.declared.Engine.{Engine}
 use Rattle.bank.specs.Admission.{fault_of, fault_number, admitted}
@@ -19,9 +17,8 @@ use Rattle.bank.specs.declared.Listed.{Listed}
 use Rattle.bank.specs.Listing.{listed}
 use Rattle.bank.specs.declared.Fault.{Fault}
 use Rattle.bank.specs.Past.{past_memory}
-use Rattle.layers.specs.declared.Sheet.{Sheet}
-use Rattle.layers.specs.Spans.{sheet_of}
-use Rattle.records.specs.declared.Found as RecordsFound
+use Rattle.layers.specs.declared.NoSheet.TheVariants.{NotAdmitted, AtEnd}
+use Rattle.layers.specs.Spans.{SheetNumbers, sheet_of}
 use Rattle.reader.specs.declared.Opened.{Opened}
 use Rattle.reader.specs.Reader.{opened_of, next_of, nth_listed}
 use Rattle.reader.specs.declared.Taken.{Taken}
@@ -33,7 +30,7 @@ use Rattle.player.specs.declared.Begun.{Begun}
 use Rattle.player.specs.declared.Player.{Player}
 use Rattle.player.specs.declared.Stepped.{Stepped}
 use Rattle.player.specs.Asking.{is_silent, held_count}
-use Rattle.player.specs.Cues.{idle, with_engine, gap_of}
+use Rattle.player.specs.Cues.{song_over, idle, with_engine, gap_of}
 use Rattle.player.specs.Pauses.{started, stopped}
 use Rattle.player.specs.Stepping.{step_taken, next_event, next_frame}
 use Rattle.engine.specs.Presets.{sought_program, sought_bank}
@@ -42,6 +39,7 @@ use Rattle.smf.specs.declared.Opening.{Opening}
 use Rattle.smf.specs.declared.Tested.{Tested}
 use Rattle.smf.specs.Songs.{test_of, opening_of, handed_of, bytes_of}
 use Rattle.wave.specs.Lowering.{attenuation_for}
+use Rattle.wave.proofs.ToldLaws.{number-told-apart, heard-told-apart, sums-told-apart}
 use Rattle.promises.specs.Determined as D
 use Rattle.state.specs.Board as StateBoard
 use Rattle.state.specs.Quiet as StateQuiet
@@ -57,35 +55,8 @@ outcome a l = record { answer = a; output = l }
 pub calls-determined : D.CallsDetermined
 calls-determined x e o p h k = ap₂ outcome (h.0 ∙ sym k.0) (h.1 ∙ sym k.1)
 
--- the refusal of a number
-refusal_of : ℕ → Refusal
-refusal_of n =
-    cond (eqb n 1) NotAdmitted (cond (eqb n 2) OutOfRange (cond (eqb n 3) NoPreset (cond (eqb n 4) TooManyLayers
-    (cond (eqb n 5) ClockBehind (cond (eqb n 6) TooManyFrames (cond (eqb n 7) OutputTooShort PastMemory))))))
-
-numbered : (r : Refusal) → refusal_of (number r) ≡ r
-unfolding refusal_of
-numbered NotAdmitted = refl
-numbered OutOfRange = refl
-numbered NoPreset = refl
-numbered TooManyLayers = refl
-numbered ClockBehind = refl
-numbered TooManyFrames = refl
-numbered OutputTooShort = refl
-numbered PastMemory = refl
-
--- answers by their number and their count
-told : (r s : Result ℕ Refusal) (e f : Engine) → answered r e ≡ answered s f → r ≡ s
-told (Ok n) (Ok m) e f h = ap (λ (x : Answered). Ok {A = ℕ} {E = Refusal} x.count) h
-told (Ok n) (Err s) e f h =
-    let t = ap (λ (x : Answered). eqb x.status 0) h ∙ refusal-numbered s in cc
-told (Err r) (Ok m) e f h =
-    let t = sym (refusal-numbered r) ∙ ap (λ (x : Answered). eqb x.status 0) h in cc
-told (Err r) (Err s) e f h =
-    ap (λ (x : Refusal). Err {A = ℕ} x) (sym (numbered r) ∙ ap (λ (x : Answered). refusal_of x.status) h ∙ numbered s)
-
 pub answered-tells-apart : D.AnsweredTells
-answered-tells-apart r s e f h = (told r s e f h, ap (λ (x : Answered). x.engine) h)
+answered-tells-apart r s e f h = (answered-apart r s e f h, ap (λ (x : Answered). x.engine) h)
 
 pub status-determined : D.StatusDetermined
 status-determined a = equation ℕ (status_of a)
@@ -122,11 +93,22 @@ pub admitted-determined : D.AdmittedDetermined
 admitted-determined bank = equation Bool (admitted bank)
 
 pub past-memory-determined : D.PastMemoryDetermined
-past-memory-determined bank ram rom = equation RecordsFound.Found (past_memory bank ram rom)
+past-memory-determined bank ram rom = equation (Option ℕ) (past_memory bank ram rom)
 
 -- ---- layers
+pub told-tells-apart : D.ToldTellsApart
+told-tells-apart (Ok s) (Ok t) e = cc
+told-tells-apart (Ok s) (Err NotAdmitted) e = absurd (omega (arith, ap (λ (x : SheetNumbers). x.kind) e))
+told-tells-apart (Ok s) (Err AtEnd) e = absurd (omega (arith, ap (λ (x : SheetNumbers). x.kind) e))
+told-tells-apart (Err NotAdmitted) (Ok t) e = absurd (omega (arith, ap (λ (x : SheetNumbers). x.kind) e))
+told-tells-apart (Err NotAdmitted) (Err NotAdmitted) e = refl
+told-tells-apart (Err NotAdmitted) (Err AtEnd) e = absurd (omega (arith, ap (λ (x : SheetNumbers). x.kind) e))
+told-tells-apart (Err AtEnd) (Ok t) e = absurd (omega (arith, ap (λ (x : SheetNumbers). x.kind) e))
+told-tells-apart (Err AtEnd) (Err NotAdmitted) e = absurd (omega (arith, ap (λ (x : SheetNumbers). x.kind) e))
+told-tells-apart (Err AtEnd) (Err AtEnd) e = refl
+
 pub preset-sheet-determined : D.PresetSheetDetermined
-preset-sheet-determined bank place = equation Sheet (sheet_of bank place)
+preset-sheet-determined bank place = equation SheetNumbers (sheet_of bank place)
 
 -- ---- reader
 pub open-determined : D.OpenDetermined
@@ -176,6 +158,15 @@ read-determined file out o p h k = ends o p (h.0 ∙ sym k.0) (h.1 ∙ sym k.1)
 pub pour-sums-determined : D.PourSumsDetermined
 pour-sums-determined sums attenuation out o p h k = ends o p (h.0 ∙ sym k.0) (h.1 ∙ sym k.1)
 
+pub told-number-apart : D.ToldNumberApart
+told-number-apart = number-told-apart
+
+pub told-heard-apart : D.ToldHeardApart
+told-heard-apart = heard-told-apart
+
+pub told-sums-apart : D.ToldSumsApart
+told-sums-apart = sums-told-apart
+
 pub attenuation-for-determined : D.AttenuationForDetermined
 attenuation-for-determined loudest = equation ℕ (attenuation_for loudest)
 
@@ -223,7 +214,7 @@ pub next-frame-determined : D.NextFrameDetermined
 next-frame-determined p = equation ℕ (next_frame p)
 
 pub over-determined : D.OverDetermined
-over-determined p = equation Bool p.ended
+over-determined p = equation Bool (song_over p)
 
 pub silent-determined : D.SilentDetermined
 silent-determined p = equation Bool (is_silent p)

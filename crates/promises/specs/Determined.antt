@@ -1,6 +1,6 @@
 -- Any two outcomes that a contract allows are one: the answer, the state and all of the output. A contract stands behind `λ` as
 -- in the source; tools/contracts compares it with the functions that `contract of` names.
-use Rattle.std.specs.Prelude.{◌≡◌, List, Float, ℕ, Bool, cond, ℤ, length, Result}
+use Rattle.std.specs.Prelude.{◌≡◌, List, Float, ℕ, Bool, cond, ℤ, length, Option, Result}
 use Rattle.std.specs.Borrow.{Bor}
 use Rattle.state.specs.Answers.{Answered, answered, status_of}
 use Rattle.state.specs.declared.Refusal.{Refusal}
@@ -13,7 +13,8 @@ use Rattle.bank.specs.Listing.{listed}
 use Rattle.bank.specs.declared.Fault.{Fault}
 use Rattle.bank.specs.Past.{past_memory}
 use Rattle.layers.specs.declared.Sheet.{Sheet}
-use Rattle.layers.specs.Spans.{sheet_of}
+use Rattle.layers.specs.declared.NoSheet.{NoSheet}
+use Rattle.layers.specs.Spans.{SheetNumbers, sheet_of, told}
 use Rattle.reader.specs.declared.Opened.{Opened}
 use Rattle.reader.specs.Reader.{opened_of, next_of, nth_listed, further}
 use Rattle.reader.specs.declared.Reader.{Reader}
@@ -35,22 +36,22 @@ use Rattle.player.specs.declared.Begun.{Begun}
 use Rattle.player.specs.declared.Player.{Player}
 use Rattle.player.specs.declared.Stepped.{Stepped}
 use Rattle.player.specs.Asking.{is_silent, held_count}
-use Rattle.player.specs.Cues.{idle, with_engine, gap_of}
+use Rattle.player.specs.Cues.{song_over, idle, with_engine, gap_of}
 use Rattle.player.specs.Pauses.{started, stopped}
 use Rattle.player.specs.Playing.{answered, sounded_into}
 use Rattle.player.specs.Stepping.{step_taken, next_event, next_frame}
 use Rattle.engine.specs.Presets.{sought_program, sought_bank}
 use Rattle.engine.specs.Rendering.{render}
 use Rattle.engine.specs.Summing.{summed}
-use Rattle.wave.specs.declared.Heard.{Heard}
-use Rattle.wave.specs.declared.Poured.{Poured}
+use Rattle.wave.specs.declared.answers.Poured.{Poured}
+use Rattle.wave.specs.declared.answers.Refusal as WaveRefusal
+use Rattle.wave.specs.Answers.{Heard, SumsTold, told_number, told_heard, told_sums}
 use Rattle.wave.specs.Headings.{heading_number, headed}
 use Rattle.wave.specs.Pours.{pour_number, poured_into}
 use Rattle.wave.specs.Recording.{write_number, recorded}
 use Rattle.wave.specs.Playback.{heard_of, replayed}
 use Rattle.wave.specs.Lowering.{attenuation_for, sums_into, sums_poured}
 use Rattle.records.specs.Memory.{part_of}
-use Rattle.records.specs.declared.Found as RecordsFound
 use Rattle.state.specs.Board as StateBoard
 use Rattle.state.specs.Quiet as StateQuiet
 
@@ -148,14 +149,18 @@ AdmittedDetermined = (bank : List ℕ) → Settles Bool (λ r. r ≡ admitted ba
 -- the 53 of the first zone whose window ends past a memory of so many samples, or nothing
 -- contract of bank::past_memory(bank, ram, rom)
 abbrev pub PastMemoryDetermined : Type 0
-PastMemoryDetermined = (bank : List ℕ) (ram rom : ℕ) → Settles RecordsFound.Found (λ r. r ≡ past_memory bank ram rom)
+PastMemoryDetermined = (bank : List ℕ) (ram rom : ℕ) → Settles (Option ℕ) (λ r. r ≡ past_memory bank ram rom)
 
 -- ---- layers
 
--- what is told of the preset at a place
+-- what is told of the preset at a place, by its numbers, which `told` gives of an answer
 -- contract of layers::preset_sheet(bank, place)
 abbrev pub PresetSheetDetermined : Type 0
-PresetSheetDetermined = (bank : List ℕ) (place : ℕ) → Settles Sheet (λ r. r ≡ sheet_of bank place)
+PresetSheetDetermined = (bank : List ℕ) (place : ℕ) → Settles SheetNumbers (λ r. r ≡ sheet_of bank place)
+
+-- the numbers of two answers are one only where the answers are: tells apart layers::told
+abbrev pub ToldTellsApart : Type 0
+ToldTellsApart = (a b : Result Sheet NoSheet) → told a ≡ told b → a ≡ b
 
 -- ---- reader
 
@@ -209,6 +214,21 @@ pub record Ends (A B : Type 0) : Type 0 where
   pub answer : A
   pub output : B
 
+-- what is told of an answer is one only for one answer
+-- tells apart wave::told_number
+abbrev pub ToldNumberApart : Type 0
+ToldNumberApart = (x y : Result (Unit {0}) WaveRefusal.Refusal) → told_number x ≡ told_number y → x ≡ y
+
+-- .. of the reader
+-- tells apart wave::told_heard
+abbrev pub ToldHeardApart : Type 0
+ToldHeardApart = (x y : Result ℕ WaveRefusal.Refusal) → told_heard x ≡ told_heard y → x ≡ y
+
+-- .. of a pour of sums
+-- tells apart wave::told_sums
+abbrev pub ToldSumsApart : Type 0
+ToldSumsApart = (x y : Result Poured WaveRefusal.Refusal) → told_sums x ≡ told_sums y → x ≡ y
+
 -- 02's number, and the heading in the output
 -- contract of wave::heading(frames, out)
 abbrev pub HeadingDetermined : Type 0
@@ -241,7 +261,7 @@ ReadDetermined =
 -- contract of wave::pour_sums(sums, attenuation, out)
 abbrev pub PourSumsDetermined : Type 0
 PourSumsDetermined =
-    (sums : List ℤ) (attenuation : ℕ) (out : List ℕ) → Settles (Ends Poured (List ℕ))
+    (sums : List ℤ) (attenuation : ℕ) (out : List ℕ) → Settles (Ends SumsTold (List ℕ))
     (λ o. (o.answer ≡ sums_poured attenuation sums (length out)) × (o.output ≡ sums_into attenuation sums out))
 
 -- the least attenuation for a size
@@ -331,7 +351,7 @@ NextFrameDetermined = (p : Player) → Settles ℕ (λ r. r ≡ next_frame p)
 -- whether no event is left
 -- contract of player::is_over(p)
 abbrev pub OverDetermined : Type 0
-OverDetermined = (p : Player) → Settles Bool (λ r. r ≡ p.ended)
+OverDetermined = (p : Player) → Settles Bool (λ r. r ≡ song_over p)
 
 -- whether no voice sounds
 -- contract of player::is_silent(p)

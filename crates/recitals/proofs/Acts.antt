@@ -1,4 +1,5 @@
 -- What the player does to its engine, call by call: events, frames, and the channels let go and set.
+use Rattle.std.proofs.Common.{Option, Some, None}
 use Prim.Native.Nat.{ℕ, zero, suc, ◌+◌, ◌*◌, ◌%◌, ◌<◌}
 use mathlib.Core.Bool.{Bool, true, false, cond}
 use mathlib.Core.List.{List, [], ◌∷◌, ◌++◌, append_assoc, append-nil}
@@ -10,7 +11,6 @@ use lib.Ieee.{Float, nan}
 use lib.ListN.{take}
 use Rattle.smf.specs.declared.Event.{Event}
 use Rattle.smf.specs.declared.Handed.{Handed}
-use Rattle.smf.specs.declared.Offer.{Offer}
 use Rattle.smf.specs.Songs.{turns, handed_of}
 use Rattle.state.specs.Answers.{Answered}
 use Rattle.state.specs.declared.Engine.{Engine}
@@ -19,7 +19,7 @@ use Rattle.engine.specs.Rendering.{distance, output, played}
 use Rattle.player.specs.declared.Player.{Player}
 use Rattle.player.specs.declared.Tally.{Tally}
 use Rattle.player.specs.Acting.{heeded_as, heeded, kind_of}
-use Rattle.player.specs.Cues.{with_engine, coming, cued, is_due}
+use Rattle.player.specs.Cues.{coming_event, with_engine, coming, cued, is_due}
 use Rattle.player.specs.Pauses.{hushed, hushed_to, freshened, freshened_to}
 use Rattle.player.specs.Playing.{ticked, forward, applying, caught_up, prepared, performed, numbers}
 use Rattle.promises.specs.Calls.{Call, does, next, run, written, frames_of, frames_run}
@@ -124,11 +124,11 @@ freshen-clock (suc n) e =
 
 -- what comes next does not touch the engine
 pub cued-engine : (p : Player) (h : Handed) → (cued p h).engine ≡ p.engine
-cued-engine p h = by h.offer
+cued-engine p h = by h.event
   where
-    by : (o : Offer) → (coming p h.cursor o).engine ≡ p.engine
-    by Offer.End = refl
-    by (Offer.Given v) = refl
+    by : (o : Option Event) → (coming p h.cursor o).engine ≡ p.engine
+    by None = refl
+    by (Some v) = refl
 
 module _ (ram rom : List ℤ) where
   -- calls that render nothing, keep the clock, and take no window past its memory
@@ -166,13 +166,13 @@ module _ (ram rom : List ℤ) where
 
   module _ (song bank : List ℕ) where
     -- one event applied
-    pub applying-acts : (x : Tally) → Acts x.player.engine (call_of bank ram rom x.player.event) (applying song bank ram rom x).player.engine
+    pub applying-acts : (x : Tally) → Acts x.player.engine (call_of bank ram rom (coming_event x.player)) (applying song bank ram rom x).player.engine
     unfolding applying
     applying-acts x =
-        let a = heeded bank ram rom x.player.event x.player.engine in
-        subst (Acts x.player.engine (call_of bank ram rom x.player.event))
+        let a = heeded bank ram rom (coming_event x.player) x.player.engine in
+        subst (Acts x.player.engine (call_of bank ram rom (coming_event x.player)))
         (sym (cued-engine (with_engine x.player a.engine) (handed_of song x.player.cursor)))
-        (event-acts bank x.player.event x.player.engine)
+        (event-acts bank (coming_event x.player) x.player.engine)
 
     -- all that are due
     pub caught-acts : (n : ℕ) (x : Tally) → Acts x.player.engine (due_calls song bank ram rom n x) (caught_up song bank ram rom n x).player.engine
@@ -180,8 +180,8 @@ module _ (ram rom : List ℤ) where
     caught-acts zero x = no-act x.player.engine
     caught-acts (suc n) x = by (is_due x.player) (both-act (applying-acts x) (caught-acts n (applying song bank ram rom x)))
       where
-        by : (b : Bool) → Acts x.player.engine (call_of bank ram rom x.player.event ++ due_calls song bank ram rom n (applying song bank ram rom x)) (caught_up song bank ram rom n (applying song bank ram rom x)).player.engine
-            → Acts x.player.engine (cond b (call_of bank ram rom x.player.event ++ due_calls song bank ram rom n (applying song bank ram rom x)) []) (cond b (caught_up song bank ram rom n (applying song bank ram rom x)) x).player.engine
+        by : (b : Bool) → Acts x.player.engine (call_of bank ram rom (coming_event x.player) ++ due_calls song bank ram rom n (applying song bank ram rom x)) (caught_up song bank ram rom n (applying song bank ram rom x)).player.engine
+            → Acts x.player.engine (cond b (call_of bank ram rom (coming_event x.player) ++ due_calls song bank ram rom n (applying song bank ram rom x)) []) (cond b (caught_up song bank ram rom n (applying song bank ram rom x)) x).player.engine
         by true h = h
         by false h = no-act x.player.engine
 

@@ -24,7 +24,7 @@ use Rattle.player.specs.declared.Begun.{Begun}
 use Rattle.player.specs.declared.Player.{Player}
 use Rattle.player.specs.declared.Stepped.{Stepped}
 use Rattle.player.specs.Acting.{kind_of, channel_in, bend_in, heeded, heeded_as}
-use Rattle.player.specs.Cues.{idle, with_engine, cued}
+use Rattle.player.specs.Cues.{song_over, coming_event, idle, with_engine, cued}
 use Rattle.player.specs.Pauses.{hushed_to, freshened_to, readied, stopped}
 use Rattle.player.specs.Playing.{opened, applying, numbers, sounded_into, answered}
 use Rattle.promises.specs.Calls.{Call, NoteOn, NoteOff, Control, Program, Bend, does, next}
@@ -155,13 +155,13 @@ module _ (bank : List ℕ) (ram rom : List ℤ) (v : Event) (e : Engine) where
 
 pub step-is-tested : StepIsTested
 unfolding applying
-step-is-tested song bank ram rom p = by p.ended refl
+step-is-tested song bank ram rom p = by (song_over p) refl
   where
     calls : Bool → List Call
-    calls b = cond b [] (call_of bank ram rom p.event)
+    calls b = cond b [] (call_of bank ram rom (coming_event p))
 
     heard : Answered
-    heard = heeded bank ram rom p.event p.engine
+    heard = heeded bank ram rom (coming_event p) p.engine
 
     handed : Handed
     handed = handed_of song p.cursor
@@ -169,7 +169,7 @@ step-is-tested song bank ram rom p = by p.ended refl
     not-both : {b : Bool} → b ≡ true → b ≡ false → ⊥
     not-both h k = let z : ◌≡◌ {A = ℕ} 1 0 = ap (λ (t : Bool). cond t 1 0) (sym h ∙ k) in absurd (omega arith)
 
-    by : (b : Bool) → p.ended ≡ b → StepAnswers song bank ram rom p
+    by : (b : Bool) → song_over p ≡ b → StepAnswers song bank ram rom p
     by true e =
         let z = step-none song bank ram rom p e in
         record {
@@ -184,7 +184,7 @@ step-is-tested song bank ram rom p = by p.ended refl
         let same = ap (λ (x : Stepped). x.player) s in
         record {
           number =
-              ap (λ (x : Stepped). x.number) s ∙ sym (event-number bank ram rom p.event p.engine)
+              ap (λ (x : Stepped). x.number) s ∙ sym (event-number bank ram rom (coming_event p) p.engine)
               ∙ sym (ap (λ (b : Bool). first_number (calls b) p.engine) e);
           none = λ h. absurd (not-both h e);
           one = λ h. ap (λ (x : Stepped). x.applied) s;
@@ -194,7 +194,7 @@ step-is-tested song bank ram rom p = by p.ended refl
           refused =
               λ n. same
               ∙ ap (λ (x : Engine). cued (with_engine p x) handed)
-              (event-kept bank ram rom p.event p.engine (λ z. n (ap (λ (x : Stepped). x.number) s ∙ z)));
+              (event-kept bank ram rom (coming_event p) p.engine (λ z. n (ap (λ (x : Stepped). x.number) s ∙ z)));
         }
 
 -- ---- channels, clock and voices

@@ -23,7 +23,7 @@ use Rattle.events.specs.Controls.{control_change}
 use Rattle.events.specs.Programs.{program_change}
 use Rattle.events.specs.Bends.{pitch_bend}
 use Rattle.player.specs.Acting.{kind_of, channel_in, bend_in, heeded, heeded_as}
-use Rattle.player.specs.Cues.{is_due}
+use Rattle.player.specs.Cues.{song_over, coming_event, is_due}
 use Rattle.player.specs.Playing.{opened, answered, refusal, forward, applying, caught_up, prepared, performed}
 use Rattle.promises.specs.Calls.{Call, NoteOn, NoteOff, Control, Program, Bend, does, next, run}
 use Rattle.promises.specs.Cuts.{ahead}
@@ -65,9 +65,9 @@ module _ (ram rom : List ℤ) where
 
   module _ (song bank : List ℕ) where
     -- one event applied
-    applied-refused : (x : Tally) → (applying song bank ram rom x).refused ≡ x.refused + refused_calls (call_of bank ram rom x.player.event) x.player.engine
+    applied-refused : (x : Tally) → (applying song bank ram rom x).refused ≡ x.refused + refused_calls (call_of bank ram rom (coming_event x.player)) x.player.engine
     unfolding applying
-    applied-refused x = ap (λ (n : ℕ). x.refused + n) (sym (event-refused bank x.player.event x.player.engine))
+    applied-refused x = ap (λ (n : ℕ). x.refused + n) (sym (event-refused bank (coming_event x.player) x.player.engine))
 
     -- all that are due
     caught-refused : (n : ℕ) (x : Tally) → (caught_up song bank ram rom n x).refused ≡ x.refused + refused_calls (due_calls song bank ram rom n x) x.player.engine
@@ -79,9 +79,9 @@ module _ (ram rom : List ℤ) where
             → (caught_up song bank ram rom n (applying song bank ram rom x)).refused
             ≡ (applying song bank ram rom x).refused + refused_calls (due_calls song bank ram rom n (applying song bank ram rom x)) (applying song bank ram rom x).player.engine
             → (cond b (caught_up song bank ram rom n (applying song bank ram rom x)) x).refused
-            ≡ x.refused + refused_calls (cond b (call_of bank ram rom x.player.event ++ due_calls song bank ram rom n (applying song bank ram rom x)) []) x.player.engine
+            ≡ x.refused + refused_calls (cond b (call_of bank ram rom (coming_event x.player) ++ due_calls song bank ram rom n (applying song bank ram rom x)) []) x.player.engine
         by true h =
-            let cs = call_of bank ram rom x.player.event in
+            let cs = call_of bank ram rom (coming_event x.player) in
             let ds = due_calls song bank ram rom n (applying song bank ram rom x) in
             let s = ap (refused_calls ds) (applying-acts ram rom song bank x).leads.state in
             omega (arith, h, applied-refused x, s, refused-append cs ds x.player.engine)
@@ -139,14 +139,14 @@ refused-counted song bank ram rom to out p h = by (eqb (render_number to ram rom
 -- a step
 pub refused-step-counted : RefusedStepIsCounted
 unfolding refused_calls
-refused-step-counted song bank ram rom p = by p.ended refl
+refused-step-counted song bank ram rom p = by (song_over p) refl
   where
     calls : Bool → List Call
-    calls b = cond b [] (call_of bank ram rom p.event)
+    calls b = cond b [] (call_of bank ram rom (coming_event p))
 
-    by : (b : Bool) → p.ended ≡ b → refused_in (Step song bank ram rom) p ≡ refused_calls (calls_of (Step song bank ram rom) p) p.engine
+    by : (b : Bool) → song_over p ≡ b → refused_in (Step song bank ram rom) p ≡ refused_calls (calls_of (Step song bank ram rom) p) p.engine
     by true e =
         ap (λ (x : Stepped). refusal x.number) (step-none song bank ram rom p e) ∙ sym (ap (λ (b : Bool). refused_calls (calls b) p.engine) e)
     by false e =
         ap (λ (x : Stepped). refusal x.number) (step-one song bank ram rom p e)
-        ∙ sym (event-refused ram rom bank p.event p.engine) ∙ sym (ap (λ (b : Bool). refused_calls (calls b) p.engine) e)
+        ∙ sym (event-refused ram rom bank (coming_event p) p.engine) ∙ sym (ap (λ (b : Bool). refused_calls (calls b) p.engine) e)

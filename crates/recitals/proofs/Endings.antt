@@ -20,7 +20,7 @@ use Rattle.state.specs.Slots.{slot_at}
 use Rattle.events.specs.Keys.{held_key, pedal_down}
 use Rattle.player.specs.declared.Player.{Player}
 use Rattle.player.specs.declared.Tally.{Tally}
-use Rattle.player.specs.Cues.{idle}
+use Rattle.player.specs.Cues.{song_over, idle}
 use Rattle.player.specs.Playing.{opened, forward, prepared}
 use Rattle.promises.specs.Calls.{Call, run, voice_in, frames_run, history, seats}
 use Rattle.promises.specs.Night.{strikes, leaves, struck_after, NotHeld, AllReleased, longest_release}
@@ -79,12 +79,12 @@ not-held c k e h i = by (held_key c k (slot_at e i)) refl
 -- ---- once it is over
 
 -- no event is due any more: what is called are renders, which start no voice
-over-starts : (song bank : List ℕ) (ram rom : List ℤ) (m : ℕ) (x : Tally) (e : Engine) → x.player.ended ≡ true → history (frame_calls song bank ram rom m x) e ≡ []
+over-starts : (song bank : List ℕ) (ram rom : List ℤ) (m : ℕ) (x : Tally) (e : Engine) → song_over x.player ≡ true → history (frame_calls song bank ram rom m x) e ≡ []
 unfolding frame_calls history seats forward
 over-starts song bank ram rom zero x e h = refl
 over-starts song bank ram rom (suc m) x e h =
     let u = up_none song bank ram rom 0 (turns song) x (rw h refl) in
-    rw u.1 (over-starts song bank ram rom m (forward ram rom 1 (prepared song bank ram rom x)) _ (ap (λ (y : Tally). y.player.ended) u.0 ∙ h))
+    rw u.1 (over-starts song bank ram rom m (forward ram rom 1 (prepared song bank ram rom x)) _ (ap (λ (y : Tally). song_over y.player) u.0 ∙ h))
 
 module _ (song bank : List ℕ) (ram rom : List ℤ) (vs : List Event) (before ts us : List Turn) (n m : ℕ) (o : PlayedOut song bank ram rom vs before ts us n m) where
   -- the player before the start, its engine behind it, and the player when the song is over

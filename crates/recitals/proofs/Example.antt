@@ -1,4 +1,5 @@
 -- A song of the bell of `Demand3Example`, computed: struck at frame 0 and left at frame 3. It is started by a fresh player, played in two cuts, and ends in silence.
+use Rattle.std.proofs.Common.{Some}
 use Prim.Native.Nat.{ℕ, ◌<◌, ◌≤◌, ◌+◌}
 use mathlib.Core.Bool.{Bool, true, false, cond}
 use mathlib.Core.List.{List, [], ◌∷◌, ◌++◌}
@@ -10,13 +11,12 @@ use lib.ListN.{replicate}
 use Rattle.smf.specs.declared.Cursor.{Cursor}
 use Rattle.smf.specs.declared.Event.{Event}
 use Rattle.smf.specs.declared.Handed.{Handed}
-use Rattle.smf.specs.declared.Offer.TheVariants.{Given}
 use Rattle.smf.specs.Track.{Events}
 use Rattle.smf.specs.Songs.{events_of, opening_of, handed_of}
 use Rattle.state.specs.declared.Engine.{Engine}
 use Rattle.state.specs.Quiet.{fresh}
 use Rattle.player.specs.declared.Player.{Player}
-use Rattle.player.specs.Cues.{idle, with_engine, coming, cued, since, is_due, gap_of}
+use Rattle.player.specs.Cues.{song_over, coming_event, idle, with_engine, coming, cued, since, is_due, gap_of}
 use Rattle.player.specs.Playing.{answered}
 use Rattle.player.specs.Pauses.{hushed_to, freshened_to, readied}
 use Rattle.player.proofs.CuesLaws.{reached-due, gap-near}
@@ -111,8 +111,8 @@ later = Play song bell ram [] 48 (replicate 88 nan)
 abbrev begun : Player
 begun = next_turn (Start song) idle
 
-abbrev ended : Player
-ended = run_turns (Start song ∷ first ∷ []) idle
+abbrev at_end : Player
+at_end = run_turns (Start song ∷ first ∷ []) idle
 
 -- the calls of a start leave a fresh engine as it was
 set-fresh : run (hush_calls 16 ++ fresh_calls 16) fresh ≡ fresh
@@ -146,22 +146,22 @@ unfolding events_before
 all-played = refl
 
 -- the bell still sounds
-ended-engine : ended.engine ≡ run rest struck_bell
+ended-engine : at_end.engine ≡ run rest struck_bell
 unfolding StateQuiet.fresh
 ended-engine =
     recited.engine ∙ run-append (hush_calls 16 ++ fresh_calls 16) (recital bell ram [] events 0 4) fresh
     ∙ ap (run (recital bell ram [] events 0 4)) set-fresh ∙ ap (λ (cs : List Call). run cs fresh) song-calls
     ∙ run-append before rest fresh ∙ ap (run rest) computed.struck
 
-pub ended-sounds : ended.engine.sounding ≡ 1
+pub ended-sounds : at_end.engine.sounding ≡ 1
 ended-sounds = ap (λ (e : Engine). e.sounding) ended-engine ∙ ringing.sounds
 
-later-done : (answered song bell ram [] 48 88 ended).number ≡ 0
-later-done = play-number song bell ram [] 48 88 ended ∙ ap (render_number 48 ram [] 88) ended-engine ∙ ringing.number
+later-done : (answered song bell ram [] 48 88 at_end).number ≡ 0
+later-done = play-number song bell ram [] 48 88 at_end ∙ ap (render_number 48 ram [] 88) ended-engine ∙ ringing.number
 
-later-plays : Plays song bell ram [] (later ∷ []) 44 ended
+later-plays : Plays song bell ram [] (later ∷ []) 44 at_end
 later-plays =
-    subst (λ (n : ℕ). Plays song bell ram [] (later ∷ []) n ended) (ap (λ (n : ℕ). n + 0) (ap (λ (e : Engine). distance e 48) ended-engine ∙ ringing.far))
+    subst (λ (n : ℕ). Plays song bell ram [] (later ∷ []) n at_end) (ap (λ (n : ℕ). n + 0) (ap (λ (e : Engine). distance e 48) ended-engine ∙ ringing.far))
     (plays 48 (replicate 88 nan) later-done rests)
 
 -- its strike has its note-off, and it has no pedal
@@ -179,7 +179,7 @@ played-out =
     record { clocks = tt; events = song-events; closed = song-closed; played = first-plays; over = recited.all all-played; rest = later-plays }
 
 -- so after the 43 frames of its release and one more all is silent
-pub song-silent : (run_turns (later ∷ []) ended).engine.sounding ≡ 0
+pub song-silent : (run_turns (later ∷ []) at_end).engine.sounding ≡ 0
 unfolding run_turns
 song-silent =
     song-ends-in-silence song bell ram [] events [] (first ∷ []) (later ∷ []) 4 44 played-out
@@ -213,23 +213,23 @@ strike = record { frame = 0; status = 144; first = 60; second = 100 }
 abbrev leave : Event
 leave = record { frame = 3; status = 128; first = 60; second = 64 }
 
-strike-offered : lent.offer ≡ Given strike
+strike-offered : lent.event ≡ Some strike
 unfolding ArithBytes.u8_at ArithHolds.between SmfHead.chunk_end SmfHead.track_from SmfHead.head_of SmfItems.short_at SmfItems.long_at SmfItems.spoken_at SmfItems.exclusive_at SmfItems.meta_of SmfItems.meta_at SmfItems.item_at SmfQuantities.two_at SmfQuantities.three_at SmfQuantities.four_at SmfQuantities.quantity_from SmfQuantities.quantity_at SmfSongs.events_of SmfSongs.opening_of SmfSongs.handed_of SmfTicks.frame_of SmfTrack.acted SmfTrack.obeyed SmfTrack.meet_at SmfTrack.song_from SmfTrack.next_from
 strike-offered = refl
 
-leave-offered : (handed_of song lent.cursor).offer ≡ Given leave
+leave-offered : (handed_of song lent.cursor).event ≡ Some leave
 unfolding ArithBytes.u8_at ArithHolds.between SmfHead.chunk_end SmfHead.track_from SmfHead.head_of SmfItems.short_at SmfItems.long_at SmfItems.spoken_at SmfItems.exclusive_at SmfItems.meta_of SmfItems.meta_at SmfItems.item_at SmfQuantities.two_at SmfQuantities.three_at SmfQuantities.four_at SmfQuantities.quantity_from SmfQuantities.quantity_at SmfSongs.events_of SmfSongs.opening_of SmfSongs.handed_of SmfTicks.frame_of SmfTrack.acted SmfTrack.obeyed SmfTrack.meet_at SmfTrack.song_from SmfTrack.next_from
 leave-offered = refl
 
 -- so the strike is due at the start
-begun-is : begun ≡ coming (readied idle) lent.cursor (Given strike)
+begun-is : begun ≡ coming (readied idle) lent.cursor (Some strike)
 begun-is = start_is song events song-events idle ∙ ap (coming (readied idle) lent.cursor) strike-offered
 
-begun-open : begun.ended ≡ false
-begun-open = ap (λ (p : Player). p.ended) begun-is
+begun-open : song_over begun ≡ false
+begun-open = ap (λ (p : Player). song_over p) begun-is
 
 begun-due : is_due begun ≡ true
-begun-due = reached-due begun begun-open (omega (arith, ap (λ (p : Player). p.event.frame) begun-is))
+begun-due = reached-due begun begun-open (omega (arith, ap (λ (p : Player). (coming_event p).frame) begun-is))
 
 -- and behind it the way is three frames
 abbrev over-strike : Turn
@@ -238,7 +238,7 @@ over-strike = Step song bell ram []
 abbrev struck : Player
 struck = next_turn over-strike begun
 
-struck-is : struck ≡ coming (with_engine begun struck.engine) (handed_of song lent.cursor).cursor (Given leave)
+struck-is : struck ≡ coming (with_engine begun struck.engine) (handed_of song lent.cursor).cursor (Some leave)
 struck-is =
     (step-is-tested song bell ram [] begun).behind begun-open
     ∙ ap (λ (c : Cursor). cued (with_engine begun struck.engine) (handed_of song c)) (ap (λ (p : Player). p.cursor) begun-is)
@@ -248,8 +248,8 @@ struck-began : struck.began ≡ 0
 unfolding StateQuiet.fresh
 struck-began = ap (λ (p : Player). p.began) struck-is ∙ ap (λ (p : Player). p.began) begun-is
 
-struck-frame : struck.event.frame ≡ 3
-struck-frame = ap (λ (p : Player). p.event.frame) struck-is
+struck-frame : (coming_event struck).frame ≡ 3
+struck-frame = ap (λ (p : Player). (coming_event p).frame) struck-is
 
 struck-clock : struck.engine.clock ≡ 0
 unfolding StateQuiet.fresh
@@ -259,7 +259,7 @@ struck-gap : 3 ≤ gap_of struck 4
 unfolding since
 struck-gap =
     let n : since struck ≡ 0 = omega (arith, struck-clock, struck-began) in
-    omega (arith, struck-frame, n, gap-near struck 4 (ap (λ (p : Player). p.ended) struck-is) (omega (arith, struck-frame, n)))
+    omega (arith, struck-frame, n, gap-near struck 4 (ap (λ (p : Player). song_over p) struck-is) (omega (arith, struck-frame, n)))
 
 -- a step, the engine's own three frames, and one more of the song
 abbrev own : Turn
@@ -278,6 +278,6 @@ song-stepped =
     (alone 3 4 (replicate 6 nan) (lit< tt) struck-gap (lit≤ tt) (omega (arith, struck-began)) (omega (arith, struck-frame)) (part 1 (replicate 2 nan) (lit≤ tt) no_part)))).1
 
 -- an empty file is refused, and changes nothing
-pub empty-changes-nothing : next_turn (Start []) ended ≡ ended
+pub empty-changes-nothing : next_turn (Start []) at_end ≡ at_end
 unfolding ArithBytes.u8_at SmfHead.chunk_end SmfHead.head_of SmfQuantities.two_at SmfQuantities.four_at SmfSongs.events_of SmfSongs.test_of
-empty-changes-nothing = (start-is-tested [] ended).refused (λ (q : 9 ≡ 0). omega arith)
+empty-changes-nothing = (start-is-tested [] at_end).refused (λ (q : 9 ≡ 0). omega arith)

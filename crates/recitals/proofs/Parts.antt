@@ -20,7 +20,7 @@ use Rattle.player.specs.declared.Player.{Player}
 use Rattle.player.specs.declared.Stepped.{Stepped}
 use Rattle.player.specs.declared.Tally.{Tally}
 use Rattle.player.specs.Acting.{heeded}
-use Rattle.player.specs.Cues.{with_engine, since, is_due, gap_of}
+use Rattle.player.specs.Cues.{song_over, coming_event, with_engine, since, is_due, gap_of}
 use Rattle.player.specs.Playing.{refusal, opened, ticked, forward, applying, caught_up, prepared, performed, numbers, answered}
 use Rattle.player.specs.Stepping.{step_taken}
 use Rattle.player.proofs.CuesLaws.{left, due-open, Quiet, gap-quiet}
@@ -52,7 +52,7 @@ module _ (song bank : List ℕ) (ram rom : List ℤ) where
   unfolding applying
   applying-more a r x =
       ap₂ (λ (m n : ℕ). record { player = (applying song bank ram rom x).player; applied = m; refused = n })
-      (add_assoc a x.applied 1) (add_assoc r x.refused (refusal (heeded bank ram rom x.player.event x.player.engine).status))
+      (add_assoc a x.applied 1) (add_assoc r x.refused (refusal (heeded bank ram rom (coming_event x.player) x.player.engine).status))
 
   caught-more : (n a r : ℕ) (x : Tally) → caught_up song bank ram rom n (more a r x) ≡ more a r (caught_up song bank ram rom n x)
   unfolding caught_up
@@ -113,10 +113,10 @@ module _ (song bank : List ℕ) (ram rom : List ℤ) where
 -- ---- parts
 
 -- a step that changes nothing is one with no event left: behind each event fewer are left
-idle-step : (song bank : List ℕ) (ram rom : List ℤ) (p : Player) → next_turn (Step song bank ram rom) p ≡ p → p.ended ≡ true
-idle-step song bank ram rom p s = by p.ended refl
+idle-step : (song bank : List ℕ) (ram rom : List ℤ) (p : Player) → next_turn (Step song bank ram rom) p ≡ p → song_over p ≡ true
+idle-step song bank ram rom p s = by (song_over p) refl
   where
-    by : (b : Bool) → p.ended ≡ b → p.ended ≡ true
+    by : (b : Bool) → song_over p ≡ b → song_over p ≡ true
     by true e = e
     by false e =
         let same : (applying song bank ram rom (opened p)).player ≡ p = sym (ap (λ (x : Stepped). x.player) (step-one song bank ram rom p e)) ∙ s in
@@ -203,7 +203,7 @@ module _ (song bank : List ℕ) (ram rom : List ℤ) where
   -- there are none within the gap
   within-gap : (n most : ℕ) (p : Player) → 0 < n → n ≤ gap_of p most → Quiet n p
   within-gap n most p some near =
-      ⊎_elim (⊎_elim (λ (e : p.ended ≡ true). inl e) (λ (h : since p + gap_of p most ≤ p.event.frame). inr (omega arith)))
+      ⊎_elim (⊎_elim (λ (e : song_over p ≡ true). inl e) (λ (h : since p + gap_of p most ≤ (coming_event p).frame). inr (omega arith)))
       (λ (z : gap_of p most ≡ 0). absurd (omega arith)) (gap-quiet p most)
 
   -- they are the engine's own
@@ -273,7 +273,7 @@ module _ (song bank : List ℕ) (ram rom : List ℤ) where
   due-numbers (suc n) x some due = numbers-one song bank ram rom n x due
 
   -- what a step counts
-  step_counts : (p : Player) → p.ended ≡ false
+  step_counts : (p : Player) → song_over p ≡ false
       → (applied_in (Step song bank ram rom) p ≡ (applying song bank ram rom (opened p)).applied) × (refused_in (Step song bank ram rom) p ≡ (applying song bank ram rom (opened p)).refused)
   unfolding applying
   step_counts p e =

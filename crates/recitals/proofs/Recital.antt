@@ -1,4 +1,5 @@
 -- A song that is started and played: each event once, in order, at its frame.
+use Rattle.std.proofs.Common.{Option, Some, None}
 use Prim.Native.Nat.{ℕ, zero, suc, ◌+◌, ◌%◌, ◌<◌, ◌≤◌}
 use mathlib.Core.Bool.{Bool, true, false, cond}
 use mathlib.Core.List.{List, [], ◌∷◌, ◌++◌, append-nil}
@@ -17,7 +18,6 @@ use Rattle.smf.specs.declared.Event.{Event}
 use Rattle.smf.specs.declared.Handed.{Handed}
 use Rattle.smf.specs.declared.Met.{Met}
 use Rattle.smf.specs.declared.Met.TheVariants.{Fault, End, Passed, Given}
-use Rattle.smf.specs.declared.Offer.{Offer}
 use Rattle.smf.specs.Head.{head_of}
 use Rattle.smf.specs.Reading.{InRange, event_at, entry, offered, cursor_after}
 use Rattle.smf.specs.Songs.{turns, events_of, opening_of, handed_of, track_cursor, first_cursor, test_of}
@@ -30,7 +30,7 @@ use Rattle.player.specs.declared.Begun.{Begun}
 use Rattle.player.specs.declared.Player.{Player}
 use Rattle.player.specs.declared.Tally.{Tally}
 use Rattle.player.specs.Acting.{heeded}
-use Rattle.player.specs.Cues.{with_engine, coming, cued, since, is_due}
+use Rattle.player.specs.Cues.{song_over, coming_event, with_engine, coming, cued, since, is_due}
 use Rattle.player.specs.Playing.{opened, forward, applying, caught_up, prepared, performed, numbers, ticked}
 use Rattle.promises.specs.Calls.{Call, Render, run}
 use Rattle.promises.specs.Cuts.{numbers_of, ahead}
@@ -173,11 +173,11 @@ here n v vs h = (rw (le-ltb v.frame n (omega arith)) refl, rw (eq-eqb v.frame n 
 
 module _ (song : List ℕ) (vs : List Event) (is : events_of song ≡ Events vs) where
   -- what a next offers is the event
-  offers : (k : ℕ) (v : Event) → event_at vs k ≡ Offer.Given v → offered song k ≡ Offer.Given v
+  offers : (k : ℕ) (v : Event) → event_at vs k ≡ Some v → offered song k ≡ Some v
   offers k v h = reads_all song k ∙ ap (λ (s : Song). entry s k) is ∙ h
 
-  rises : (low : ℕ) (us : List Event) → ((j : ℕ) (f : Event) → event_at us j ≡ Offer.Given f → low ≤ f.frame)
-      → ((i j : ℕ) (e f : Event) → i ≤ j → event_at us i ≡ Offer.Given e → event_at us j ≡ Offer.Given f → e.frame ≤ f.frame) → Up low us
+  rises : (low : ℕ) (us : List Event) → ((j : ℕ) (f : Event) → event_at us j ≡ Some f → low ≤ f.frame)
+      → ((i j : ℕ) (e f : Event) → i ≤ j → event_at us i ≡ Some e → event_at us j ≡ Some f → e.frame ≤ f.frame) → Up low us
   rises low [] h k = tt
   rises low (u ∷ us) h k =
       (h 0 u refl, rises u.frame us (λ j f q. k 0 (suc j) u f (omega arith) refl q) (λ i j e f l p q. k (suc i) (suc j) e f (omega arith) p q))
@@ -191,7 +191,7 @@ module _ (song : List ℕ) (vs : List Event) (is : events_of song ≡ Events vs)
   unfolding offered
   song-each P h = go vs (λ j f q. h f (all-in-range song (cursor_after song j) f (offers j f q)))
     where
-      go : (us : List Event) → ((j : ℕ) (f : Event) → event_at us j ≡ Offer.Given f → P f) → Each P us
+      go : (us : List Event) → ((j : ℕ) (f : Event) → event_at us j ≡ Some f → P f) → Each P us
       go [] h = tt
       go (u ∷ us) h = (h 0 u refl, go us (λ j f q. h (suc j) f q))
 
@@ -220,17 +220,17 @@ song-count (suc n) b c vs h = go (λ further us q. song-count n b further us q) 
 
 -- the events vs are still to come: the first is the one that comes next, and the others are those behind its cursor
 abbrev pub Holds : List ℕ → List Event → Player → Type 0
-Holds song [] p = p.ended ≡ true
-Holds song (v ∷ vs) p = (p.ended ≡ false) × (p.event ≡ v) × (song_from (turns song) song p.cursor ≡ Events vs)
+Holds song [] p = song_over p ≡ true
+Holds song (v ∷ vs) p = (song_over p ≡ false) × (coming_event p ≡ v) × (song_from (turns song) song p.cursor ≡ Events vs)
 
 -- what is handed out of a song comes next
 cue-holds : (song : List ℕ) (vs : List Event) (p : Player) (h : Handed) → Hands song h (Events vs) → Holds song vs (cued p h)
-cue-holds song [] p h q = ap (λ (x : Handed). (cued p x).ended) q
-cue-holds song (v ∷ vs) p h q = by h.offer q.0
+cue-holds song [] p h q = ap (λ (x : Handed). song_over (cued p x)) q
+cue-holds song (v ∷ vs) p h q = by h.event q.0
   where
-    by : (o : Offer) → o ≡ Offer.Given v → Holds song (v ∷ vs) (coming p h.cursor o)
-    by Offer.End r = let z : ◌≡◌ {A = ℕ} 0 1 = cc in absurd (omega arith)
-    by (Offer.Given w) r = let same : w ≡ v = cc in (refl, same, q.1)
+    by : (o : Option Event) → o ≡ Some v → Holds song (v ∷ vs) (coming p h.cursor o)
+    by None r = let z : ◌≡◌ {A = ℕ} 0 1 = cc in absurd (omega arith)
+    by (Some w) r = let same : w ≡ v = cc in (refl, same, q.1)
 
 -- whatever the engine does
 engine-holds : (song : List ℕ) (vs : List Event) (p : Player) (e : Engine) → Holds song vs p → Holds song vs (with_engine p e)
@@ -239,23 +239,23 @@ engine-holds song (v ∷ vs) p e h = h
 
 -- the clock value at which the song began stays
 cued-began : (p : Player) (h : Handed) → (cued p h).began ≡ p.began
-cued-began p h = by h.offer
+cued-began p h = by h.event
   where
-    by : (o : Offer) → (coming p h.cursor o).began ≡ p.began
-    by Offer.End = refl
-    by (Offer.Given v) = refl
+    by : (o : Option Event) → (coming p h.cursor o).began ≡ p.began
+    by None = refl
+    by (Some v) = refl
 
 module _ (song bank : List ℕ) (ram rom : List ℤ) (n : ℕ) where
   -- one event applied
   applying-holds : (v : Event) (vs : List Event) (x : Tally) → Holds song (v ∷ vs) x.player → Holds song vs (applying song bank ram rom x).player
   unfolding applying
   applying-holds v vs x h =
-      cue-holds song vs (with_engine x.player (heeded bank ram rom x.player.event x.player.engine).engine) (handed_of song x.player.cursor)
+      cue-holds song vs (with_engine x.player (heeded bank ram rom (coming_event x.player) x.player.engine).engine) (handed_of song x.player.cursor)
       (subst (λ (s : Song). Hands song (handed_of song x.player.cursor) s) h.2 (hands_next song x.player.cursor))
 
   applying-began : (x : Tally) → (applying song bank ram rom x).player.began ≡ x.player.began
   unfolding applying
-  applying-began x = cued-began (with_engine x.player (heeded bank ram rom x.player.event x.player.engine).engine) (handed_of song x.player.cursor)
+  applying-began x = cued-began (with_engine x.player (heeded bank ram rom (coming_event x.player) x.player.engine).engine) (handed_of song x.player.cursor)
 
   applying-since : (x : Tally) → since (applying song bank ram rom x).player ≡ since x.player
   unfolding since
@@ -290,7 +290,7 @@ module _ (song bank : List ℕ) (ram rom : List ℤ) (n : ℕ) where
       }
 
   -- one is due, and then others may be
-  one-due : (m : ℕ) (v : Event) (us : List Event) (x : Tally) → x.player.event ≡ v → is_due x.player ≡ true → events_at n (v ∷ us) ≡ v ∷ events_at n us
+  one-due : (m : ℕ) (v : Event) (us : List Event) (x : Tally) → coming_event x.player ≡ v → is_due x.player ≡ true → events_at n (v ∷ us) ≡ v ∷ events_at n us
       → events_from (suc n) (v ∷ us) ≡ events_from (suc n) us → Caught m us (applying song bank ram rom x) → Caught (suc m) (v ∷ us) x
   unfolding caught_up due_calls calls_for
   one-due m v us x e d q r c =
@@ -305,14 +305,14 @@ module _ (song bank : List ℕ) (ram rom : List ℤ) (n : ℕ) where
       shift a b = omega arith
 
   caught : (m low : ℕ) (vs : List Event) (x : Tally) → Up low vs → Holds song (events_from n vs) x.player → length (events_from n vs) ≤ m
-      → (x.player.ended ≡ false → since x.player ≡ n) → Caught m vs x
+      → (song_over x.player ≡ false → since x.player ≡ n) → Caught m vs x
   unfolding events_from events_at since
   caught m low [] x r h l s = still m [] x (rw h refl) refl h
   caught m low (v ∷ vs) x r h l s =
       go m (λ k y. caught k v.frame vs y r.1) h l (compared v.frame n)
     where
       Later : Type 0
-      Later = (k : ℕ) (y : Tally) → Holds song (events_from n vs) y.player → length (events_from n vs) ≤ k → (y.player.ended ≡ false → since y.player ≡ n) → Caught k vs y
+      Later = (k : ℕ) (y : Tally) → Holds song (events_from n vs) y.player → length (events_from n vs) ≤ k → (song_over y.player ≡ false → since y.player ≡ n) → Caught k vs y
 
       go : (m : ℕ) → Later → Holds song (events_from n (v ∷ vs)) x.player → length (events_from n (v ∷ vs)) ≤ m → (v.frame < n) ⊎ ((v.frame ≡ n) ⊎ (n < v.frame)) → Caught m (v ∷ vs) x
       go m more h l (inl q) =
@@ -329,8 +329,8 @@ module _ (song bank : List ℕ) (ram rom : List ℤ) (n : ℕ) where
           let t = here n v vs q in
           let k = subst (λ (us : List Event). Holds song us x.player) t.0 h in
           let w = s k.0 in
-          let f : x.player.event.frame ≤ since x.player = rw (k.1, w) (omega arith) in
-          one-due m v vs x k.1 (rw (k.0, le-leb x.player.event.frame (since x.player) f) refl) t.1 t.2
+          let f : (coming_event x.player).frame ≤ since x.player = rw (k.1, w) (omega arith) in
+          one-due m v vs x k.1 (rw (k.0, le-leb (coming_event x.player).frame (since x.player) f) refl) t.1 t.2
           (more m (applying song bank ram rom x) (applying-holds v (events_from n vs) x k) (few (subst (λ (us : List Event). length us ≤ suc m) t.0 l)) (λ z. applying-since x ∙ w))
         where
           few : {a b : ℕ} → suc a ≤ suc b → a ≤ b
@@ -338,8 +338,8 @@ module _ (song bank : List ℕ) (ram rom : List ℤ) (n : ℕ) where
       go m more h l (inr (inr q)) =
           let t = none_yet n v.frame (v ∷ vs) q (le_refl v.frame, r.1) in
           let k = subst (λ (us : List Event). Holds song us x.player) t.2 h in
-          let f : since x.player < x.player.event.frame = rw (k.1, s k.0) q in
-          still m (v ∷ vs) x (rw (k.0, lt-leb x.player.event.frame (since x.player) f) refl) t.0
+          let f : since x.player < (coming_event x.player).frame = rw (k.1, s k.0) q in
+          still m (v ∷ vs) x (rw (k.0, lt-leb (coming_event x.player).frame (since x.player) f) refl) t.0
           (subst (λ (us : List Event). Holds song us x.player) (sym t.3) k)
 
 -- ---- frame by frame
@@ -368,7 +368,7 @@ module _ (song bank : List ℕ) (ram rom : List ℤ) (vs : List Event) (is : eve
     pub applied : (then n).applied ≡ length (events_before n vs)
 
   -- the count of frames, as long as an event comes
-  counts : (n : ℕ) → Now n → (then n).player.ended ≡ false → since (then n).player ≡ n
+  counts : (n : ℕ) → Now n → song_over (then n).player ≡ false → since (then n).player ≡ n
   unfolding since
   counts n w e = by (ltb 158760000 n) refl
     where
@@ -501,17 +501,17 @@ module _ (song : List ℕ) (vs : List Event) (is : events_of song ≡ Events vs)
       (ap (λ (q : Player). q.engine) start_is ∙ cued-engine (readied p) (handed_of song (opening_of song).cursor)) refl refl
 
 -- a player is over exactly where all events are before
-over-all : (song : List ℕ) (n : ℕ) (vs : List Event) (p : Player) → Holds song (events_from n vs) p → p.ended ≡ true → events_before n vs ≡ vs
+over-all : (song : List ℕ) (n : ℕ) (vs : List Event) (p : Player) → Holds song (events_from n vs) p → song_over p ≡ true → events_before n vs ≡ vs
 over-all song n vs p h e = by (events_from n vs) refl h
   where
     by : (us : List Event) → events_from n vs ≡ us → Holds song us p → events_before n vs ≡ vs
     by [] q k = from-none-left n vs q
     by (u ∷ us) q k = absurd (never (sym k.0 ∙ e))
 
-all-over : (song : List ℕ) (n : ℕ) (vs : List Event) (p : Player) → Holds song (events_from n vs) p → events_before n vs ≡ vs → p.ended ≡ true
+all-over : (song : List ℕ) (n : ℕ) (vs : List Event) (p : Player) → Holds song (events_from n vs) p → events_before n vs ≡ vs → song_over p ≡ true
 all-over song n vs p h e = by (events_from n vs) (ap length e) (parted n vs) h
   where
-    by : (us : List Event) → length (events_before n vs) ≡ length vs → length (events_before n vs) + length us ≡ length vs → Holds song us p → p.ended ≡ true
+    by : (us : List Event) → length (events_before n vs) ≡ length vs → length (events_before n vs) + length us ≡ length vs → Holds song us p → song_over p ≡ true
     by [] q r k = k
     by (u ∷ us) q r k = absurd (omega arith)
 
@@ -539,6 +539,6 @@ song-is-played song bank ram rom vs n ts p h is q =
       numbers = g.numbered ∙ l.numbers ∙ ap (λ (xs : List Call). numbers_of xs p.engine) (sym cs);
       clock = ap (λ (u : Player). u.engine.clock) g.player ∙ w.clock ∙ ap (λ (t : ℕ). (t + n) % 4294967296) b;
       applied = zero-add _ ∙ g.applied ∙ w.applied;
-      over = λ z. over-all song n vs _ w.comes (sym (ap (λ (u : Player). u.ended) g.player) ∙ z);
-      all = λ z. ap (λ (u : Player). u.ended) g.player ∙ all-over song n vs _ w.comes z;
+      over = λ z. over-all song n vs _ w.comes (sym (ap (λ (u : Player). song_over u) g.player) ∙ z);
+      all = λ z. ap (λ (u : Player). song_over u) g.player ∙ all-over song n vs _ w.comes z;
     }

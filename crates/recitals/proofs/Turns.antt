@@ -21,7 +21,7 @@ use Rattle.player.specs.declared.Begun.{Begun}
 use Rattle.player.specs.declared.Player.{Player}
 use Rattle.player.specs.declared.Stepped.{Stepped}
 use Rattle.player.specs.declared.Tally.{Tally}
-use Rattle.player.specs.Cues.{idle, cued}
+use Rattle.player.specs.Cues.{song_over, coming_event, idle, cued}
 use Rattle.player.specs.Pauses.{hushed_to, readied, started, stopped}
 use Rattle.player.specs.Acting.{heeded}
 use Rattle.player.specs.Playing.{opened, forward, applying, prepared, performed, numbers, reported, answered, sounded_into}
@@ -157,38 +157,38 @@ module _ (song bank : List ℕ) (ram rom : List ℤ) where
   -- ---- step
 
   -- where no event is left
-  pub step-none : (p : Player) → p.ended ≡ true → step_taken song bank ram rom p ≡ record { number = 0; applied = 0; player = p }
+  pub step-none : (p : Player) → song_over p ≡ true → step_taken song bank ram rom p ≡ record { number = 0; applied = 0; player = p }
   unfolding step_taken
   step-none p e = rw e refl
 
   -- and where one is
-  pub step-one : (p : Player) → p.ended ≡ false
+  pub step-one : (p : Player) → song_over p ≡ false
       → step_taken song bank ram rom p
-      ≡ record { number = (heeded bank ram rom p.event p.engine).status; applied = 1; player = (applying song bank ram rom (opened p)).player }
+      ≡ record { number = (heeded bank ram rom (coming_event p) p.engine).status; applied = 1; player = (applying song bank ram rom (opened p)).player }
   unfolding step_taken
   step-one p e = rw e refl
 
   -- its call, and the engine behind it
   pub step-leads : (p : Player)
       → Leads p.engine (calls_of (Step song bank ram rom) p) (next_turn (Step song bank ram rom) p).engine (numbers_of_turn (Step song bank ram rom) p) (frames_of_turn (Step song bank ram rom) p)
-  step-leads p = by p.ended refl
+  step-leads p = by (song_over p) refl
     where
       x : Turn
       x = Step song bank ram rom
 
-      by : (b : Bool) → p.ended ≡ b → Leads p.engine (calls_of x p) (next_turn x p).engine (numbers_of_turn x p) (frames_of_turn x p)
+      by : (b : Bool) → song_over p ≡ b → Leads p.engine (calls_of x p) (next_turn x p).engine (numbers_of_turn x p) (frames_of_turn x p)
       by true e =
-          relead (no-calls p.engine) (ap (λ (b : Bool). cond b [] (call_of bank ram rom p.event)) e)
+          relead (no-calls p.engine) (ap (λ (b : Bool). cond b [] (call_of bank ram rom (coming_event p))) e)
           (ap (λ (s : Stepped). s.player.engine) (step-none p e)) refl refl
       by false e =
-          relead (applying-acts ram rom song bank (opened p)).leads (ap (λ (b : Bool). cond b [] (call_of bank ram rom p.event)) e)
+          relead (applying-acts ram rom song bank (opened p)).leads (ap (λ (b : Bool). cond b [] (call_of bank ram rom (coming_event p))) e)
           (ap (λ (s : Stepped). s.player.engine) (step-one p e)) refl refl
 
   -- the clock stands
   pub step-clock : (p : Player) → (next_turn (Step song bank ram rom) p).engine.clock ≡ p.engine.clock
-  step-clock p = by p.ended refl
+  step-clock p = by (song_over p) refl
     where
-      by : (b : Bool) → p.ended ≡ b → (step_taken song bank ram rom p).player.engine.clock ≡ p.engine.clock
+      by : (b : Bool) → song_over p ≡ b → (step_taken song bank ram rom p).player.engine.clock ≡ p.engine.clock
       by true e = ap (λ (s : Stepped). s.player.engine.clock) (step-none p e)
       by false e = ap (λ (s : Stepped). s.player.engine.clock) (step-one p e) ∙ (applying-acts ram rom song bank (opened p)).clock
 

@@ -8,7 +8,7 @@ use Rattle.state.specs.Quiet.{fresh_channel}
 use Rattle.state.specs.Slots.{slot_at}
 use Rattle.engine.specs.Rendering.{distance}
 use Rattle.player.specs.declared.Player.{Player}
-use Rattle.player.specs.Cues.{idle, with_engine, cued}
+use Rattle.player.specs.Cues.{song_over, idle, with_engine, cued}
 use Rattle.player.specs.Pauses.{started}
 use Rattle.player.specs.Playing.{answered}
 use Rattle.player.specs.Stepping.{step_taken}
@@ -55,9 +55,9 @@ first_number (x ∷ xs) e = (does x e).status
 -- nothing else changes; where no event is left nothing changes at all
 pub record StepAnswers (song bank : List ℕ) (ram rom : List ℤ) (p : Player) : Type 0 where
   pub number : (step_taken song bank ram rom p).number ≡ first_number (calls_of (Step song bank ram rom) p) p.engine
-  pub none : p.ended ≡ true → (next_turn (Step song bank ram rom) p ≡ p) × (applied_in (Step song bank ram rom) p ≡ 0)
-  pub one : p.ended ≡ false → applied_in (Step song bank ram rom) p ≡ 1
-  pub behind : p.ended ≡ false → next_turn (Step song bank ram rom) p ≡ cued (with_engine p (next_turn (Step song bank ram rom) p).engine) (handed_of song p.cursor)
+  pub none : song_over p ≡ true → (next_turn (Step song bank ram rom) p ≡ p) × (applied_in (Step song bank ram rom) p ≡ 0)
+  pub one : song_over p ≡ false → applied_in (Step song bank ram rom) p ≡ 1
+  pub behind : song_over p ≡ false → next_turn (Step song bank ram rom) p ≡ cued (with_engine p (next_turn (Step song bank ram rom) p).engine) (handed_of song p.cursor)
   pub refused : ((step_taken song bank ram rom p).number ≡ 0 → ⊥) → next_turn (Step song bank ram rom) p ≡ cued p (handed_of song p.cursor)
 
 -- that is so of every step
@@ -100,4 +100,4 @@ StartReleases =
 abbrev pub StopEnds : Type 0
 StopEnds =
     (ts : List Turn) → InClocks ts
-    → AllReleased (next_turn Stop (run_turns ts idle)).engine × ((next_turn Stop (run_turns ts idle)).ended ≡ true)
+    → AllReleased (next_turn Stop (run_turns ts idle)).engine × (song_over (next_turn Stop (run_turns ts idle)) ≡ true)

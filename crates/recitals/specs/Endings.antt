@@ -4,7 +4,7 @@ use Rattle.smf.specs.declared.Event.{Event}
 use Rattle.smf.specs.Track.{Events}
 use Rattle.smf.specs.Songs.{events_of}
 use Rattle.player.specs.Acting.{kind_of, channel_in}
-use Rattle.player.specs.Cues.{idle}
+use Rattle.player.specs.Cues.{song_over, idle}
 use Rattle.promises.specs.Night.{Piece, AllReleased, longest_release}
 use Rattle.recitals.specs.Turns.{Turn, Start, next_turn, run_turns, InClocks}
 use Rattle.recitals.specs.Recital.{calls_for, Plays}
@@ -26,7 +26,7 @@ pub record PlayedOut (song bank : List ℕ) (ram rom : List ℤ) (vs : List Even
   pub events : events_of song ≡ Events vs
   pub closed : Closed bank ram rom vs
   pub played : Plays song bank ram rom ts n (next_turn (Start song) (run_turns before idle))
-  pub over : (run_turns (Start song ∷ ts) (run_turns before idle)).ended ≡ true
+  pub over : song_over (run_turns (Start song ∷ ts) (run_turns before idle)) ≡ true
   pub rest : Plays song bank ram rom us m (run_turns (Start song ∷ ts) (run_turns before idle))
 
 -- once it is over, every voice that still sounds is released

@@ -2,7 +2,7 @@
 use Rattle.std.specs.Prelude.{ℕ, ◌≤◌, ◌<◌, ◌*◌, ◌≡◌, true, List, [], ◌∷◌, ℤ, Float, length}
 use Rattle.engine.specs.Rendering.{distance}
 use Rattle.player.specs.declared.Player.{Player}
-use Rattle.player.specs.Cues.{is_due, gap_of}
+use Rattle.player.specs.Cues.{coming_event, is_due, gap_of}
 use Rattle.player.specs.Playing.{answered}
 use Rattle.promises.specs.Calls.{Render, does}
 use Rattle.promises.specs.Cuts.{ahead, together}
@@ -19,7 +19,7 @@ pub data Parts (song bank : List ℕ) (ram rom : List ℤ) : List Turn → List 
       → Parts song bank ram rom xs ns (next_turn (Play song bank ram rom (ahead p.engine n) out) p)
       → Parts song bank ram rom (Play song bank ram rom (ahead p.engine n) out ∷ xs) (n ∷ ns) p
   alone : {xs : List Turn} {ns : List ℕ} {p : Player} (n most : ℕ) (out : List Float) → 0 < n → n ≤ gap_of p most → 2 * n ≤ length out
-      → p.began < 4294967296 → p.event.frame < 4294967296
+      → p.began < 4294967296 → (coming_event p).frame < 4294967296
       → Parts song bank ram rom xs ns (next_turn (Direct (Render (ahead p.engine n) ram rom out)) p)
       → Parts song bank ram rom (Direct (Render (ahead p.engine n) ram rom out) ∷ xs) (n ∷ ns) p
   stepped : {xs : List Turn} {ns : List ℕ} {p : Player} → is_due p ≡ true → 0 < together ns → Parts song bank ram rom xs ns (next_turn (Step song bank ram rom) p)

@@ -5,7 +5,7 @@ use Rattle.smf.specs.Track.{Events}
 use Rattle.smf.specs.Songs.{events_of}
 use Rattle.engine.specs.Rendering.{distance}
 use Rattle.player.specs.declared.Player.{Player}
-use Rattle.player.specs.Cues.{is_due, gap_of}
+use Rattle.player.specs.Cues.{song_over, coming_event, is_due, gap_of}
 use Rattle.player.specs.Playing.{answered}
 use Rattle.promises.specs.Calls.{Call, Render, does, run}
 use Rattle.promises.specs.Cuts.{ahead, numbers_of}
@@ -57,7 +57,7 @@ pub data Plays (song bank : List ℕ) (ram rom : List ℤ) : List Turn → ℕ �
       → Plays song bank ram rom xs n (next_turn (Play song bank ram rom to out) p)
       → Plays song bank ram rom (Play song bank ram rom to out ∷ xs) (distance p.engine to + n) p
   goes-alone : {xs : List Turn} {n : ℕ} {p : Player} (m most : ℕ) (out : List Float) → 0 < m → m ≤ gap_of p most → m ≤ 4096
-      → p.engine.clock < 4294967296 → p.began < 4294967296 → p.event.frame < 4294967296
+      → p.engine.clock < 4294967296 → p.began < 4294967296 → (coming_event p).frame < 4294967296
       → (does (Render (ahead p.engine m) ram rom out) p.engine).status ≡ 0
       → Plays song bank ram rom xs n (next_turn (Direct (Render (ahead p.engine m) ram rom out)) p)
       → Plays song bank ram rom (Direct (Render (ahead p.engine m) ram rom out) ∷ xs) (m + n) p
@@ -71,8 +71,8 @@ pub record Recited (song bank : List ℕ) (ram rom : List ℤ) (vs : List Event)
   pub numbers : numbers_turns (Start song ∷ ts) p ≡ numbers_of (started_calls bank ram rom vs p.engine.clock n) p.engine
   pub clock : (run_turns (Start song ∷ ts) p).engine.clock ≡ ahead p.engine n
   pub applied : applied_turns (Start song ∷ ts) p ≡ length (events_before n vs)
-  pub over : (run_turns (Start song ∷ ts) p).ended ≡ true → events_before n vs ≡ vs
-  pub all : events_before n vs ≡ vs → (run_turns (Start song ∷ ts) p).ended ≡ true
+  pub over : song_over (run_turns (Start song ∷ ts) p) ≡ true → events_before n vs ≡ vs
+  pub all : events_before n vs ≡ vs → song_over (run_turns (Start song ∷ ts) p) ≡ true
 
 -- that is so of every song that is not refused, from every player, however long it is played
 abbrev pub SongIsPlayed : Type 0

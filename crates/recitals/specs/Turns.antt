@@ -11,7 +11,7 @@ use Rattle.engine.specs.Rendering.{distance}
 use Rattle.player.specs.declared.Player.{Player}
 use Rattle.player.specs.declared.Tally.{Tally}
 use Rattle.player.specs.Acting.{kind_of, channel_in, bend_in}
-use Rattle.player.specs.Cues.{idle, with_engine, is_due}
+use Rattle.player.specs.Cues.{song_over, coming_event, idle, with_engine, is_due}
 use Rattle.player.specs.Pauses.{started, stopped}
 use Rattle.player.specs.Playing.{opened, refusal, forward, applying, prepared, answered, sounded_into}
 use Rattle.player.specs.Stepping.{step_taken}
@@ -104,7 +104,7 @@ module _ (song bank : List ℕ) (ram rom : List ℤ) where
   unfoldable pub due_calls : ℕ → Tally → List Call
   due_calls zero x = []
   due_calls (suc n) x =
-      cond (is_due x.player) (call_of bank ram rom x.player.event ++ due_calls n (applying song bank ram rom x)) []
+      cond (is_due x.player) (call_of bank ram rom (coming_event x.player) ++ due_calls n (applying song bank ram rom x)) []
 
   -- n frames: in front of each the calls of the events that are due, and then its render
   unfoldable pub frame_calls : ℕ → Tally → List Call
@@ -120,7 +120,7 @@ calls_of (Start song) p = cond (eqb (started song p).number 0) (hush_calls 16 ++
 calls_of Stop p = hush_calls 16
 calls_of (Play song bank ram rom to out) p =
     cond (eqb (answered song bank ram rom to (length out) p).number 0) (frame_calls song bank ram rom (distance p.engine to) (opened p)) []
-calls_of (Step song bank ram rom) p = cond p.ended [] (call_of bank ram rom p.event)
+calls_of (Step song bank ram rom) p = cond (song_over p) [] (call_of bank ram rom (coming_event p))
 calls_of (Direct x) p = x ∷ []
 
 -- every render among some calls is done

@@ -2,7 +2,7 @@
 use Rattle.std.specs.Prelude.{ℕ, ◌+◌, ◌*◌, List, Bool, not, ltb}
 use Rattle.records.specs.declared.Parts.{Parts}
 use Rattle.arith.specs.Bytes.{u16_at, u32_at}
-use Rattle.records.specs.Sides.{presets, head_at}
+use Rattle.records.specs.Sides.{head_at}
 
 -- where the header of sample k stands (shdr, 46 bytes)
 abbrev pub sample_at : Parts → ℕ → ℕ

@@ -18,13 +18,6 @@ pub use sides::{bag_of, gen_of, mod_of, parts_of, times};
 pub use windows::{end_of, good_window, loop_end_of, loop_start_of, mode_of, start_of};
 pub use zones::{amount, global_of, has, link_at, zone_at, zone_count};
 
-// A number that was looked for.
-#[derive(Clone, Copy)]
-pub enum Found {
-    Nothing,
-    At(usize),
-}
-
 // Presets, or instruments: where the lists of one side begin and how many records each has, the terminal one too.
 #[derive(Clone, Copy)]
 pub struct Side {

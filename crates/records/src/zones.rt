@@ -4,7 +4,7 @@ ghost use Rattle.records.specs.Sides.{amount};
 ghost use Rattle.records.specs.Zones.{has, zone_count, gen_count, closing_of, zone_at, global_of, link_at};
 
 use crate::amounts::operator;
-use crate::{Found, Side, Zone, bag_of, gen_of};
+use crate::{Side, Zone, bag_of, gen_of};
 use arith::{less, u16_at};
 
 // Whether generator g has the operator o.
@@ -42,7 +42,7 @@ pub fn gen_count(b: &[u8], s: Side, z: u32) -> u16
 }
 
 // The first 41 (53) of bag z.
-pub fn closing_of(b: &[u8], s: Side, z: u32) -> Found
+pub fn closing_of(b: &[u8], s: Side, z: u32) -> Option<usize>
     ensures { result ≡ closing_of b.now s z }
 {
     let from = gen_of(b, s, z as usize) as usize;
@@ -50,11 +50,11 @@ pub fn closing_of(b: &[u8], s: Side, z: u32) -> Found
     let mut n: usize = 0;
     while n < count {
         if has(b, s, s.closing, from + n) {
-            return Found::At(from + n);
+            return Some(from + n);
         }
         n = n + 1;
     }
-    Found::Nothing
+    None
 }
 
 // Bag z as a zone.
@@ -64,13 +64,13 @@ pub fn zone_at(b: &[u8], s: Side, z: u32) -> Zone
     let from = gen_of(b, s, z as usize) as usize;
     let count = gen_count(b, s, z);
     match closing_of(b, s, z) {
-        Found::Nothing => Zone {
+        None => Zone {
             from: from as u32,
             count: count as u32,
             sounding: false,
             link: 0,
         },
-        Found::At(g) => Zone {
+        Some(g) => Zone {
             from: from as u32,
             count: (g - from) as u32,
             sounding: true,

@@ -4,15 +4,14 @@
 
 #![tactic(auto)]
 
+use cases::{Bad, Held, Input, Text};
 use engine::Engine;
 
 // The keys 40 to 71 in turn, as often as asked.
 fn strike<'a>(first: Engine, bank: &[u8], ram: &'a [i16], rom: &'a [i16], strikes: u32) -> Engine {
     let mut e = first;
-    let mut i: u32 = 0;
-    while i < strikes {
+    for i in 0..strikes {
         let _ = engine::note_on(&mut e, bank, ram, rom, 0, key_of(i), 100);
-        i = i + 1;
     }
     e
 }
@@ -34,55 +33,46 @@ fn play<'a>(
     strikes: u32,
 ) -> u32 {
     let mut e = first;
-    let mut i: u32 = 0;
-    while i < renders {
+    for _ in 0..renders {
         e = strike(e, bank, ram, rom, strikes);
-        let to = std::num::wrapping_add_u32(e.clock, frames);
+        let to = e.clock.wrapping_add(frames);
         let _ = engine::render(&mut e, ram, rom, out, to);
-        i = i + 1;
     }
     e.sounding
 }
 
-// How many voices sound, and the hash.
-fn report(sounding: u32, hash: u64) {
-    let mut text = io::large_buffer();
-    let mut at = cases::hex(&mut text, 0, sounding as u64, 8);
-    at = cases::put(&mut text, at, b' ');
-    at = cases::hex(&mut text, at, hash, 16);
-    at = cases::put(&mut text, at, b'\n');
-    cases::flush(&text, at);
-}
-
-// Strikes and renders as the input asks.
-fn main() {
-    let mut room = io::large_buffer();
+// How many voices sound, and the hash, of what the input asks for.
+fn report(input: &mut Input, text: &mut Text) -> Result<(), Bad> {
     let mut bank = [0u8; 66000];
     let mut ram = [0i16; 65536];
     let mut out = [0f32; 8192];
-    let strikes = cases::next_u32(&mut room, cases::start());
-    let renders = cases::next_u32(&mut room, strikes.place);
-    let frames = cases::next_u32(&mut room, renders.place);
-    let again = cases::next_u32(&mut room, frames.place);
-    let length = cases::next_u32(&mut room, again.place);
-    let held = cases::next_bank(&mut room, length.place, &mut bank, length.value);
-    let count = cases::next_u32(&mut room, held.place);
-    let samples = cases::next_memory(&mut room, count.place, &mut ram, count.value);
-    let lent = cases::first_samples(&ram, samples.count);
-    let known = cases::first_bytes(&bank, held.count);
-    let mut e = strike(engine::fresh(), known, lent, lent, strikes.value);
+    let mut known = Held::nothing(&mut bank);
+    let mut samples = Held::nothing(&mut ram);
+    let strikes: u32 = input.next()?;
+    let renders: u32 = input.next()?;
+    let frames: u32 = input.next()?;
+    let again: u32 = input.next()?;
+    let length: u32 = input.next()?;
+    known.read(input, length)?;
+    let count: u32 = input.next()?;
+    samples.read(input, count)?;
+    let (bank, ram) = (known.lent(), samples.lent());
+    let mut e = strike(engine::fresh(), bank, ram, ram, strikes);
     // a second place that calls render, as a host has: so the compiler leaves it a function of its own
     let now = e.clock;
-    let _ = engine::render(&mut e, lent, lent, &mut out, now);
-    let sounding = play(
-        e,
-        known,
-        lent,
-        lent,
-        &mut out,
-        renders.value,
-        frames.value,
-        again.value,
-    );
-    report(sounding, cases::fnv(&out));
+    let _ = engine::render(&mut e, ram, ram, &mut out, now);
+    let sounding = play(e, bank, ram, ram, &mut out, renders, frames, again);
+    text.hex(u64::from(sounding), 8);
+    text.put(b' ');
+    text.hex(cases::fnv(&out), 16);
+    text.put(b'\n');
+    Ok(())
+}
+
+fn main() {
+    let mut room = io::large_buffer();
+    let mut input = Input::start(&mut room);
+    let mut text = Text::begin();
+    let reported = report(&mut input, &mut text);
+    text.finish(reported);
 }

@@ -1,6 +1,6 @@
 -- RIFF: chunks one behind the other. A chunk is a name of four bytes, a size of four, a body of so many bytes, and a pad byte where the size is odd. Names and sizes are
 -- numbers with the low byte first.
-use Rattle.std.specs.Prelude.{Bool, cond, ◌&&◌, List, ℕ, zero, suc, ◌+◌, ◌%◌, min, eqb, leb, Option, Some, None}
+use Rattle.std.specs.Prelude.{Bool, cond, ◌&&◌, List, ℕ, zero, suc, ◌+◌, ◌%◌, min, eqb, leb}
 use Rattle.arith.specs.Bytes.{u32_at}
 
 -- LIST, 4C 49 53 54: a chunk of this name holds chunks, behind a type of four bytes
@@ -53,7 +53,3 @@ stop_at b end at = stop_from end b end at
 -- .. and of the first that is named
 unfoldable pub first_at : List ℕ → ℕ → ℕ → ℕ → ℕ → ℕ
 first_at b end name kind at = first_from end b end name kind at
-
--- the place of the first that is named, if there is one
-unfoldable pub sought_at : List ℕ → ℕ → ℕ → ℕ → ℕ → Option ℕ
-sought_at b end name kind at = cond (eqb (first_at b end name kind at) end) None (Some (first_at b end name kind at))

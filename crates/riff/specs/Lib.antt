@@ -3,3 +3,4 @@ pub mod Form
 pub mod Faults
 pub mod Places
 pub mod Written
+pub mod Internal

@@ -1,6 +1,7 @@
 // Chunks one behind the other in front of an end, each with a name, a size, a body, and a pad byte where its size is odd.
 ghost use Rattle.std.specs.Prelude.{◌≡◌, ◌≤◌, ◌<◌, IfSome};
-ghost use Rattle.riff.specs.Chunks.{size_at, least_size, type_at, is_whole, is_named, next_at, stop_at, sought_at};
+ghost use Rattle.riff.specs.Chunks.{size_at, least_size, type_at, is_whole, is_named, next_at, stop_at};
+ghost use Rattle.riff.specs.Internal.Chunks.{sought_at};
 
 // LIST as a number, the low byte first.
 pub const LIST: u32 = 1414744396;

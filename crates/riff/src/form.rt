@@ -57,7 +57,7 @@ fn chunk_body(b: &[u8], at: usize) -> Part
 }
 
 // The chunks in the first sdta list; none, at the form's end, where there is no such list.
-#[tactic(auto, unfolding(crate::specs::Form::data_span, crate::specs::Form::data_at, crate::specs::Chunks::sought_at))]
+#[tactic(auto, unfolding(crate::specs::Form::data_span, crate::specs::Form::data_at, crate::specs::Internal::Chunks::sought_at))]
 fn data_span(b: &[u8], end: usize) -> Span
     requires { (12 ≤ end) × (end ≤ 4294967303) }
     ensures { result ≡ data_span b.now end }
@@ -84,7 +84,7 @@ fn all_whole(b: &[u8], end: usize, from: usize) -> Result<(), Fault>
 }
 
 // Where the first chunk of a name and a type begins; the fault is that there is none in front of the end.
-#[tactic(auto, unfolding(crate::specs::Chunks::sought_at))]
+#[tactic(auto, unfolding(crate::specs::Internal::Chunks::sought_at))]
 fn sought(b: &[u8], end: usize, name: u32, kind: u32, from: usize) -> Result<usize, Fault>
     requires { (from ≤ end) × (end ≤ 4294967303) }
     ensures { MatchResult result (λ at. (at ≡ first_at b.now end name kind from) × (at < end)) (λ f. (f ≡ record { kind = FaultKind.Missing; place = end }) × (first_at b.now end name kind from ≡ end)) }

@@ -1,5 +1,6 @@
 // The calls that may change the state: those of the player's engine (n, o, c, p, b), a fresh player (F), a song's start and stop (G, H), and the renders (r, V).
-use cases::{Command, Lent};
+// Each is chosen by its letter: the letters are the case's own words, and a call has no other name there.
+use cases::{Command, Loan};
 use engine::{Engine, Refusal, status_of};
 use player::{Answer, Player};
 
@@ -11,38 +12,18 @@ pub struct Called {
     pub player: Player,
 }
 
-// n: a note-on with the lent part of the bank and of each memory.
-fn note_on<'a>(
-    bank: &[u8],
-    ram: &'a [i16],
-    rom: &'a [i16],
-    lent: Lent,
-    c: Command,
-    e: &mut Engine,
-) -> Result<u32, Refusal> {
-    engine::note_on(
-        e,
-        cases::first_bytes(bank, lent.bank),
-        cases::first_samples(ram, lent.ram),
-        cases::first_samples(rom, lent.rom),
-        c.one,
-        c.two,
-        c.three,
-    )
-}
-
-// n, o, c, p, b: a call of the engine.
-fn answer<'a>(
-    bank: &[u8],
-    ram: &'a [i16],
-    rom: &'a [i16],
-    lent: Lent,
-    c: Command,
-    e: &mut Engine,
-) -> Result<u32, Refusal> {
-    let letter = c.letter;
-    match letter {
-        b'n' => note_on(bank, ram, rom, lent, c, e),
+// n, o, c, p, b: a call of the engine. n is a note-on with what is lent.
+fn answer(loan: &Loan, c: Command, e: &mut Engine) -> Result<u32, Refusal> {
+    match c.letter {
+        b'n' => engine::note_on(
+            e,
+            loan.bank.lent(),
+            loan.ram.lent(),
+            loan.rom.lent(),
+            c.one,
+            c.two,
+            c.three,
+        ),
         b'o' => engine::note_off(e, c.one, c.two),
         b'c' => engine::control_change(e, c.one, c.two, c.three),
         b'p' => engine::program_change(e, c.one, c.two),
@@ -77,49 +58,33 @@ fn fresh_at(clock: u32) -> Player {
 }
 
 // G: the lent song starts. Where it is refused, the place of its fault is the count.
-fn start(song: &[u8], lent: Lent, p: Player) -> Called {
-    let b = player::start(p, cases::first_bytes(song, lent.song));
-    let after = b.player;
+fn start(song: &[u8], p: Player) -> Called {
+    let b = player::start(p, song);
     Called {
         number: b.number,
         count: b.place,
-        player: after,
+        player: b.player,
     }
 }
 
 // Each call that is no render, by its letter.
-pub fn call<'a>(
-    bank: &[u8],
-    song: &[u8],
-    ram: &'a [i16],
-    rom: &'a [i16],
-    lent: Lent,
-    c: Command,
-    p: Player,
-) -> Called {
-    let letter = c.letter;
-    match letter {
+pub fn call(loan: &Loan, c: Command, p: Player) -> Called {
+    match c.letter {
         b'F' => made(fresh_at(c.first)),
-        b'G' => start(song, lent, p),
+        b'G' => start(loan.song.lent(), p),
         b'H' => made(player::stop(p)),
         _ => {
             let mut e = p.engine;
-            let a = answer(bank, ram, rom, lent, c, &mut e);
+            let a = answer(loan, c, &mut e);
             put_back(p, a, e)
         }
     }
 }
 
 // r: a render of the engine alone, in which no event of the song is applied.
-fn render_engine<'a>(
-    ram: &'a [i16],
-    rom: &'a [i16],
-    out: &mut [f32],
-    clock: u32,
-    p: Player,
-) -> Answer {
+fn render_engine(loan: &Loan, out: &mut [f32], clock: u32, p: Player) -> Answer {
     let mut e = p.engine;
-    let a = engine::render(&mut e, ram, rom, out, clock);
+    let a = engine::render(&mut e, loan.ram.lent(), loan.rom.lent(), out, clock);
     Answer {
         number: status_of(a),
         applied: 0,
@@ -129,27 +94,16 @@ fn render_engine<'a>(
 }
 
 // r, V: a render with what is lent, into the output that is lent.
-pub fn render<'a>(
-    bank: &[u8],
-    song: &[u8],
-    ram: &'a [i16],
-    rom: &'a [i16],
-    lent: Lent,
-    out: &mut [f32],
-    c: Command,
-    p: Player,
-) -> Answer {
-    let ram_lent = cases::first_samples(ram, lent.ram);
-    let rom_lent = cases::first_samples(rom, lent.rom);
+pub fn render(loan: &Loan, out: &mut [f32], c: Command, p: Player) -> Answer {
     if c.letter == b'r' {
-        return render_engine(ram_lent, rom_lent, out, c.first, p);
+        return render_engine(loan, out, c.first, p);
     }
     player::render(
         p,
-        cases::first_bytes(song, lent.song),
-        cases::first_bytes(bank, lent.bank),
-        ram_lent,
-        rom_lent,
+        loan.song.lent(),
+        loan.bank.lent(),
+        loan.ram.lent(),
+        loan.rom.lent(),
         out,
         c.first,
     )

@@ -6,4 +6,4 @@ mod calls;
 mod letters;
 
 pub use calls::{Called, call, render};
-pub use letters::{Kind, kind_of, lent_numbers, moves};
+pub use letters::{Kind, kind_of, lent_numbers};

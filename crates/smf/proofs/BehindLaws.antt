@@ -1,4 +1,6 @@
 -- Bytes behind the end of track change nothing: each definition gives the same where the bytes in front of the place that it leads to are the same.
+use Rattle.smf.specs.declared.Quantity.{Quantity}
+use Rattle.std.proofs.Common.{Option, Some, None}
 use mathlib.Core.Bool.{Bool, true, false, cond, true≢false, not, ◌||◌}
 use mathlib.Core.List.{List, [], ◌∷◌, ◌++◌}
 use mathlib.Core.Logic.{◌⊎◌, inl, inr, ⊎_elim}
@@ -16,9 +18,7 @@ use Rattle.smf.specs.declared.Event.{Event}
 use Rattle.smf.specs.declared.Header.{Header}
 use Rattle.smf.specs.declared.Item.{Item}
 use Rattle.smf.specs.declared.Met.{Met}
-use Rattle.smf.specs.declared.Quantity.{Quantity}
-use Rattle.smf.specs.declared.Quantity.TheVariants.{Good}
-use Rattle.smf.specs.Quantities.{two_at, three_at, four_at, quantity_from, quantity_at}
+use Rattle.smf.specs.Quantities.{two_at, three_at, four_at, quantity_from, quantity_at, quantity}
 use Rattle.smf.specs.Head.{chunk_end, track_from, head_of}
 use Rattle.smf.specs.Items.{is_channel, is_short, short_at, long_at, spoken_at, exclusive_at, meta_of, meta_at, is_exclusive, item_at}
 use Rattle.smf.specs.Ticks.{sum_after, is_late, frame_of}
@@ -69,8 +69,8 @@ module _ (b other : List ℕ) where
   four_same at q s h = rw (two-same at q s (omega arith), two-same (at + 2) q s (omega arith))
 
   -- the same rest of a quantity
-  quantity-same : (n edge at v value behind : ℕ) → quantity_from n b edge at v ≡ Good value behind → SameBelow b other behind
-      → quantity_from n other edge at v ≡ Good value behind
+  quantity-same : (n edge at v value behind : ℕ) → quantity_from n b edge at v ≡ quantity value behind → SameBelow b other behind
+      → quantity_from n other edge at v ≡ quantity value behind
   unfolding quantity_from
   quantity-same zero edge at v value behind e s = e
   quantity-same (suc n) edge at v value behind e s =
@@ -84,7 +84,7 @@ module _ (b other : List ℕ) where
       (split (ltb at edge) e)
 
   -- the same quantity
-  quantity-at-same : (edge at value behind : ℕ) → quantity_at b edge at ≡ Good value behind → SameBelow b other behind → quantity_at other edge at ≡ Good value behind
+  quantity-at-same : (edge at value behind : ℕ) → quantity_at b edge at ≡ quantity value behind → SameBelow b other behind → quantity_at other edge at ≡ quantity value behind
   unfolding quantity_at
   quantity-at-same edge at value behind e s = quantity-same 4 edge at 0 value behind e s
 
@@ -112,12 +112,12 @@ reach-ahead edge at end (Item.Tempo tempo behind) p n h = p.0
 reach-ahead edge at end (Item.Channel status first second behind) p n h = p.after
 
 -- a system exclusive event by the quantity that is its length
-abbrev exclusive_by : ℕ → Quantity → Item
-exclusive_by edge q = elim q [ Quantity.Bad ↦ Item.Bad | Good n p ↦ cond (ltb edge (p + n)) Item.Bad (Item.Passed (p + n)) ]
+abbrev exclusive_by : ℕ → Option Quantity → Item
+exclusive_by edge q = elim q [ None ↦ Item.Bad | Some q ↦ cond (ltb edge (q.behind + q.value)) Item.Bad (Item.Passed (q.behind + q.value)) ]
 
 -- a meta event by its type and the quantity that is its length
-abbrev meta_by : List ℕ → ℕ → ℕ → Quantity → Item
-meta_by b edge kind q = elim q [ Quantity.Bad ↦ Item.Bad | Good n p ↦ cond (ltb 127 kind || ltb edge (p + n)) Item.Bad (meta_of b kind n p) ]
+abbrev meta_by : List ℕ → ℕ → ℕ → Option Quantity → Item
+meta_by b edge kind q = elim q [ None ↦ Item.Bad | Some q ↦ cond (ltb 127 kind || ltb edge (q.behind + q.value)) Item.Bad (meta_of b kind q.value q.behind) ]
 
 -- an event by its first byte
 abbrev item_by : List ℕ → ℕ → ℕ → ℕ → ℕ → Item
@@ -160,14 +160,14 @@ module _ (b other : List ℕ) (edge end : ℕ) where
   unfolding exclusive_at
   exclusive-same at = go (quantity_at b edge at) refl
     where
-      go : (q : Quantity) → quantity_at b edge at ≡ q → Kept (exclusive_at b edge at) (exclusive_at other edge at)
-      go Quantity.Bad e n s = absurd (true≢false (subst (λ (x : Item). is_bad x ≡ false) (ap (exclusive_by edge) e) n))
-      go (Good k p) e n s =
-          let eb : exclusive_at b edge at ≡ exclusive_by edge (Good k p) = ap (exclusive_by edge) e in
-          let t = unbad (ltb edge (p + k)) (Item.Passed (p + k)) (subst (λ (x : Item). is_bad x ≡ false) eb n) in
-          let whole : exclusive_at b edge at ≡ Item.Passed (p + k) = eb ∙ rw t refl in
-          let low : SameBelow b other (p + k) = subst (λ (x : Item). SameBelow b other (reach x end)) whole s in
-          ap (exclusive_by edge) (quantity-at-same b other edge at k p e (same-le b other p (p + k) low (omega arith)) ∙ sym e)
+      go : (q : Option Quantity) → quantity_at b edge at ≡ q → Kept (exclusive_at b edge at) (exclusive_at other edge at)
+      go None e n s = absurd (true≢false (subst (λ (x : Item). is_bad x ≡ false) (ap (exclusive_by edge) e) n))
+      go (Some q) e n s =
+          let eb : exclusive_at b edge at ≡ exclusive_by edge (quantity q.value q.behind) = ap (exclusive_by edge) e in
+          let t = unbad (ltb edge (q.behind + q.value)) (Item.Passed (q.behind + q.value)) (subst (λ (x : Item). is_bad x ≡ false) eb n) in
+          let whole : exclusive_at b edge at ≡ Item.Passed (q.behind + q.value) = eb ∙ rw t refl in
+          let low : SameBelow b other (q.behind + q.value) = subst (λ (x : Item). SameBelow b other (reach x end)) whole s in
+          ap (exclusive_by edge) (quantity-at-same b other edge at q.value q.behind e (same-le b other q.behind (q.behind + q.value) low (omega arith)) ∙ sym e)
 
   -- what a meta event leads to lies behind its bytes
   meta-reach : (kind n at : ℕ) → at + n ≤ end → at + n ≤ reach (meta_of b kind n at) end
@@ -192,26 +192,26 @@ module _ (b other : List ℕ) (edge end : ℕ) where
       go false e = ap (λ (v : ℕ). Item.Tempo v (at + n)) (three-same b other at (at + n) s (omega (arith, ltb-false n 3 e)))
 
   -- the same meta event
-  meta-same : (at : ℕ) → ((n p : ℕ) → quantity_at b edge (at + 1) ≡ Good n p → p + n ≤ end) → Kept (meta_at b edge at) (meta_at other edge at)
+  meta-same : (at : ℕ) → ((n p : ℕ) → quantity_at b edge (at + 1) ≡ quantity n p → p + n ≤ end) → Kept (meta_at b edge at) (meta_at other edge at)
   unfolding meta_at
   meta-same at ends = go (quantity_at b edge (at + 1)) refl
     where
-      go : (q : Quantity) → quantity_at b edge (at + 1) ≡ q → Kept (meta_at b edge at) (meta_at other edge at)
-      go Quantity.Bad e n s = absurd (true≢false (subst (λ (x : Item). is_bad x ≡ false) (ap (meta_by b edge (u8_at b at)) e) n))
-      go (Good k p) e n s =
-          let eb : meta_at b edge at ≡ meta_by b edge (u8_at b at) (Good k p) = ap (meta_by b edge (u8_at b at)) e in
-          let t = unbad (ltb 127 (u8_at b at) || ltb edge (p + k)) (meta_of b (u8_at b at) k p) (subst (λ (x : Item). is_bad x ≡ false) eb n) in
-          let whole : meta_at b edge at ≡ meta_of b (u8_at b at) k p = eb ∙ rw t refl in
-          let all : SameBelow b other (reach (meta_of b (u8_at b at) k p) end) = subst (λ (x : Item). SameBelow b other (reach x end)) whole s in
-          let low : SameBelow b other (p + k) = same-le b other (p + k) (reach (meta_of b (u8_at b at) k p) end) all (meta-reach (u8_at b at) k p (ends k p e)) in
-          let x : u8_at other at ≡ u8_at b at = low at (omega (arith, (quantity-behind b edge (at + 1) k p e).0)) in
-          ap (meta_by other edge (u8_at other at)) (quantity-at-same b other edge (at + 1) k p e (same-le b other p (p + k) low (omega arith)))
-          ∙ ap (λ (v : ℕ). meta_by other edge v (Good k p)) x
-          ∙ ap (λ (m : Item). cond (ltb 127 (u8_at b at) || ltb edge (p + k)) Item.Bad m) (meta-of-same (u8_at b at) k p low)
+      go : (q : Option Quantity) → quantity_at b edge (at + 1) ≡ q → Kept (meta_at b edge at) (meta_at other edge at)
+      go None e n s = absurd (true≢false (subst (λ (x : Item). is_bad x ≡ false) (ap (meta_by b edge (u8_at b at)) e) n))
+      go (Some q) e n s =
+          let eb : meta_at b edge at ≡ meta_by b edge (u8_at b at) (quantity q.value q.behind) = ap (meta_by b edge (u8_at b at)) e in
+          let t = unbad (ltb 127 (u8_at b at) || ltb edge (q.behind + q.value)) (meta_of b (u8_at b at) q.value q.behind) (subst (λ (x : Item). is_bad x ≡ false) eb n) in
+          let whole : meta_at b edge at ≡ meta_of b (u8_at b at) q.value q.behind = eb ∙ rw t refl in
+          let all : SameBelow b other (reach (meta_of b (u8_at b at) q.value q.behind) end) = subst (λ (x : Item). SameBelow b other (reach x end)) whole s in
+          let low : SameBelow b other (q.behind + q.value) = same-le b other (q.behind + q.value) (reach (meta_of b (u8_at b at) q.value q.behind) end) all (meta-reach (u8_at b at) q.value q.behind (ends q.value q.behind e)) in
+          let x : u8_at other at ≡ u8_at b at = low at (omega (arith, (quantity-behind b edge (at + 1) q.value q.behind e).0)) in
+          ap (meta_by other edge (u8_at other at)) (quantity-at-same b other edge (at + 1) q.value q.behind e (same-le b other q.behind (q.behind + q.value) low (omega arith)))
+          ∙ ap (λ (v : ℕ). meta_by other edge v (quantity q.value q.behind)) x
+          ∙ ap (λ (m : Item). cond (ltb 127 (u8_at b at) || ltb edge (q.behind + q.value)) Item.Bad m) (meta-of-same (u8_at b at) q.value q.behind low)
           ∙ sym eb
 
   -- the same event, where its first byte is the same
-  item-by-same : (running at x : ℕ) → ((n p : ℕ) → quantity_at b edge (at + 1 + 1) ≡ Good n p → p + n ≤ end) → Kept (item_by b edge running at x) (item_by other edge running at x)
+  item-by-same : (running at x : ℕ) → ((n p : ℕ) → quantity_at b edge (at + 1 + 1) ≡ quantity n p → p + n ≤ end) → Kept (item_by b edge running at x) (item_by other edge running at x)
   item-by-same running at x ends =
       both Kept (leb edge at) _ _ _ _ bad-same
       (both Kept (ltb x 128) _ _ _ _ (both Kept (is_channel running) _ _ _ _ (channel-same running at) bad-same)
@@ -219,7 +219,7 @@ module _ (b other : List ℕ) (edge end : ℕ) where
       (both Kept (eqb x 255) _ _ _ _ (meta-same (at + 1) ends) (both Kept (eqb x 240 || eqb x 247) _ _ _ _ (exclusive-same (at + 1)) bad-same))))
 
   -- the same event at a place
-  item-same : (running at : ℕ) → at < end → ((n p : ℕ) → quantity_at b edge (at + 1 + 1) ≡ Good n p → p + n ≤ end) → Kept (item_at b edge running at) (item_at other edge running at)
+  item-same : (running at : ℕ) → at < end → ((n p : ℕ) → quantity_at b edge (at + 1 + 1) ≡ quantity n p → p + n ≤ end) → Kept (item_at b edge running at) (item_at other edge running at)
   unfolding item_at
   item-same running at h ends n s =
       let x : u8_at other at ≡ u8_at b at = s at (reach-ahead edge at end (item_at b edge running at) (item-placed b edge running at) n h) in
@@ -229,21 +229,21 @@ module _ (b other : List ℕ) (edge end : ℕ) where
 
 module _ (b : List ℕ) (edge at : ℕ) where
   -- behind the bytes of an end of track
-  end-behind : (n p : ℕ) → quantity_at b edge (at + 1 + 1) ≡ Good n p → behind_end b edge at ≡ p + n
+  end-behind : (n p : ℕ) → quantity_at b edge (at + 1 + 1) ≡ quantity n p → behind_end b edge at ≡ p + n
   unfolding behind_end
   end-behind n p e =
       let z : at + 1 + 1 ≡ at + 2 = omega arith in
-      let f : quantity_at b edge (at + 2) ≡ Good n p = subst (λ (q : ℕ). quantity_at b edge q ≡ Good n p) z e in
-      ap (λ (q : Quantity). elim q as (λ x. ℕ) [ Quantity.Bad ↦ at + 2 | Good n p ↦ p + n ]) f
+      let f : quantity_at b edge (at + 2) ≡ quantity n p = subst (λ (q : ℕ). quantity_at b edge q ≡ quantity n p) z e in
+      ap (λ (q : Option Quantity). elim q as (λ x. ℕ) [ None ↦ at + 2 | Some q ↦ q.behind + q.value ]) f
 
   -- an end of track ends behind its place
   end-ahead : at < behind_end b edge at
   unfolding behind_end
   end-ahead = go (quantity_at b edge (at + 2)) refl
     where
-      go : (q : Quantity) → quantity_at b edge (at + 2) ≡ q → at < elim q as (λ x. ℕ) [ Quantity.Bad ↦ at + 2 | Good n p ↦ p + n ]
-      go Quantity.Bad e = omega arith
-      go (Good n p) e = omega (arith, (quantity-behind b edge (at + 2) n p e).0)
+      go : (q : Option Quantity) → quantity_at b edge (at + 2) ≡ q → at < elim q as (λ x. ℕ) [ None ↦ at + 2 | Some q ↦ q.behind + q.value ]
+      go None e = omega arith
+      go (Some q) e = omega (arith, (quantity-behind b edge (at + 2) q.value q.behind e).0)
 
 -- ---- 5. What is met at a cursor
 
@@ -281,39 +281,39 @@ obeyed-reach (Item.Channel status first second behind) c sum place end n =
 
 module _ (b : List ℕ) (c : Cursor) where
   -- behind the end of track, by the delta time
-  behind-is : (ticks place : ℕ) → quantity_at b (edge_of b c) c.at ≡ Good ticks place → behind_met b c ≡ behind_end b (edge_of b c) place
+  behind-is : (ticks place : ℕ) → quantity_at b (edge_of b c) c.at ≡ quantity ticks place → behind_met b c ≡ behind_end b (edge_of b c) place
   unfolding behind_met
-  behind-is ticks place e = ap (λ (q : Quantity). elim q as (λ x. ℕ) [ Quantity.Bad ↦ c.at | Good ticks place ↦ behind_end b (edge_of b c) place ]) e
+  behind-is ticks place e = ap (λ (q : Option Quantity). elim q as (λ x. ℕ) [ None ↦ c.at | Some q ↦ behind_end b (edge_of b c) q.behind ]) e
 
   -- the end of track lies behind its cursor
   met-ahead : c.at ≤ behind_met b c
   unfolding behind_met
   met-ahead = go (quantity_at b (edge_of b c) c.at) refl
     where
-      go : (q : Quantity) → quantity_at b (edge_of b c) c.at ≡ q → c.at ≤ elim q as (λ x. ℕ) [ Quantity.Bad ↦ c.at | Good ticks place ↦ behind_end b (edge_of b c) place ]
-      go Quantity.Bad e = le_refl c.at
-      go (Good ticks place) e = omega (arith, (quantity-behind b (edge_of b c) c.at ticks place e).0, end-ahead b (edge_of b c) place)
+      go : (q : Option Quantity) → quantity_at b (edge_of b c) c.at ≡ q → c.at ≤ elim q as (λ x. ℕ) [ None ↦ c.at | Some q ↦ behind_end b (edge_of b c) q.behind ]
+      go None e = le_refl c.at
+      go (Some q) e = omega (arith, (quantity-behind b (edge_of b c) c.at q.value q.behind e).0, end-ahead b (edge_of b c) q.behind)
 
 -- the other file has the same event at a cursor
 meet-same : (b other : List ℕ) (c : Cursor) → edge_of other c ≡ edge_of b c → is_fault (meet_at b c) ≡ false
     → SameBelow b other (reach_met (meet_at b c) (behind_met b c)) → meet_at other c ≡ meet_at b c
 meet-same b other c f n s = go (quantity_at b (edge_of b c) c.at) refl
   where
-    go : (q : Quantity) → quantity_at b (edge_of b c) c.at ≡ q → meet_at other c ≡ meet_at b c
-    go Quantity.Bad e = absurd (true≢false (subst (λ (m : Met). is_fault m ≡ false) (meet-bad b c e) n))
-    go (Good ticks place) e =
+    go : (q : Option Quantity) → quantity_at b (edge_of b c) c.at ≡ q → meet_at other c ≡ meet_at b c
+    go None e = absurd (true≢false (subst (λ (m : Met). is_fault m ≡ false) (meet-bad b c e) n))
+    go (Some y) e =
         let edge = edge_of b c in
-        let end = behind_end b edge place in
-        let x = item_at b edge c.running place in
-        let whole = meet-good b c ticks place e in
-        let o = obeyed-reach x c (sum_after c ticks) place end (subst (λ (m : Met). is_fault m ≡ false) whole n) in
-        let low : SameBelow b other (reach x end) = subst (λ (p : ℕ). SameBelow b other p) (ap₂ reach_met whole (behind-is b c ticks place e) ∙ o.1) s in
-        let past = reach-ahead edge place end x (item-placed b edge c.running place) o.0 (end-ahead b edge place) in
-        let q : quantity_at other edge c.at ≡ Good ticks place = quantity-at-same b other edge c.at ticks place e (same-le b other place (reach x end) low (omega (arith, past))) in
-        let i = item-same b other edge end c.running place (end-ahead b edge place) (λ n p f. le_of_eq (sym (end-behind b edge place n p f))) o.0 low in
-        meet-good other c ticks place (subst (λ (e : ℕ). quantity_at other e c.at ≡ Good ticks place) (sym f) q)
-        ∙ ap (λ (e : ℕ). obeyed (item_at other e c.running place) c (sum_after c ticks) place) f
-        ∙ ap (λ (y : Item). obeyed y c (sum_after c ticks) place) i
+        let end = behind_end b edge y.behind in
+        let x = item_at b edge c.running y.behind in
+        let whole = meet-good b c y.value y.behind e in
+        let o = obeyed-reach x c (sum_after c y.value) y.behind end (subst (λ (m : Met). is_fault m ≡ false) whole n) in
+        let low : SameBelow b other (reach x end) = subst (λ (p : ℕ). SameBelow b other p) (ap₂ reach_met whole (behind-is b c y.value y.behind e) ∙ o.1) s in
+        let past = reach-ahead edge y.behind end x (item-placed b edge c.running y.behind) o.0 (end-ahead b edge y.behind) in
+        let q : quantity_at other edge c.at ≡ quantity y.value y.behind = quantity-at-same b other edge c.at y.value y.behind e (same-le b other y.behind (reach x end) low (omega (arith, past))) in
+        let i = item-same b other edge end c.running y.behind (end-ahead b edge y.behind) (λ n p f. le_of_eq (sym (end-behind b edge y.behind n p f))) o.0 low in
+        meet-good other c y.value y.behind (subst (λ (e : ℕ). quantity_at other e c.at ≡ quantity y.value y.behind) (sym f) q)
+        ∙ ap (λ (e : ℕ). obeyed (item_at other e c.running y.behind) c (sum_after c y.value) y.behind) f
+        ∙ ap (λ (z : Item). obeyed z c (sum_after c y.value) y.behind) i
         ∙ sym whole
 
 -- ---- 6. The song from a cursor on
@@ -594,23 +594,23 @@ module _ (b : List ℕ) (edge end : ℕ) where
   unfolding exclusive_at
   exclusive-ends at = go (quantity_at b edge at)
     where
-      go : (q : Quantity) → Ends (exclusive_by edge q)
-      go Quantity.Bad = not_end Item.Bad refl
-      go (Good n p) = either Ends (ltb edge (p + n)) _ _ (λ f. not_end Item.Bad refl) (λ f. not_end (Item.Passed (p + n)) refl)
+      go : (q : Option Quantity) → Ends (exclusive_by edge q)
+      go None = not_end Item.Bad refl
+      go (Some q) = either Ends (ltb edge (q.behind + q.value)) _ _ (λ f. not_end Item.Bad refl) (λ f. not_end (Item.Passed (q.behind + q.value)) refl)
 
   -- a meta event lies in front of the edge
-  meta-ends : (at : ℕ) → ((n p : ℕ) → quantity_at b edge (at + 1) ≡ Good n p → end ≡ p + n) → Ends (meta_at b edge at)
+  meta-ends : (at : ℕ) → ((n p : ℕ) → quantity_at b edge (at + 1) ≡ quantity n p → end ≡ p + n) → Ends (meta_at b edge at)
   unfolding meta_at
   meta-ends at ends = go (quantity_at b edge (at + 1)) refl
     where
-      go : (q : Quantity) → quantity_at b edge (at + 1) ≡ q → Ends (meta_by b edge (u8_at b at) q)
-      go Quantity.Bad e = not_end Item.Bad refl
-      go (Good n p) e =
-          either Ends (ltb 127 (u8_at b at) || ltb edge (p + n)) _ _ (λ f. not_end Item.Bad refl)
-          (λ f z. omega (arith, ends n p e, ltb-false edge (p + n) (neither (ltb 127 (u8_at b at)) (ltb edge (p + n)) f).1))
+      go : (q : Option Quantity) → quantity_at b edge (at + 1) ≡ q → Ends (meta_by b edge (u8_at b at) q)
+      go None e = not_end Item.Bad refl
+      go (Some q) e =
+          either Ends (ltb 127 (u8_at b at) || ltb edge (q.behind + q.value)) _ _ (λ f. not_end Item.Bad refl)
+          (λ f z. omega (arith, ends q.value q.behind e, ltb-false edge (q.behind + q.value) (neither (ltb 127 (u8_at b at)) (ltb edge (q.behind + q.value)) f).1))
 
   -- so does an event that is an end of track
-  item-ends : (running at : ℕ) → ((n p : ℕ) → quantity_at b edge (at + 1 + 1) ≡ Good n p → end ≡ p + n) → Ends (item_at b edge running at)
+  item-ends : (running at : ℕ) → ((n p : ℕ) → quantity_at b edge (at + 1 + 1) ≡ quantity n p → end ≡ p + n) → Ends (item_at b edge running at)
   unfolding item_at
   item-ends running at ends =
       let bad = not_end Item.Bad refl in
@@ -640,13 +640,13 @@ obeyed-end (Item.Channel status first second behind) c sum place e = absurd (une
 met-ends : (b : List ℕ) (c : Cursor) → meet_at b c ≡ Met.End → behind_met b c ≤ edge_of b c
 met-ends b c e = go (quantity_at b (edge_of b c) c.at) refl
   where
-    go : (q : Quantity) → quantity_at b (edge_of b c) c.at ≡ q → behind_met b c ≤ edge_of b c
-    go Quantity.Bad f = let w : Met.Fault 9 c.at ≡ Met.End = sym (meet-bad b c f) ∙ e in let z : ◌≡◌ {A = ℕ} 0 1 = cc in absurd (omega arith)
-    go (Good ticks place) f =
+    go : (q : Option Quantity) → quantity_at b (edge_of b c) c.at ≡ q → behind_met b c ≤ edge_of b c
+    go None f = let w : Met.Fault 9 c.at ≡ Met.End = sym (meet-bad b c f) ∙ e in let z : ◌≡◌ {A = ℕ} 0 1 = cc in absurd (omega arith)
+    go (Some q) f =
         let edge = edge_of b c in
-        let x = item_at b edge c.running place in
-        let is = obeyed-end x c (sum_after c ticks) place (sym (meet-good b c ticks place f) ∙ e) in
-        rw (behind-is b c ticks place f) (item-ends b edge (behind_end b edge place) c.running place (end-behind b edge place) is)
+        let x = item_at b edge c.running q.behind in
+        let is = obeyed-end x c (sum_after c q.value) q.behind (sym (meet-good b c q.value q.behind f) ∙ e) in
+        rw (behind-is b c q.value q.behind f) (item-ends b edge (behind_end b edge q.behind) c.running q.behind (end-behind b edge q.behind) is)
 
 -- so does that of a song
 song-ends : (n : ℕ) (b : List ℕ) (c : Cursor) → refuses (song_from n b c) ≡ false → end_from n b c ≤ edge_of b c

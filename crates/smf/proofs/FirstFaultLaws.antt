@@ -1,4 +1,6 @@
 -- A refusal is of the first that is wrong, and a file in which nothing is wrong is not refused.
+use Rattle.smf.specs.declared.Quantity.{Quantity}
+use Rattle.std.proofs.Common.{Option, Some, None}
 use mathlib.Core.Bool.{Bool, true, false, cond, not, ◌||◌}
 use mathlib.Core.List.{List, []}
 use mathlib.Core.Logic.{◌⊎◌, inl, inr, ⊎_elim}
@@ -18,9 +20,7 @@ use Rattle.smf.specs.declared.Item.{Item}
 use Rattle.smf.specs.declared.Message.{Message}
 use Rattle.smf.specs.declared.Met.{Met}
 use Rattle.smf.specs.declared.Met.TheVariants.{Fault, End, Passed, Given}
-use Rattle.smf.specs.declared.Quantity.{Quantity}
-use Rattle.smf.specs.declared.Quantity.TheVariants.{Bad, Good}
-use Rattle.smf.specs.Quantities.{two_at, four_at, quantity_at}
+use Rattle.smf.specs.Quantities.{two_at, four_at, quantity_at, quantity}
 use Rattle.smf.specs.Head.{chunk_end, track_from, head_of}
 use Rattle.smf.specs.Items.{item_at}
 use Rattle.smf.specs.Ticks.{sum_after, is_late}
@@ -29,7 +29,7 @@ use Rattle.smf.specs.Songs.{start_at, turns, events_of}
 use Rattle.smf.specs.Faults.{Whole, Chunked, Tracked, Arrived, DeltaAt, Wrong, First, LongRefused, RefusedFirst, FirstRefused, GoodNotWrong, NotWrongGood}
 use Rattle.smf.specs.Faults.Chunked.{behind-head, behind-other}
 use Rattle.smf.specs.Faults.Arrived.{begins, behind-passed, behind-given}
-use Rattle.smf.proofs.QuantitiesLaws.{quantity-behind, quantity-edge}
+use Rattle.smf.proofs.QuantitiesLaws.{same-quantity, quantity-behind, quantity-edge}
 use Rattle.smf.proofs.ItemsLaws.{either, neither}
 use Rattle.smf.proofs.TrackLaws.{meet-passed, meet-given, further-edge, edge_in}
 
@@ -144,7 +144,7 @@ way-low b (on c further way (inr e)) = omega (arith, way-low b way, (meet-given 
 
 -- the three cases, without how the cursor is reached
 data Stuck (b : List ℕ) (c : Cursor) : ℕ → ℕ → Type 0 where
-  no-delta : quantity_at b (edge_of b c) c.at ≡ Bad → Stuck b c 9 c.at
+  no-delta : quantity_at b (edge_of b c) c.at ≡ None → Stuck b c 9 c.at
   bad-event : (ticks place : ℕ) → DeltaAt b c ticks place → item_at b (edge_of b c) c.running place ≡ Item.Bad → Stuck b c 9 place
   too-late : (ticks place : ℕ) → DeltaAt b c ticks place → 3600000000 * c.division < sum_after c ticks → Stuck b c 11 place
 
@@ -209,16 +209,16 @@ LeastMet b c (Passed further) = Unit {0}
 LeastMet b c (Given message further) = Unit {0}
 
 -- a quantity that is bad is not good
-bad-not-good : (q : Quantity) (ticks place : ℕ) → q ≡ Bad → q ≡ Good ticks place → ⊥
+bad-not-good : (q : Option Quantity) (ticks place : ℕ) → q ≡ None → q ≡ quantity ticks place → ⊥
 bad-not-good q ticks place e f = let z : ◌≡◌ {A = ℕ} 0 1 = cc in omega arith
 
 -- a good quantity ends at one place
-good-places : (q : Quantity) (ticks place t p : ℕ) → q ≡ Good ticks place → q ≡ Good t p → place ≡ p
-good-places q ticks place t p e f = cc
+good-places : (q : Option Quantity) (ticks place t p : ℕ) → q ≡ quantity ticks place → q ≡ quantity t p → place ≡ p
+good-places q ticks place t p e f = (same-quantity ticks place t p (sym e ∙ f)).1
 
 module _ (b : List ℕ) (c : Cursor) where
   -- a bad delta time is all that is wrong
-  no-delta-first : quantity_at b (edge_of b c) c.at ≡ Bad → Least b c 9 c.at
+  no-delta-first : quantity_at b (edge_of b c) c.at ≡ None → Least b c 9 c.at
   no-delta-first e = record { stuck = no-delta e; before = go }
     where
       go : (n p : ℕ) → Stuck b c n p → Before 9 c.at n p
@@ -269,9 +269,9 @@ module _ (b : List ℕ) (c : Cursor) where
   unfolding meet_at
   least-met = go (quantity_at b (edge_of b c) c.at) refl
     where
-      go : (q : Quantity) → quantity_at b (edge_of b c) c.at ≡ q → LeastMet b c (elim q [ Bad ↦ Fault 9 c.at | Good ticks place ↦ obeyed (item_at b (edge_of b c) c.running place) c (sum_after c ticks) place ])
-      go Bad e = no-delta-first e
-      go (Good ticks place) e = least-obeyed ticks place e (item_at b (edge_of b c) c.running place) refl
+      go : (q : Option Quantity) → quantity_at b (edge_of b c) c.at ≡ q → LeastMet b c (elim q [ None ↦ Fault 9 c.at | Some q ↦ obeyed (item_at b (edge_of b c) c.running q.behind) c (sum_after c q.value) q.behind ])
+      go None e = no-delta-first e
+      go (Some q) e = least-obeyed q.value q.behind e (item_at b (edge_of b c) c.running q.behind) refl
 
   -- the same of a fault that is given
   least-fault : (number place : ℕ) → meet_at b c ≡ Fault number place → Least b c number place

@@ -1,4 +1,6 @@
 -- Laws of the events of a track: each lies between its place and the edge, and a channel event's bytes are in their ranges.
+use Rattle.smf.specs.declared.Quantity.{Quantity}
+use Rattle.std.proofs.Common.{Option, Some, None}
 use mathlib.Core.Bool.{Bool, true, false, cond, ◌&&◌, ◌||◌}
 use mathlib.Core.List.{List}
 use mathlib.Core.Path.{◌≡◌, refl, subst}
@@ -8,8 +10,6 @@ use borrow.Author.Tests.{ltb-true, ltb-false, leb-true, le-leb}
 use lib.Dec.{ltb, leb, eqb}
 use Rattle.arith.specs.Bytes.{u8_at}
 use Rattle.arith.specs.Holds.{between}
-use Rattle.smf.specs.declared.Quantity.{Quantity}
-use Rattle.smf.specs.declared.Quantity.TheVariants.{Good}
 use Rattle.smf.specs.declared.Item.{Item}
 use Rattle.smf.specs.declared.Item.TheVariants.{Bad, End, Passed, Tempo, Channel}
 use Rattle.smf.specs.Quantities.{three_at, quantity_at}
@@ -98,11 +98,11 @@ module _ (b : List ℕ) (edge : ℕ) where
   unfolding exclusive_at
   exclusive-placed from at h = go (quantity_at b edge at) refl
     where
-      go : (q : Quantity) → quantity_at b edge at ≡ q → Placed edge from (elim q [ Quantity.Bad ↦ Bad | Good n p ↦ cond (ltb edge (p + n)) Bad (Passed (p + n)) ])
-      go Quantity.Bad e = tt
-      go (Good n p) e =
-          let q = quantity-behind b edge at n p e in
-          either (Placed edge from) (ltb edge (p + n)) Bad (Passed (p + n)) (λ t. tt) (λ t. (omega arith, ltb-false edge (p + n) t))
+      go : (q : Option Quantity) → quantity_at b edge at ≡ q → Placed edge from (elim q [ None ↦ Bad | Some q ↦ cond (ltb edge (q.behind + q.value)) Bad (Passed (q.behind + q.value)) ])
+      go None e = tt
+      go (Some y) e =
+          let q = quantity-behind b edge at y.value y.behind e in
+          either (Placed edge from) (ltb edge (y.behind + y.value)) Bad (Passed (y.behind + y.value)) (λ t. tt) (λ t. (omega arith, ltb-false edge (y.behind + y.value) t))
 
   -- a meta event by its type
   meta-of-placed : (from kind n at : ℕ) → from < at → at + n ≤ edge → Placed edge from (meta_of b kind n at)
@@ -118,12 +118,12 @@ module _ (b : List ℕ) (edge : ℕ) where
   unfolding meta_at
   meta-placed from at h = go (quantity_at b edge (at + 1)) refl
     where
-      go : (q : Quantity) → quantity_at b edge (at + 1) ≡ q → Placed edge from (elim q [ Quantity.Bad ↦ Bad | Good n p ↦ cond (ltb 127 (u8_at b at) || ltb edge (p + n)) Bad (meta_of b (u8_at b at) n p) ])
-      go Quantity.Bad e = tt
-      go (Good n p) e =
-          let q = quantity-behind b edge (at + 1) n p e in
-          either (Placed edge from) (ltb 127 (u8_at b at) || ltb edge (p + n)) Bad (meta_of b (u8_at b at) n p) (λ t. tt)
-          (λ t. meta-of-placed from (u8_at b at) n p (omega arith) (ltb-false edge (p + n) (neither (ltb 127 (u8_at b at)) (ltb edge (p + n)) t).1))
+      go : (q : Option Quantity) → quantity_at b edge (at + 1) ≡ q → Placed edge from (elim q [ None ↦ Bad | Some q ↦ cond (ltb 127 (u8_at b at) || ltb edge (q.behind + q.value)) Bad (meta_of b (u8_at b at) q.value q.behind) ])
+      go None e = tt
+      go (Some y) e =
+          let q = quantity-behind b edge (at + 1) y.value y.behind e in
+          either (Placed edge from) (ltb 127 (u8_at b at) || ltb edge (y.behind + y.value)) Bad (meta_of b (u8_at b at) y.value y.behind) (λ t. tt)
+          (λ t. meta-of-placed from (u8_at b at) y.value y.behind (omega arith) (ltb-false edge (y.behind + y.value) (neither (ltb 127 (u8_at b at)) (ltb edge (y.behind + y.value)) t).1))
 
   -- every event ends behind its place and in front of the edge, and a channel event's bytes are in their ranges
   pub item-placed : (running at : ℕ) → Placed edge at (item_at b edge running at)

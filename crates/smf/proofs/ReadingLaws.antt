@@ -1,4 +1,5 @@
 -- What the reader hands out is the song of the file, in its ranges, at frames that never fall.
+use Rattle.std.proofs.Common.{Option, Some, None}
 use mathlib.Core.List.{List, [], ◌∷◌}
 use mathlib.Core.Path.{◌≡◌, refl, subst, sym, ◌∙◌, ap}
 use Prim.Native.Nat.{ℕ, zero, suc, ◌+◌, ◌<◌, ◌≤◌}
@@ -11,7 +12,6 @@ use Rattle.smf.specs.declared.Handed.{Handed}
 use Rattle.smf.specs.declared.Header.{Header}
 use Rattle.smf.specs.declared.Met.{Met}
 use Rattle.smf.specs.declared.Met.TheVariants.{Fault, End, Passed, Given}
-use Rattle.smf.specs.declared.Offer.{Offer}
 use Rattle.smf.specs.Head.{head_of}
 use Rattle.smf.specs.Ticks.{frame_of}
 use Rattle.smf.specs.Track.{Song, Events, Refused, edge_of, event_of, meet_at, behind_event, song_from, next_from, over, nothing}
@@ -25,13 +25,13 @@ use Rattle.smf.proofs.TrackLaws.{meet-passed, meet-given, further-edge, edge_in,
 
 -- an offer of an event, with the cursor behind it
 abbrev gives : Event → Cursor → Handed
-gives e c = record { offer = Offer.Given e; cursor = c }
+gives e c = record { event = Some e; cursor = c }
 
 -- what a next hands out of a song
 abbrev pub Hands : List ℕ → Handed → Song → Type 0
 Hands b h (Refused number place) = Unit {0}
 Hands b h (Events []) = h ≡ nothing
-Hands b h (Events (e ∷ es)) = (h.offer ≡ Offer.Given e) × (song_from (turns b) b h.cursor ≡ Events es)
+Hands b h (Events (e ∷ es)) = (h.event ≡ Some e) × (song_from (turns b) b h.cursor ≡ Events es)
 
 -- a next and the song of as many turns
 hands : (n : ℕ) (b : List ℕ) (c : Cursor) → edge_of b c < c.at + n → Hands b (next_from n b c) (song_from n b c)
@@ -86,20 +86,20 @@ over-after b zero = refl
 over-after b (suc k) = ap (λ (x : Cursor). (handed_of b x).cursor) (over-after b k) ∙ ap (λ (h : Handed). h.cursor) (over-next b)
 
 -- so no event is offered
-over-offers : (b : List ℕ) (k : ℕ) → (handed_of b (after b over k)).offer ≡ Offer.End
-over-offers b k = ap (λ (x : Cursor). (handed_of b x).offer) (over-after b k) ∙ ap (λ (h : Handed). h.offer) (over-next b)
+over-offers : (b : List ℕ) (k : ℕ) → (handed_of b (after b over k)).event ≡ None
+over-offers b k = ap (λ (x : Cursor). (handed_of b x).event) (over-after b k) ∙ ap (λ (h : Handed). h.event) (over-next b)
 
 -- the nexts from a cursor on hand out its song
-reads : (b : List ℕ) (es : List Event) (c : Cursor) (k : ℕ) → song_from (turns b) b c ≡ Events es → (handed_of b (after b c k)).offer ≡ event_at es k
+reads : (b : List ℕ) (es : List Event) (c : Cursor) (k : ℕ) → song_from (turns b) b c ≡ Events es → (handed_of b (after b c k)).event ≡ event_at es k
 unfolding after
-reads b [] c zero e = let h : handed_of b c ≡ nothing = subst (λ (s : Song). Hands b (handed_of b c) s) e (hands_next b c) in ap (λ (x : Handed). x.offer) h
+reads b [] c zero e = let h : handed_of b c ≡ nothing = subst (λ (s : Song). Hands b (handed_of b c) s) e (hands_next b c) in ap (λ (x : Handed). x.event) h
 reads b [] c (suc k) e =
     let h : handed_of b c ≡ nothing = subst (λ (s : Song). Hands b (handed_of b c) s) e (hands_next b c) in
-    ap (λ (x : Cursor). (handed_of b x).offer) (after_next b c k ∙ ap (λ (x : Handed). after b x.cursor k) h) ∙ over-offers b k
+    ap (λ (x : Cursor). (handed_of b x).event) (after_next b c k ∙ ap (λ (x : Handed). after b x.cursor k) h) ∙ over-offers b k
 reads b (x ∷ es) c zero e = (subst (λ (s : Song). Hands b (handed_of b c) s) e (hands_next b c)).0
 reads b (x ∷ es) c (suc k) e =
     let h = subst (λ (s : Song). Hands b (handed_of b c) s) e (hands_next b c) in
-    ap (λ (x : Cursor). (handed_of b x).offer) (after_next b c k) ∙ reads b es (handed_of b c).cursor k h.1
+    ap (λ (x : Cursor). (handed_of b x).event) (after_next b c k) ∙ reads b es (handed_of b c).cursor k h.1
 
 -- ---- from the opening on
 
@@ -118,26 +118,26 @@ track-song b es e =
 -- the nexts hand out the events of the file
 pub reads_all : ReadsAll
 unfolding offered opening_of
-reads_all b k = ap (λ (x : Cursor). (handed_of b x).offer) (after-opening b k) ∙ go (events_of b) refl
+reads_all b k = ap (λ (x : Cursor). (handed_of b x).event) (after-opening b k) ∙ go (events_of b) refl
   where
-    go : (s : Song) → events_of b ≡ s → (handed_of b (after b (first_cursor (events_of b) b) k)).offer ≡ entry (events_of b) k
+    go : (s : Song) → events_of b ≡ s → (handed_of b (after b (first_cursor (events_of b) b) k)).event ≡ entry (events_of b) k
     go (Refused number place) e = rw e (over-offers b k)
     go (Events es) e = rw e (reads b es (track_cursor (head_of b) b) k (track-song b es e))
 
 -- ---- ranges
 
 -- an offer of an event in its ranges
-Fine : Offer → Type 0
-Fine Offer.End = Unit {0}
-Fine (Offer.Given e) = InRange e
+Fine : Option Event → Type 0
+Fine None = Unit {0}
+Fine (Some e) = InRange e
 
 -- every offer is one, over any number of turns
-fine : (n : ℕ) (b : List ℕ) (c : Cursor) → Fine (next_from n b c).offer
+fine : (n : ℕ) (b : List ℕ) (c : Cursor) → Fine (next_from n b c).event
 unfolding next_from Fine
 fine zero b c = tt
 fine (suc n) b c = go (λ further. fine n b further) (meet_at b c) refl
   where
-    go : ((further : Cursor) → Fine (next_from n b further).offer) → (m : Met) → meet_at b c ≡ m → Fine (elim m as (λ x. Handed) [ Fault number place ↦ nothing | End ↦ nothing | Passed further ↦ next_from n b further | Given message further ↦ gives (event_of message further) further ]).offer
+    go : ((further : Cursor) → Fine (next_from n b further).event) → (m : Met) → meet_at b c ≡ m → Fine (elim m as (λ x. Handed) [ Fault number place ↦ nothing | End ↦ nothing | Passed further ↦ next_from n b further | Given message further ↦ gives (event_of message further) further ]).event
     go more (Fault number place) e = tt
     go more End e = tt
     go more (Passed further) e = more further
@@ -156,7 +156,7 @@ fine (suc n) b c = go (λ further. fine n b further) (meet_at b c) refl
 -- every event that is handed out is in its ranges
 pub all-in-range : AllInRange
 unfolding handed_of Fine
-all-in-range b c e h = subst (λ (o : Offer). Fine o) h (fine (turns b) b c)
+all-in-range b c e h = subst (λ (o : Option Event). Fine o) h (fine (turns b) b c)
 
 -- ---- frames
 
@@ -202,14 +202,14 @@ song-rises (suc n) b c = go (λ further. song-rises n b further) (meet_at b c) r
         given (frame_of c.division c.sum) (event_of message further) (song_from n b further) (rw f.same-division (frame-rises c.division c.sum further.sum f.rises)) (more further)
 
 -- an event of a rising list is not below the frame
-rising-at : (low : ℕ) (es : List Event) (k : ℕ) (e : Event) → Rising low es → event_at es k ≡ Offer.Given e → low ≤ e.frame
+rising-at : (low : ℕ) (es : List Event) (k : ℕ) (e : Event) → Rising low es → event_at es k ≡ Some e → low ≤ e.frame
 unfolding Rising
 rising-at low [] k e r h = let z : ◌≡◌ {A = ℕ} 0 1 = cc in absurd (omega arith)
 rising-at low (x ∷ es) zero e r h = let same : x.frame ≡ e.frame = cc in omega (arith, r.0)
 rising-at low (x ∷ es) (suc k) e r h = le_trans r.0 (rising-at x.frame es k e r.1 h)
 
 -- of two events of a rising list the later one is not below the other
-rising-two : (low : ℕ) (es : List Event) (i j : ℕ) (e f : Event) → Rising low es → i ≤ j → event_at es i ≡ Offer.Given e → event_at es j ≡ Offer.Given f → e.frame ≤ f.frame
+rising-two : (low : ℕ) (es : List Event) (i j : ℕ) (e f : Event) → Rising low es → i ≤ j → event_at es i ≡ Some e → event_at es j ≡ Some f → e.frame ≤ f.frame
 unfolding Rising
 rising-two low [] i j e f r h p q = let z : ◌≡◌ {A = ℕ} 0 1 = cc in absurd (omega arith)
 rising-two low (x ∷ es) zero zero e f r h p q = let same : e.frame ≡ f.frame = cc in omega arith
@@ -222,14 +222,14 @@ pub never-fall : NeverFall
 unfolding RisingSong
 never-fall b i j e f h p q = go (events_of b) refl
   where
-    p' : entry (events_of b) i ≡ Offer.Given e
+    p' : entry (events_of b) i ≡ Some e
     p' = sym (reads_all b i) ∙ p
 
-    q' : entry (events_of b) j ≡ Offer.Given f
+    q' : entry (events_of b) j ≡ Some f
     q' = sym (reads_all b j) ∙ q
 
     go : (s : Song) → events_of b ≡ s → e.frame ≤ f.frame
-    go (Refused number place) t = let r : Offer.End ≡ Offer.Given e = rw t at p' in let z : ◌≡◌ {A = ℕ} 0 1 = cc in absurd (omega arith)
+    go (Refused number place) t = let r : None ≡ Some e = rw t at p' in let z : ◌≡◌ {A = ℕ} 0 1 = cc in absurd (omega arith)
     go (Events es) t =
         let c = track_cursor (head_of b) b in
         let r : RisingSong (frame_of c.division c.sum) (Events es) = subst (λ (s : Song). RisingSong (frame_of c.division c.sum) s) (track-song b es t) (song-rises (turns b) b c) in

@@ -1,4 +1,5 @@
 -- Files that are written from a score: each definition reads back what is written, with running status and without.
+use Rattle.smf.specs.declared.Quantity.{Quantity}
 use mathlib.Core.Bool.{Bool, true, false, cond, true≢false, not, ◌&&◌, ◌||◌, and-true}
 use mathlib.Core.List.{List, [], ◌∷◌, ◌++◌, append_assoc}
 use mathlib.Core.Logic.{◌⊎◌, inl, ◌≢◌, ⊎_elim}
@@ -18,8 +19,7 @@ use Rattle.smf.specs.declared.Event.{Event}
 use Rattle.smf.specs.declared.Header.{Header}
 use Rattle.smf.specs.declared.Item.{Item}
 use Rattle.smf.specs.declared.Met.{Met}
-use Rattle.smf.specs.declared.Quantity.TheVariants.{Good}
-use Rattle.smf.specs.Quantities.{two_at, three_at, four_at, quantity_at}
+use Rattle.smf.specs.Quantities.{two_at, three_at, four_at, quantity_at, quantity}
 use Rattle.smf.specs.Head.{chunk_end, track_from, head_of}
 use Rattle.smf.specs.Items.{is_channel, is_short, short_at, long_at, spoken_at, exclusive_at, meta_of, meta_at, item_at}
 use Rattle.smf.specs.Ticks.{sum_after, is_late, frame_of}
@@ -59,16 +59,16 @@ next b at x rest e =
 -- a quantity that is read back, with the rest of the file behind it
 pub record Quantity-read (b : List ℕ) (at n : ℕ) (rest : List ℕ) : Type 0 where
   pub place : ℕ
-  pub reads : quantity_at b (length b) at ≡ Good n place
+  pub reads : quantity_at b (length b) at ≡ quantity n place
   pub behind : drop place b ≡ rest
 
 -- a quantity of one byte
-quantity-small : (b : List ℕ) (at n : ℕ) → at < length b → u8_at b at ≡ n → n < 128 → quantity_at b (length b) at ≡ Good n (at + 1)
+quantity-small : (b : List ℕ) (at n : ℕ) → at < length b → u8_at b at ≡ n → n < 128 → quantity_at b (length b) at ≡ quantity n (at + 1)
 unfolding quantity_at
 quantity-small b at n h e l =
     let small : u8_at b at < 128 = omega arith in
     let value : 0 * 128 + u8_at b at ≡ n = omega arith in
-    from_last 3 b (length b) at 0 h small ∙ ap (λ (v : ℕ). Good v (at + 1)) value
+    from_last 3 b (length b) at 0 h small ∙ ap (λ (v : ℕ). quantity v (at + 1)) value
 
 -- a quantity below 128 is written in one byte
 pub one_byte : (n : ℕ) → n < 128 → quantity_bytes n ≡ n ∷ []
@@ -116,7 +116,7 @@ module _ (b : List ℕ) (at n : ℕ) (rest : List ℕ) (e : drop at b ≡ quanti
         reads =
             from_more 3 b (length b) at 0 x.inside u
             ∙ from_last 2 b (length b) (at + 1) (0 * 128 + (u8_at b at - 128)) y.inside v
-            ∙ ap (λ (z : ℕ). Good z (at + 1 + 1)) value;
+            ∙ ap (λ (z : ℕ). quantity z (at + 1 + 1)) value;
         behind = y.behind;
       }
 
@@ -137,7 +137,7 @@ module _ (b : List ℕ) (at n : ℕ) (rest : List ℕ) (e : drop at b ≡ quanti
             from_more 3 b (length b) at 0 x.inside u
             ∙ from_more 2 b (length b) (at + 1) (0 * 128 + (u8_at b at - 128)) y.inside v
             ∙ from_last 1 b (length b) (at + 1 + 1) ((0 * 128 + (u8_at b at - 128)) * 128 + (u8_at b (at + 1) - 128)) z.inside w
-            ∙ ap (λ (z : ℕ). Good z (at + 1 + 1 + 1)) value;
+            ∙ ap (λ (z : ℕ). quantity z (at + 1 + 1 + 1)) value;
         behind = z.behind;
       }
 
@@ -167,7 +167,7 @@ module _ (b : List ℕ) (at n : ℕ) (rest : List ℕ) (e : drop at b ≡ quanti
             ∙ from_more 2 b (length b) (at + 1) (0 * 128 + (u8_at b at - 128)) y.inside v
             ∙ from_more 1 b (length b) (at + 1 + 1) ((0 * 128 + (u8_at b at - 128)) * 128 + (u8_at b (at + 1) - 128)) z.inside w
             ∙ from_last 0 b (length b) (at + 1 + 1 + 1) (((0 * 128 + (u8_at b at - 128)) * 128 + (u8_at b (at + 1) - 128)) * 128 + (u8_at b (at + 1 + 1) - 128)) l.inside m
-            ∙ ap (λ (z : ℕ). Good z (at + 1 + 1 + 1 + 1)) value;
+            ∙ ap (λ (z : ℕ). quantity z (at + 1 + 1 + 1 + 1)) value;
         behind = l.behind;
       }
 
@@ -425,7 +425,7 @@ met : (b : List ℕ) (c : Cursor) (ticks : ℕ) (rest : List ℕ) → c.end ≡ 
     → meet_at b c ≡ obeyed (item_at b (length b) c.running q.place) c (sum_after c ticks) q.place
 met b c ticks rest whole q =
     let edge : edge_of b c ≡ length b = omega arith in
-    meet-good b c ticks q.place (subst (λ (n : ℕ). quantity_at b n c.at ≡ Good ticks q.place) (sym edge) q.reads)
+    meet-good b c ticks q.place (subst (λ (n : ℕ). quantity_at b n c.at ≡ quantity ticks q.place) (sym edge) q.reads)
     ∙ ap (λ (n : ℕ). obeyed (item_at b n c.running q.place) c (sum_after c ticks) q.place) edge
 
 -- what a mark does, in front of the song behind it

@@ -1,4 +1,7 @@
 -- Laws of a track from a cursor on: each event leads further, so the turns are enough, and what a turn of a loop may use.
+use Rattle.smf.specs.declared.Quantity.{Quantity}
+use Rattle.smf.specs.declared.Event.{Event}
+use Rattle.std.proofs.Common.{Option, Some, None}
 use mathlib.Core.Bool.{Bool, true, false, cond}
 use mathlib.Core.List.{List, []}
 use mathlib.Core.Path.{◌≡◌, refl, subst, sym, ◌∙◌, ap}
@@ -13,9 +16,6 @@ use Rattle.smf.specs.declared.Item.{Item}
 use Rattle.smf.specs.declared.Message.{Message}
 use Rattle.smf.specs.declared.Met.{Met}
 use Rattle.smf.specs.declared.Met.TheVariants.{Fault, End, Passed, Given}
-use Rattle.smf.specs.declared.Offer.{Offer}
-use Rattle.smf.specs.declared.Quantity.{Quantity}
-use Rattle.smf.specs.declared.Quantity.TheVariants.{Bad, Good}
 use Rattle.smf.specs.Quantities.{quantity_at}
 use Rattle.smf.specs.Items.{is_short, item_at}
 use Rattle.smf.specs.Ticks.{sum_after, is_late}
@@ -91,11 +91,11 @@ module _ (b : List ℕ) (c : Cursor) where
   unfolding meet_at
   meet-led = go (quantity_at b (edge_of b c) c.at) refl
     where
-      go : (q : Quantity) → quantity_at b (edge_of b c) c.at ≡ q → Led b c (elim q [ Bad ↦ Fault 9 c.at | Good ticks place ↦ obeyed (item_at b (edge_of b c) c.running place) c (sum_after c ticks) place ])
-      go Bad e = omega arith
-      go (Good ticks place) e =
-          obeyed-led (item_at b (edge_of b c) c.running place) (sum_after c ticks) place (quantity-behind b (edge_of b c) c.at ticks place e).0 (omega arith)
-          (item-placed b (edge_of b c) c.running place)
+      go : (q : Option Quantity) → quantity_at b (edge_of b c) c.at ≡ q → Led b c (elim q [ None ↦ Fault 9 c.at | Some q ↦ obeyed (item_at b (edge_of b c) c.running q.behind) c (sum_after c q.value) q.behind ])
+      go None e = omega arith
+      go (Some q) e =
+          obeyed-led (item_at b (edge_of b c) c.running q.behind) (sum_after c q.value) q.behind (quantity-behind b (edge_of b c) c.at q.value q.behind e).0 (omega arith)
+          (item-placed b (edge_of b c) c.running q.behind)
 
   -- an event that gives none
   pub meet-passed : (further : Cursor) → meet_at b c ≡ Passed further → Further b c further
@@ -138,7 +138,7 @@ module _ (b : List ℕ) (c : Cursor) where
   look-passed n further e = rw (e, next_from) refl
 
   -- a channel event
-  look-given : (n : ℕ) (message : Message) (further : Cursor) → meet_at b c ≡ Given message further → next_from (suc n) b c ≡ record { offer = Offer.Given (event_of message further); cursor = further }
+  look-given : (n : ℕ) (message : Message) (further : Cursor) → meet_at b c ≡ Given message further → next_from (suc n) b c ≡ record { event = Some (event_of message further); cursor = further }
   unfolding next_from
   look-given n message further e = rw (e, next_from) refl
 
@@ -238,7 +238,7 @@ module _ (b : List ℕ) (c : Cursor) where
   next-passed further e = (rw add-one (look-passed b c (length b) further e)) ∙ less-next further (meet-passed b c further e)
 
   -- a channel event is given, with the cursor behind it
-  pub next-given : (message : Message) (further : Cursor) → meet_at b c ≡ Given message further → next_from (turns b) b c ≡ record { offer = Offer.Given (event_of message further); cursor = further }
+  pub next-given : (message : Message) (further : Cursor) → meet_at b c ≡ Given message further → next_from (turns b) b c ≡ record { event = Some (event_of message further); cursor = further }
   next-given message further e = rw add-one (look-given b c (length b) message further e)
 
   -- where no byte is left there is none
@@ -246,19 +246,19 @@ module _ (b : List ℕ) (c : Cursor) where
   next_edge h = next-out b c (turns b) h
 
 -- the cursor behind what the next look finds leads further too, over all events that give none
-abbrev pub LedTo : List ℕ → Cursor → Cursor → Offer → Type 0
-LedTo b c behind Offer.End = Unit {0}
-LedTo b c behind (Offer.Given event) = Further b c behind
+abbrev pub LedTo : List ℕ → Cursor → Cursor → Option Event → Type 0
+LedTo b c behind None = Unit {0}
+LedTo b c behind (Some event) = Further b c behind
 
 -- over any number of turns
-next-led : (n : ℕ) (b : List ℕ) (c : Cursor) → LedTo b c (next_from n b c).cursor (next_from n b c).offer
+next-led : (n : ℕ) (b : List ℕ) (c : Cursor) → LedTo b c (next_from n b c).cursor (next_from n b c).event
 unfolding next_from
 next-led zero b c = tt
 next-led (suc n) b c = go (λ further. next-led n b further) (meet_at b c) refl
   where
-    farther : (further behind : Cursor) (o : Offer) → Further b c further → LedTo b further behind o → LedTo b c behind o
-    farther further behind Offer.End f l = tt
-    farther further behind (Offer.Given event) f l =
+    farther : (further behind : Cursor) (o : Option Event) → Further b c further → LedTo b further behind o → LedTo b c behind o
+    farther further behind None f l = tt
+    farther further behind (Some event) f l =
         let same = further-edge b c further f in
         record {
           after = omega (arith, f.after, l.after);
@@ -269,13 +269,13 @@ next-led (suc n) b c = go (λ further. next-led n b further) (meet_at b c) refl
           early = subst (λ (d : ℕ). behind.sum ≤ 3600000000 * d) f.same-division l.early;
         }
 
-    go : ((further : Cursor) → LedTo b further (next_from n b further).cursor (next_from n b further).offer) → (m : Met) → meet_at b c ≡ m → LedTo b c (next_from (suc n) b c).cursor (next_from (suc n) b c).offer
+    go : ((further : Cursor) → LedTo b further (next_from n b further).cursor (next_from n b further).event) → (m : Met) → meet_at b c ≡ m → LedTo b c (next_from (suc n) b c).cursor (next_from (suc n) b c).event
     go more (Fault number place) e = rw (look-fault b c n number place e) tt
     go more End e = rw (look-end b c n e) tt
-    go more (Passed further) e = rw (look-passed b c n further e) (farther further (next_from n b further).cursor (next_from n b further).offer (meet-passed b c further e) (more further))
+    go more (Passed further) e = rw (look-passed b c n further e) (farther further (next_from n b further).cursor (next_from n b further).event (meet-passed b c further e) (more further))
     go more (Given message further) e = rw (look-given b c n message further e) (meet-given b c message further e).0
 
 -- what is handed out leads further
-pub handed-led : (b : List ℕ) (c : Cursor) → LedTo b c (handed_of b c).cursor (handed_of b c).offer
+pub handed-led : (b : List ℕ) (c : Cursor) → LedTo b c (handed_of b c).cursor (handed_of b c).event
 unfolding handed_of
 handed-led b c = next-led (turns b) b c

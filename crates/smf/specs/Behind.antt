@@ -1,11 +1,10 @@
 -- 02, M-101: what stands behind the end of track. Bytes there change nothing.
-use Rattle.std.specs.Prelude.{List, ◌++◌, ◌≡◌, ℕ, zero, suc, ◌+◌, ◌<◌, ◌≤◌, length}
+use Rattle.std.specs.Prelude.{List, ◌++◌, ◌≡◌, ℕ, zero, suc, ◌+◌, ◌<◌, ◌≤◌, length, Some, None}
 use Rattle.arith.specs.Bytes.{u8_at}
 use Rattle.smf.specs.declared.Cursor.{Cursor}
 use Rattle.smf.specs.declared.Event.{Event}
 use Rattle.smf.specs.declared.Header.TheVariants.{Refused, Track}
 use Rattle.smf.specs.declared.Met.TheVariants.{Fault, End, Passed, Given}
-use Rattle.smf.specs.declared.Quantity.TheVariants.{Bad, Good}
 use Rattle.smf.specs.Quantities.{quantity_at}
 use Rattle.smf.specs.Head.{head_of}
 use Rattle.smf.specs.Track.{Events, edge_of, meet_at}
@@ -14,11 +13,11 @@ use Rattle.smf.specs.Reading.{offered}
 
 -- behind the end of track event at a place: FF, 2F, its length, and so many bytes
 unfoldable pub behind_end : List ℕ → ℕ → ℕ → ℕ
-behind_end b edge at = elim (quantity_at b edge (at + 2)) [ Bad ↦ at + 2 | Good n p ↦ p + n ]
+behind_end b edge at = elim (quantity_at b edge (at + 2)) [ None ↦ at + 2 | Some q ↦ q.behind + q.value ]
 
 -- behind the delta time at a cursor and the end of track event that follows it
 unfoldable pub behind_met : List ℕ → Cursor → ℕ
-behind_met b c = elim (quantity_at b (edge_of b c) c.at) [ Bad ↦ c.at | Good ticks place ↦ behind_end b (edge_of b c) place ]
+behind_met b c = elim (quantity_at b (edge_of b c) c.at) [ None ↦ c.at | Some q ↦ behind_end b (edge_of b c) q.behind ]
 
 -- behind the end of track, from a cursor on, over at most n events
 unfoldable pub end_from : ℕ → List ℕ → Cursor → ℕ

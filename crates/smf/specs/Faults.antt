@@ -1,12 +1,11 @@
 -- 02, M-101: what can be wrong with a file, each case by itself, and the first of what is: the numbers and places of refusals, with no order of tests.
-use Rattle.std.specs.Prelude.{List, ◌⊎◌, ◌≡◌, ℕ, ◌+◌, ◌*◌, ◌<◌, ◌≤◌, length}
+use Rattle.std.specs.Prelude.{List, ◌⊎◌, ◌≡◌, ℕ, ◌+◌, ◌*◌, ◌<◌, ◌≤◌, length, None}
 use Rattle.smf.specs.declared.Cursor.{Cursor}
 use Rattle.smf.specs.declared.Event.{Event}
 use Rattle.smf.specs.declared.Item.{Item}
 use Rattle.smf.specs.declared.Message.{Message}
 use Rattle.smf.specs.declared.Met.TheVariants.{Passed, Given}
-use Rattle.smf.specs.declared.Quantity.TheVariants.{Bad, Good}
-use Rattle.smf.specs.Quantities.{two_at, four_at, quantity_at}
+use Rattle.smf.specs.Quantities.{two_at, four_at, quantity_at, quantity}
 use Rattle.smf.specs.Head.{head_name, track_name, chunk_end}
 use Rattle.smf.specs.Items.{item_at}
 use Rattle.smf.specs.Ticks.{sum_after}
@@ -37,7 +36,7 @@ pub data Arrived (b : List ℕ) : Cursor → Type 0 where
 
 -- the delta time at a cursor: so many ticks, and the place of the event behind it
 abbrev pub DeltaAt : List ℕ → Cursor → ℕ → ℕ → Type 0
-DeltaAt b c ticks place = quantity_at b (edge_of b c) c.at ≡ Good ticks place
+DeltaAt b c ticks place = quantity_at b (edge_of b c) c.at ≡ quantity ticks place
 
 -- what can be wrong, with its number and its place
 pub data Wrong (b : List ℕ) : ℕ → ℕ → Type 0 where
@@ -60,7 +59,7 @@ pub data Wrong (b : List ℕ) : ℕ → ℕ → Type 0 where
   -- a chunk's length field is cut off, or its body goes past the file's end
   long-chunk : (at : ℕ) → Chunked b at → at + 4 ≤ length b → length b < chunk_end b at → Wrong b 9 (at + 4)
   -- a delta time is cut off or longer than four bytes, or the track has no end
-  delta : (c : Cursor) → Arrived b c → quantity_at b (edge_of b c) c.at ≡ Bad → Wrong b 9 c.at
+  delta : (c : Cursor) → Arrived b c → quantity_at b (edge_of b c) c.at ≡ None → Wrong b 9 c.at
   -- an event is not well formed
   event : (c : Cursor) (ticks place : ℕ) → Arrived b c → DeltaAt b c ticks place → item_at b (edge_of b c) c.running place ≡ Item.Bad → Wrong b 9 place
   -- an event is past an hour, whatever it is

@@ -1,9 +1,7 @@
 -- Standard MIDI Files: one event of the track behind its delta time. The edge is where the track ends.
-use Rattle.std.specs.Prelude.{cond, Bool, ◌||◌, List, ℕ, ◌+◌, ltb, leb, eqb}
+use Rattle.std.specs.Prelude.{cond, Bool, ◌||◌, List, ℕ, ◌+◌, ltb, leb, eqb, Some, None}
 use Rattle.arith.specs.Bytes.{u8_at}
 use Rattle.arith.specs.Holds.{between}
-use Rattle.smf.specs.declared.Quantity.{Quantity}
-use Rattle.smf.specs.declared.Quantity.TheVariants.{Good}
 use Rattle.smf.specs.declared.Item.{Item}
 use Rattle.smf.specs.declared.Item.TheVariants.{Bad, End, Passed, Tempo, Channel}
 use Rattle.smf.specs.Quantities.{three_at, quantity_at}
@@ -35,7 +33,7 @@ spoken_at b edge status at = cond (is_short status) (short_at b edge status at) 
 
 -- a system exclusive event: the length at a place, and so many bytes
 unfoldable pub exclusive_at : List ℕ → ℕ → ℕ → Item
-exclusive_at b edge at = elim (quantity_at b edge at) [ Quantity.Bad ↦ Bad | Good n p ↦ cond (ltb edge (p + n)) Bad (Passed (p + n)) ]
+exclusive_at b edge at = elim (quantity_at b edge at) [ None ↦ Bad | Some q ↦ cond (ltb edge (q.behind + q.value)) Bad (Passed (q.behind + q.value)) ]
 
 -- a meta event of a type, with n bytes at a place: 2F ends the track, 51 sets the tempo by its first three bytes, all others are stepped over
 unfoldable pub meta_of : List ℕ → ℕ → ℕ → ℕ → Item
@@ -47,7 +45,7 @@ meta_of b kind n at =
 -- a meta event: the type at a place, which is below 128, its length, and so many bytes
 unfoldable pub meta_at : List ℕ → ℕ → ℕ → Item
 meta_at b edge at =
-    elim (quantity_at b edge (at + 1)) [ Quantity.Bad ↦ Bad | Good n p ↦ cond (ltb 127 (u8_at b at) || ltb edge (p + n)) Bad (meta_of b (u8_at b at) n p) ]
+    elim (quantity_at b edge (at + 1)) [ None ↦ Bad | Some q ↦ cond (ltb 127 (u8_at b at) || ltb edge (q.behind + q.value)) Bad (meta_of b (u8_at b at) q.value q.behind) ]
 
 -- the event at a place, where a status runs (0: none): a data byte takes the running status; FF is a meta event
 unfoldable pub item_at : List ℕ → ℕ → ℕ → ℕ → Item

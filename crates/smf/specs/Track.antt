@@ -1,13 +1,11 @@
 -- Standard MIDI Files: the track from a cursor on, one delta time and event after the other.
-use Rattle.std.specs.Prelude.{cond, Bool, true, false, List, [], ◌∷◌, ℕ, zero, suc, min, length}
+use Rattle.std.specs.Prelude.{cond, Bool, true, false, List, [], ◌∷◌, ℕ, zero, suc, min, length, Option, Some, None}
 use Rattle.smf.specs.declared.Cursor.{Cursor}
 use Rattle.smf.specs.declared.Event.{Event}
 use Rattle.smf.specs.declared.Handed.{Handed}
 use Rattle.smf.specs.declared.Item.{Item}
 use Rattle.smf.specs.declared.Message.{Message}
 use Rattle.smf.specs.declared.Met.{Met}
-use Rattle.smf.specs.declared.Offer.{Offer}
-use Rattle.smf.specs.declared.Quantity.TheVariants.{Bad, Good}
 use Rattle.smf.specs.declared.Met.TheVariants.{Fault, End, Passed, Given}
 use Rattle.smf.specs.Quantities.{quantity_at}
 use Rattle.smf.specs.Items.{item_at}
@@ -51,8 +49,8 @@ obeyed item c sum place = cond (is_bad item) (Fault 9 place) (cond (is_late c.di
 unfoldable pub meet_at : List ℕ → Cursor → Met
 meet_at b c =
     elim (quantity_at b (edge_of b c) c.at) [
-      | Bad ↦ Fault 9 c.at
-      | Good ticks place ↦ obeyed (item_at b (edge_of b c) c.running place) c (sum_after c ticks) place
+      | None ↦ Fault 9 c.at
+      | Some q ↦ obeyed (item_at b (edge_of b c) c.running q.behind) c (sum_after c q.value) q.behind
     ]
 
 -- a song: its channel events in the file's order, or the first fault with its number and place
@@ -82,7 +80,7 @@ over = record { at = 0; end = 0; running = 0; division = 0; tempo = 0; sum = 0 }
 
 -- no event is left
 abbrev pub nothing : Handed
-nothing = record { offer = Offer.End; cursor = over }
+nothing = record { event = None; cursor = over }
 
 -- the first channel event from a cursor on, over at most n events, and the cursor behind it
 unfoldable pub next_from : ℕ → List ℕ → Cursor → Handed
@@ -92,5 +90,5 @@ next_from (suc n) b c =
       | Fault number place ↦ nothing
       | End ↦ nothing
       | Passed further ↦ next_from n b further
-      | Given message further ↦ record { offer = Offer.Given (event_of message further); cursor = further }
+      | Given message further ↦ record { event = Some (event_of message further); cursor = further }
     ]

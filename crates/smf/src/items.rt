@@ -2,8 +2,8 @@
 ghost use Rattle.std.specs.Prelude.{◌≡◌, cond, ◌+◌, ◌≤◌};
 ghost use Rattle.smf.specs.Items.{is_channel, is_short, is_exclusive, short_at, long_at, spoken_at, exclusive_at, meta_of, meta_at, item_at};
 
+use crate::Item;
 use crate::quantities::{quantity_at, three_at};
-use crate::{Item, Quantity};
 
 // A status of a channel event.
 fn is_channel(status: u8) -> bool
@@ -82,17 +82,14 @@ fn spoken_at(b: &[u8], edge: u32, status: u8, at: u32) -> Item
 fn exclusive_at(b: &[u8], edge: u32, at: u32) -> Item
     ensures { result ≡ exclusive_at b.now edge at }
 {
-    let q = quantity_at(b, edge, at);
-    match q {
-        Quantity::Bad => Item::Bad,
-        Quantity::Good { value, behind } => {
-            if (edge as usize) < (behind as usize) + (value as usize) {
-                return Item::Bad;
-            }
-            Item::Passed {
-                behind: behind + value,
-            }
-        }
+    let Some(q) = quantity_at(b, edge, at) else {
+        return Item::Bad;
+    };
+    if (edge as usize) < (q.behind as usize) + (q.value as usize) {
+        return Item::Bad;
+    }
+    Item::Passed {
+        behind: q.behind + q.value,
     }
 }
 
@@ -125,19 +122,16 @@ fn meta_at(b: &[u8], edge: u32, at: u32) -> Item
         return Item::Bad;
     }
     let kind = arith::byte(b, at as usize);
-    let q = quantity_at(b, edge, at + 1);
-    match q {
-        Quantity::Bad => Item::Bad,
-        Quantity::Good { value, behind } => {
-            if 127 < kind {
-                return Item::Bad;
-            }
-            if (edge as usize) < (behind as usize) + (value as usize) {
-                return Item::Bad;
-            }
-            meta_of(b, kind, value, behind)
-        }
+    let Some(q) = quantity_at(b, edge, at + 1) else {
+        return Item::Bad;
+    };
+    if 127 < kind {
+        return Item::Bad;
     }
+    if (edge as usize) < (q.behind as usize) + (q.value as usize) {
+        return Item::Bad;
+    }
+    meta_of(b, kind, q.value, q.behind)
 }
 
 // The event at a place, by its first byte.

@@ -14,9 +14,9 @@ pub mod track;
 
 // A variable-length quantity and the place behind it.
 #[derive(Clone, Copy)]
-pub enum Quantity {
-    Bad,
-    Good { value: u32, behind: u32 },
+pub struct Quantity {
+    pub value: u32,
+    pub behind: u32,
 }
 
 // The head's first fault, or where the track's events begin and end.
@@ -101,17 +101,10 @@ pub struct Opening {
     pub cursor: Cursor,
 }
 
-// The next channel event, or none.
-#[derive(Clone, Copy)]
-pub enum Offer {
-    End,
-    Given { event: Event },
-}
-
-// What is handed out, and the cursor behind it.
+// The next channel event, or none, and the cursor behind it.
 #[derive(Clone, Copy)]
 pub struct Handed {
-    pub offer: Offer,
+    pub event: Option<Event>,
     pub cursor: Cursor,
 }
 

@@ -51,26 +51,24 @@ pub fn four_at(b: &[u8], at: usize) -> u32
 }
 
 // The quantity at a place, of at most four bytes in front of the edge.
-pub fn quantity_at(b: &[u8], edge: u32, at: u32) -> Quantity
+pub fn quantity_at(b: &[u8], edge: u32, at: u32) -> Option<Quantity>
     ensures { (result ≡ quantity_at b.now edge at) × (value_of result < 268435456) }
 {
     let mut value: u32 = 0;
     let mut p = at;
-    let mut n: u32 = 0;
-    while n < 4 {
+    for n in 0..4u32 {
         if edge <= p {
-            return Quantity::Bad;
+            return None;
         }
         let x = arith::byte(b, p as usize);
         if x < 128 {
-            return Quantity::Good {
+            return Some(Quantity {
                 value: value * 128 + (x as u32),
                 behind: p + 1,
-            };
+            });
         }
         value = value * 128 + ((x - 128) as u32);
-        p = p + 1;
-        n = n + 1;
+        p += 1;
     }
-    Quantity::Bad
+    None
 }

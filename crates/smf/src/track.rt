@@ -7,7 +7,7 @@ ghost use Rattle.smf.specs.Songs.{verdict, turns};
 use crate::items::item_at;
 use crate::quantities::quantity_at;
 use crate::ticks::{frame_of, is_late, sum_after};
-use crate::{Cursor, Event, Handed, Item, Message, Met, Offer, Quantity, Tested};
+use crate::{Cursor, Event, Handed, Item, Message, Met, Tested};
 
 // Where the track ends in the file that is lent.
 fn edge_of(b: &[u8], end: u32) -> u32
@@ -115,16 +115,14 @@ fn meet_at(b: &[u8], c: Cursor) -> Met
     ensures { result ≡ meet_at b.now c }
 {
     let edge = edge_of(b, c.end);
-    let q = quantity_at(b, edge, c.at);
-    match q {
-        Quantity::Bad => Met::Fault {
+    let Some(q) = quantity_at(b, edge, c.at) else {
+        return Met::Fault {
             number: 9,
             place: c.at,
-        },
-        Quantity::Good { value, behind } => {
-            obey(item_at(b, edge, c.running, behind), c, value, behind)
-        }
-    }
+        };
+    };
+    let item = item_at(b, edge, c.running, q.behind);
+    obey(item, c, q.value, q.behind)
 }
 
 // The test of the track from a cursor on.
@@ -175,7 +173,7 @@ fn no_event() -> Handed
     ensures { result ≡ nothing }
 {
     Handed {
-        offer: Offer::End,
+        event: None,
         cursor: no_cursor(),
     }
 }
@@ -196,9 +194,8 @@ pub fn next_from(b: &[u8], from: Cursor) -> Handed
             Met::End => return no_event(),
             Met::Passed { further } => c = further,
             Met::Given { message, further } => {
-                let event = event_of(message, further);
                 return Handed {
-                    offer: Offer::Given { event },
+                    event: Some(event_of(message, further)),
                     cursor: further,
                 };
             }

@@ -1,54 +1,52 @@
 // The lines of a file: its refusal, or its channel events and how many there are.
-use smf::{Cursor, Event, Offer};
+use cases::Text;
+use smf::{Cursor, Event};
 
 // A byte behind a space, in two hex digits.
-fn byte(text: &mut [u8; 65536], at: usize, b: u8) -> usize {
-    let to = cases::put(text, at, b' ');
-    cases::hex(text, to, b as u64, 2)
+fn byte(text: &mut Text, b: u8) {
+    text.put(b' ');
+    text.hex(u64::from(b), 2);
 }
 
 // A channel event: its frame and its bytes.
-fn event_line(text: &mut [u8; 65536], at: usize, e: Event) -> usize {
-    let mut to = cases::decimal(text, at, e.frame as u64);
-    to = byte(text, to, e.status);
-    to = byte(text, to, e.first);
+fn event_line(text: &mut Text, e: Event) {
+    text.decimal(u64::from(e.frame));
+    byte(text, e.status);
+    byte(text, e.first);
     if smf::size(e) == 3 {
-        to = byte(text, to, e.second);
+        byte(text, e.second);
     }
-    cases::put(text, to, b'\n')
+    text.put(b'\n');
 }
 
 // A file's last line: the number, and the place of its fault or how many events it has.
-fn last_line(text: &mut [u8; 65536], at: usize, number: u8, n: u64) -> usize {
-    let mut to = cases::decimal(text, at, number as u64);
-    to = cases::spaced(text, to, n);
-    cases::put(text, to, b'\n')
+fn last_line(text: &mut Text, number: u8, n: u64) {
+    text.decimal(u64::from(number));
+    text.spaced(n);
+    text.put(b'\n');
 }
 
-// All events of a good file. There are fewer than it has bytes, so that the reader ends before the loop does.
-fn events(file: &[u8], text: &mut [u8; 65536], at: usize, from: Cursor) -> usize {
+// All events of a good file, and how many there are. There are fewer than it has bytes, so that the reader ends before the loop does.
+fn events(file: &[u8], text: &mut Text, from: Cursor) -> usize {
     let mut c = from;
-    let mut to = at;
-    let mut count = 0;
-    while count < file.len() {
+    for count in 0..file.len() {
         let h = smf::next(file, c);
-        let offer = h.offer;
-        match offer {
-            Offer::End => return last_line(text, to, 0, count as u64),
-            Offer::Given { event } => to = event_line(text, to, event),
-        }
-        let further = h.cursor;
-        c = further;
-        count += 1;
+        let Some(event) = h.event else {
+            return count;
+        };
+        event_line(text, event);
+        c = h.cursor;
     }
-    last_line(text, to, 0, count as u64)
+    file.len()
 }
 
 // The lines of a file.
-pub fn song(file: &[u8], text: &mut [u8; 65536], at: usize) -> usize {
+pub fn song(file: &[u8], text: &mut Text) {
     let o = smf::open(file);
     if o.number != 0 {
-        return last_line(text, at, o.number, o.place as u64);
+        last_line(text, o.number, o.place as u64);
+    } else {
+        let count = events(file, text, o.cursor);
+        last_line(text, 0, count as u64);
     }
-    events(file, text, at, o.cursor)
 }

@@ -4,7 +4,8 @@
 
 #![tactic(auto)]
 
-use smf::{Cursor, Event, Offer};
+use cases::{Bad, Held, Input, Text};
+use smf::{Cursor, Event};
 
 // What the last round gave, and the sum of all of them.
 #[derive(Clone, Copy)]
@@ -16,40 +17,34 @@ pub struct Heard {
 
 // Three bytes as one number.
 fn bytes_of(status: u8, first: u8, second: u8) -> u32 {
-    (status as u32) + (first as u32) + (second as u32)
+    u32::from(status) + u32::from(first) + u32::from(second)
 }
 
 // The sum with one event more.
 fn with_event(sum: u32, e: Event) -> u32 {
-    let framed = std::num::wrapping_add_u32(sum, e.frame);
-    std::num::wrapping_add_u32(framed, bytes_of(e.status, e.first, e.second))
+    sum.wrapping_add(e.frame)
+        .wrapping_add(bytes_of(e.status, e.first, e.second))
 }
 
 // All events from a cursor on. There are fewer than the file has bytes, so that the reader ends before the loop does.
 fn events(file: &[u8], number: u8, from: Cursor, before: u32) -> Heard {
     let mut c = from;
-    let mut sum = before;
-    let mut count = 0;
-    while count < file.len() {
-        let h = smf::next(file, c);
-        let offer = h.offer;
-        match offer {
-            Offer::End => return Heard {
-                number,
-                count: count as u64,
-                sum,
-            },
-            Offer::Given { event } => sum = with_event(sum, event),
-        }
-        let further = h.cursor;
-        c = further;
-        count += 1;
-    }
-    Heard {
+    let mut heard = Heard {
         number,
-        count: count as u64,
-        sum,
+        count: 0,
+        sum: before,
+    };
+    for count in 0..file.len() {
+        heard.count = count as u64;
+        let h = smf::next(file, c);
+        let Some(event) = h.event else {
+            return heard;
+        };
+        heard.sum = with_event(heard.sum, event);
+        c = h.cursor;
     }
+    heard.count = file.len() as u64;
+    heard
 }
 
 // One round.
@@ -65,42 +60,31 @@ fn play(file: &[u8], rounds: u32) -> Heard {
         count: 0,
         sum: 0,
     };
-    let mut i: u32 = 0;
-    while i < rounds {
+    for _ in 0..rounds {
         heard = round(file, heard.sum);
-        i = i + 1;
     }
     heard
 }
 
-// The line.
-fn report(h: Heard) {
-    let mut text = io::large_buffer();
-    let mut at = cases::decimal(&mut text, 0, h.number as u64);
-    at = cases::spaced(&mut text, at, h.count);
-    at = cases::spaced(&mut text, at, h.sum as u64);
-    at = cases::put(&mut text, at, b'\n');
-    cases::flush(&text, at);
+// The line of the rounds that the input asks for. A file that is cut off or too long is bad.
+fn report(input: &mut Input, text: &mut Text) -> Result<(), Bad> {
+    let mut bytes = [0u8; 65536];
+    let mut file = Held::nothing(&mut bytes);
+    let rounds: u32 = input.next()?;
+    let length: u32 = input.next()?;
+    file.read(input, length)?;
+    let h = play(file.lent(), rounds);
+    text.decimal(u64::from(h.number));
+    text.spaced(h.count);
+    text.spaced(u64::from(h.sum));
+    text.put(b'\n');
+    Ok(())
 }
 
-// A file that is cut off or too long.
-fn refuse() {
-    let mut text = io::large_buffer();
-    let at = cases::bad(&mut text, 0);
-    cases::flush(&text, at);
-}
-
-// Rounds as the input asks.
 fn main() {
     let mut room = io::large_buffer();
-    let mut bytes = [0u8; 65536];
-    let rounds = cases::next_u32(&mut room, cases::start());
-    let length = cases::next_u32(&mut room, rounds.place);
-    let held = cases::next_bank(&mut room, length.place, &mut bytes, length.value);
-    if held.place.cut {
-        refuse();
-    } else {
-        let heard = play(cases::first_bytes(&bytes, held.count), rounds.value);
-        report(heard);
-    }
+    let mut input = Input::start(&mut room);
+    let mut text = Text::begin();
+    let reported = report(&mut input, &mut text);
+    text.finish(reported);
 }

@@ -4,7 +4,7 @@ ghost use Rattle.state.specs.Board.{ask, voice_count};
 
 use crate::Engine;
 use crate::slots::slot_of;
-use curves::gains;
+use curves::GainTable;
 use voice::{Shown, show};
 
 // What the panel is told of a slot; past 31 it is refused.
@@ -14,7 +14,7 @@ pub fn panel(e: Engine, slot: u8) -> Shown
     if 31 < slot {
         return Shown::Refused;
     }
-    let g = gains();
+    let g = GainTable::new();
     show(slot_of(e, slot as usize), &g)
 }
 

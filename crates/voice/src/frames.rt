@@ -1,8 +1,6 @@
 // One frame of a slot, and n frames of it.
 ghost use Rattle.std.specs.Prelude.{◌≡◌, ◌+◌, ◌*◌, ◌<◌, ◌≤◌, length, true, false};
 ghost use Rattle.arith.specs.Within.{Within};
-ghost use Rattle.curves.specs.Levels.{gains};
-ghost use Rattle.curves.specs.Octave.{octaves};
 ghost use Rattle.voice.specs.Frames.{after, silent, frame_at};
 ghost use Rattle.voice.specs.Internal.Frames.{heard, after_at, heard_at};
 ghost use Rattle.voice.specs.Changes.{with_moved, sounds};
@@ -22,7 +20,7 @@ use crate::wait::wait;
 use crate::way::way_of;
 use crate::{Channel, Framed, Slot, Stage, Voice, with_moved};
 use arith::least;
-use curves::{GainTable, OctaveTable, gain};
+use curves::{GainTable, OctaveTable};
 
 // A slot that adds nothing.
 fn silent_at(s: Slot) -> Framed
@@ -37,7 +35,7 @@ fn silent_at(s: Slot) -> Framed
 
 // One frame of a slot whose step is st and whose loss is l.
 pub fn frame_at(st: u32, l: i64, g: &GainTable, w: &[i16], s: Slot) -> Framed
-    requires { (g.now ≡ gains) × Within l 1099511627776 }
+    requires { Within l 1099511627776 }
     ensures { (result ≡ frame_at st l w.now s) × Within result.left loudest × Within result.right loudest }
 {
     if !s.sounding {
@@ -96,7 +94,6 @@ fn ahead(v: Voice, s: Stage, limit: u64, most: usize) -> usize
 
 // One frame of a slot, into frame k of the sums.
 fn one(st: u32, l: i64, g: &GainTable, w: &[i16], s: Slot, acc: &mut [i32], k: usize) -> Went
-    requires tables { g.now ≡ gains }
     requires loss { Within l 1099511627776 }
     requires sums { (2 * k + 1 < length acc.old) × From (2 * k) acc.old }
     ensures count { result.frames ≡ 1 }
@@ -132,7 +129,6 @@ fn onward(
     k: usize,
     most: usize,
 ) -> Reached
-    requires tables { g.now ≡ gains }
     requires loss { Within l 1099511627776 }
     requires enters { entered v v.stage ≡ s }
     requires sums { (2 * (k + most) ≤ length acc.old) × From (2 * k) acc.old }
@@ -149,7 +145,7 @@ fn onward(
         return ring(v, s, l, g, sides, way, w, acc, k, few(v, s, st, most));
     }
     let a = total_of(l, envelope_of(v, s));
-    glide(st, gain(g, a), sides, limit, w, v.place, acc, k, count)
+    glide(st, g.gain(a), sides, limit, w, v.place, acc, k, count)
 }
 
 // The next frames of a slot that sounds, one or more, into frame k of the sums and those behind it.
@@ -163,7 +159,6 @@ fn go(
     k: usize,
     most: usize,
 ) -> Went
-    requires tables { g.now ≡ gains }
     requires loss { Within l 1099511627776 }
     requires sounding { s.sounding ≡ true }
     requires sums { (0 < most) × (2 * (k + most) ≤ length acc.old) × From (2 * k) acc.old }
@@ -209,7 +204,6 @@ pub fn run_at(
     acc: &mut [i32],
     n: usize,
 ) -> Slot
-    requires tables { g.now ≡ gains }
     requires loss { Within l 1099511627776 }
     requires sums { (2 * n ≤ length acc.old) × Small 31 acc.old }
     ensures { (result ≡ after_at st l w.now n s0) × (acc.new ≡ add_to (heard_at st l w.now n s0) acc.old) × Small 1 (heard_at st l w.now n s0) }
@@ -238,7 +232,6 @@ pub fn run(
     acc: &mut [i32],
     n: usize,
 ) -> Slot
-    requires tables { (g.now ≡ gains) × (o.now ≡ octaves) }
     requires sums { (2 * n ≤ length acc.old) × Small 31 acc.old }
     ensures { (result ≡ after c w.now n s) × (acc.new ≡ add_to (heard c w.now n s) acc.old) × Small 1 (heard c w.now n s) }
 {

@@ -1,6 +1,5 @@
 // The step, the move by it, and the fold or the end.
 ghost use Rattle.std.specs.Prelude.{◌≡◌, ◌+ℤ◌, ◌+◌, ◌<◌};
-ghost use Rattle.curves.specs.Octave.{octaves};
 ghost use Rattle.curves.specs.Pitch.{bend_cents, pitch_held};
 ghost use Rattle.curves.specs.Internal.Pitch.{step_at};
 ghost use Rattle.voice.specs.Motion.{folds, fold, span};
@@ -29,11 +28,10 @@ fn tuned(pitch: i32, bend: u16) -> i32
 
 // The voice's step at a bend.
 pub fn step_of(v: Voice, bend: u16, o: &OctaveTable) -> u32
-    requires { o.now ≡ octaves }
     ensures { result ≡ step_at (v.pitch +ℤ bend_cents bend) v.rate }
 {
     let cents = tuned(v.pitch, bend);
-    curves::step(o, cents, v.rate)
+    o.step(cents, v.rate)
 }
 
 // Whether a voice folds in a stage.

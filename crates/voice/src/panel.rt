@@ -2,11 +2,11 @@
 ghost use Rattle.std.specs.Prelude.{◌≡◌, ◌≤◌, pos};
 ghost use Rattle.arith.specs.Floats.{Over};
 ghost use Rattle.voice.specs.Panel.{level_of, stage_shown, shown};
-ghost use Rattle.curves.specs.Levels.{gains, gain_of};
+ghost use Rattle.curves.specs.Levels.{gain_of};
 
 use crate::stages::{decay_at, level_at, release_at, wide};
 use crate::{Shown, Slot, Stage, Voice};
-use curves::{GainTable, gain};
+use curves::GainTable;
 
 // n / 2^24, exactly.
 fn level_unit(n: u32) -> f32
@@ -18,7 +18,6 @@ fn level_unit(n: u32) -> f32
 
 // A stage, with its level or its envelope's gain as a fraction of full.
 fn show_stage(v: Voice, s: Stage, g: &GainTable) -> Shown
-    requires { g.now ≡ gains }
     ensures { result ≡ stage_shown v s }
 {
     match s {
@@ -41,15 +40,13 @@ fn show_stage(v: Voice, s: Stage, g: &GainTable) -> Shown
 
 // The gain of a cB, as a fraction of full.
 fn gain_unit(g: &GainTable, a: u64) -> f32
-    requires { g.now ≡ gains }
     ensures { result ≡ level_of (gain_of a) }
 {
-    level_unit(gain(g, a))
+    level_unit(g.gain(a))
 }
 
 // What the panel is told of a slot.
 pub fn show(s: Slot, g: &GainTable) -> Shown
-    requires { g.now ≡ gains }
     ensures { result ≡ shown s }
 {
     if !s.sounding {

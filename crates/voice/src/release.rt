@@ -1,21 +1,19 @@
 // The release.
 ghost use Rattle.std.specs.Prelude.{◌≡◌};
-ghost use Rattle.curves.specs.Levels.{gains};
 ghost use Rattle.voice.specs.Release.{let_go, release};
 
 use crate::stages::{decay_at, level_at};
 use crate::{Stage, Voice, with_moved};
-use curves::{GainTable, least_cb};
+use curves::GainTable;
 
 // The stage at release.
 fn let_go(v: Voice, s: Stage, g: &GainTable) -> Stage
-    requires { g.now ≡ gains }
     ensures { result ≡ let_go v s }
 {
     match s {
         Stage::Delay { left: _ } => Stage::Release { from: 1000, t: 0 },
         Stage::Attack { t } => Stage::Release {
-            from: least_cb(g, level_at(v.attack, t)),
+            from: g.least_cb(level_at(v.attack, t)),
             t: 0,
         },
         Stage::Hold { t: _ } => Stage::Release { from: 0, t: 0 },
@@ -33,7 +31,6 @@ fn let_go(v: Voice, s: Stage, g: &GainTable) -> Stage
 
 // The voice released, its mark taken away.
 pub fn let_off(v: Voice, g: &GainTable) -> Voice
-    requires { g.now ≡ gains }
     ensures { result ≡ release v }
 {
     let s = v.stage;

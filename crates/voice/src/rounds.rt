@@ -1,7 +1,7 @@
 // Rounds: frames of one stage, whatever its gain and level do and wherever its place goes, in one loop.
 ghost use Rattle.std.specs.Prelude.{◌≡◌, ◌||◌, ℕ, ◌+◌, ◌*◌, ◌<◌, ◌≤◌, leb, length};
 ghost use Rattle.arith.specs.Within.{Within};
-ghost use Rattle.curves.specs.Levels.{gains, gain_of};
+ghost use Rattle.curves.specs.Levels.{gain_of};
 ghost use Rattle.voice.specs.Sound.{whole_loss};
 ghost use Rattle.voice.specs.Stages.{spent_by};
 ghost use Rattle.voice.specs.Internal.Pace.{value_in, stop_in, level_in};
@@ -17,11 +17,10 @@ use crate::sound::{at_level, scaled_by, total_of};
 use crate::stretch::{Reached, add_pair};
 use crate::way::{Way, next_place};
 use crate::{Stage, Voice};
-use curves::{GainTable, gain};
+use curves::GainTable;
 
 // The gain at cB e, where it is known at cB last.
 fn regain(l: i64, g: &GainTable, known: u32, last: u64, e: u64) -> u32
-    requires tables { g.now ≡ gains }
     requires loss { Within l 1099511627776 × (e < 8796093022208) }
     requires known { (known ≡ gain_of (whole_loss l last)) × (known ≤ 16777216) }
     ensures { (result ≡ gain_of (whole_loss l e)) × (result ≤ 16777216) }
@@ -29,7 +28,7 @@ fn regain(l: i64, g: &GainTable, known: u32, last: u64, e: u64) -> u32
     if e == last {
         return known;
     }
-    gain(g, total_of(l, e))
+    g.gain(total_of(l, e))
 }
 
 // The reading at a place, at a gain and at the level of a value.
@@ -67,7 +66,6 @@ pub fn ring(
     k: usize,
     most: usize,
 ) -> Reached
-    requires tables { g.now ≡ gains }
     requires loss { Within l 1099511627776 }
     requires sides { (sides.left ≤ 274877906944) × (sides.right ≤ 274877906944) }
     requires way { (y.limit ≤ 72057594037927936) × (y.step < 72057594037927936) × (y.back ≤ y.end) }
@@ -81,7 +79,7 @@ pub fn ring(
     let mut p = v.place;
     let mut c = pace_of(v, s);
     let mut cb: u64 = 0;
-    let mut known = gain(g, total_of(l, 0));
+    let mut known = g.gain(total_of(l, 0));
     let mut m: usize = 0;
     while m < most {
         if is_over(y.limit, p, stop, c.value) {

@@ -2,7 +2,7 @@
 ghost use Rattle.std.specs.Prelude.{◌≡◌, ◌≤◌, ◌<◌, pos, ◌+ℤ◌, ◌*ℤ◌};
 ghost use Rattle.arith.specs.Within.{Within};
 ghost use Rattle.arith.specs.Floors.{floor_z};
-ghost use Rattle.curves.specs.Levels.{gains, cb_of};
+ghost use Rattle.curves.specs.Levels.{cb_of};
 ghost use Rattle.voice.specs.Sound.{whole_loss, shaped};
 ghost use Rattle.voice.specs.Frames.{loud};
 
@@ -10,7 +10,7 @@ use crate::motion::is_folding;
 use crate::reading::read;
 use crate::stages::{envelope_of, level_at};
 use crate::{Stage, Voice};
-use curves::{GainTable, cb_of, gain};
+use curves::{GainTable, cb_of};
 
 // A signed attenuation and two more, in cB.
 fn added(a: i32, x: u16, y: u16) -> i64
@@ -70,12 +70,12 @@ fn shape(v: Voice, s: Stage, u: i64) -> i64
 
 // The reading at its gain, and in attack at its level.
 pub fn loud_of(l: i64, g: &GainTable, w: &[i16], v: Voice, s: Stage) -> i64
-    requires { (g.now ≡ gains) × Within l 1099511627776 }
+    requires { Within l 1099511627776 }
     ensures { (result ≡ loud l w.now v s) × Within result 8388610 }
 {
     let f = is_folding(v, s);
     let x = read(f, v.loopfrom, v.loopto, w, v.place);
     let a = total_of(l, envelope_of(v, s));
-    let u = scaled_by(x, gain(g, a));
+    let u = scaled_by(x, g.gain(a));
     shape(v, s, u)
 }

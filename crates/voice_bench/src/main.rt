@@ -3,8 +3,6 @@
 #![tactic(auto)]
 
 ghost use Rattle.std.specs.Prelude.{◌≡◌, ◌<◌, ◌≤◌, length};
-ghost use Rattle.curves.specs.Levels.{gains};
-ghost use Rattle.curves.specs.Octave.{octaves};
 ghost use Rattle.voice.specs.Internal.Sums.{Small};
 
 use curves::{GainTable, OctaveTable};
@@ -39,9 +37,9 @@ fn length_of(i: u8) -> u32
     ensures { result ≤ 30000 }
 {
     if 23 < i {
-        return 40 + (i as u32);
+        return 40 + u32::from(i);
     }
-    3000 + 100 * (i as u32)
+    3000 + 100 * u32::from(i)
 }
 
 // The pitch by the voice's number.
@@ -66,7 +64,7 @@ fn pan_of(i: u8) -> i16 {
 
 // Voice i of round r.
 fn struck(i: u8, r: u64) -> Slot {
-    let from = 10 * (i as u32);
+    let from = 10 * u32::from(i);
     let length = length_of(i);
     Slot {
         sounding: true,
@@ -101,7 +99,7 @@ fn struck(i: u8, r: u64) -> Slot {
 fn sample_of(x: u32) -> i16
     requires { x < 20000 }
 {
-    (x as i32 - 10000) as i16
+    (x as i16) - 10000
 }
 
 // 65,536 samples of noise.
@@ -110,11 +108,9 @@ fn samples() -> [i16; 65536]
 {
     let mut w = [0i16; 65536];
     let mut x: u32 = 1;
-    let mut i: usize = 0;
-    while i < 65536 {
+    for s in &mut w {
         x = (x * 25173 + 13849) % 65536;
-        w[i] = sample_of(x % 20000);
-        i = i + 1;
+        *s = sample_of(x % 20000);
     }
     w
 }
@@ -123,10 +119,7 @@ fn samples() -> [i16; 65536]
 fn lift(x: i32) -> u64
     ensures { result ≤ 4294967296 }
 {
-    if x < -1000000000 {
-        return 0;
-    }
-    (x as i64 + 1000000000) as u64
+    (i64::from(x) + 1000000000).max(0).cast_unsigned()
 }
 
 // All sums, each times its number.
@@ -134,18 +127,15 @@ fn weigh(acc: &[i32]) -> u64
     requires { 8192 ≤ length acc.now }
 {
     let mut h: u64 = 0;
-    let mut k: usize = 0;
-    while k < 8192 {
-        let x = acc[k];
-        h = std::num::wrapping_add_u64(h, lift(x) * (k as u64 + 1));
-        k = k + 1;
+    for k in 0..8192 {
+        h = h.wrapping_add(lift(acc[k]) * (k as u64 + 1));
     }
     h
 }
 
 // One round into the sums.
 fn round(g: &GainTable, o: &OctaveTable, w: &[i16], acc: &mut [i32], r: u64) -> u64
-    requires { (g.now ≡ gains) × (o.now ≡ octaves) × (8192 ≤ length acc.old) × Small 0 acc.old }
+    requires { (8192 ≤ length acc.old) × Small 0 acc.old }
 {
     let c = Channel {
         program: 0,
@@ -157,34 +147,27 @@ fn round(g: &GainTable, o: &OctaveTable, w: &[i16], acc: &mut [i32], r: u64) -> 
         pedal: 0,
     };
     let mut h: u64 = 0;
-    let mut i: u8 = 0;
-    while i < 32 {
-        let s = struck(i, r);
-        let t = voice::run(c, g, o, w, s, acc, 4096);
-        h = std::num::wrapping_add_u64(h, t.voice.place);
-        i = i + 1;
+    for i in 0..32 {
+        let t = voice::run(c, g, o, w, struck(i, r), acc, 4096);
+        h = h.wrapping_add(t.voice.place);
     }
-    std::num::wrapping_add_u64(h, weigh(acc))
+    h.wrapping_add(weigh(acc))
 }
 
 // One round, from sums of zeros.
-fn one(g: &GainTable, o: &OctaveTable, w: &[i16], r: u64) -> u64
-    requires { (g.now ≡ gains) × (o.now ≡ octaves) }
-{
+fn one(g: &GainTable, o: &OctaveTable, w: &[i16], r: u64) -> u64 {
     let mut acc = [0i32; 8192];
     round(g, o, w, &mut acc, r)
 }
 
 // All rounds, each with its number.
 fn play(rounds: u64) -> u64 {
-    let g = curves::gains();
-    let o = curves::octaves();
+    let g = curves::GainTable::new();
+    let o = curves::OctaveTable::new();
     let w = samples();
     let mut h: u64 = 0;
-    let mut r: u64 = 0;
-    while r < rounds {
-        h = std::num::wrapping_add_u64(h, one(&g, &o, &w, r));
-        r = r + 1;
+    for r in 0..rounds {
+        h = h.wrapping_add(one(&g, &o, &w, r));
     }
     h
 }
@@ -193,6 +176,6 @@ fn play(rounds: u64) -> u64 {
 fn main() {
     let mut input = io::large_buffer();
     let n = io::read_full(0, &mut input);
-    let shown = io::print_hex(1, play(n as u64), 16);
-    let ended = io::write_all(1, b"\n");
+    io::print_hex(1, play(n as u64), 16);
+    io::write_all(1, b"\n");
 }

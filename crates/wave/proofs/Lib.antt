@@ -6,6 +6,7 @@ pub mod PlaybackLaws
 pub mod FractionsLaws
 pub mod RefusalsLaws
 pub mod StreamsLaws
+pub mod ToldLaws
 pub mod ReturnedLaws
 pub mod SizesLaws
 pub mod LoweringLaws

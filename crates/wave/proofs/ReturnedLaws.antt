@@ -21,7 +21,7 @@ use mir.Val.{to_z}
 use Rattle.arith.specs.Floats.{is_neg}
 use Rattle.arith.specs.Floors.{mod_z}
 use Rattle.arith.specs.Lists.{any_of}
-use Rattle.wave.specs.declared.Heard.{Heard}
+use Rattle.wave.specs.Answers.{Heard}
 use Rattle.wave.specs.Pcm.{is_output, k_of, pcm_of_k, pcm_of, number_of}
 use Rattle.wave.specs.Headings.{heading_of, in_two, in_four, most_frames}
 use Rattle.wave.specs.Pours.{is_other, is_broken, poured_of}

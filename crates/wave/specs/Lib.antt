@@ -1,5 +1,6 @@
 pub mod Pcm
 pub mod Headings
+pub mod Answers
 pub mod Pours
 pub mod Recording
 pub mod Playback

@@ -4,7 +4,7 @@ use Rattle.std.specs.Int.Signed.{lt_z}
 use Rattle.arith.specs.Floors.{floor_z, mod_z}
 use Rattle.arith.specs.Holds.{held_to}
 use Rattle.curves.specs.Levels.{gain_of, least_cb}
-use Rattle.wave.specs.declared.Poured.{Poured}
+use Rattle.wave.specs.Answers.{SumsTold}
 use Rattle.wave.specs.Headings.{in_two}
 use Rattle.wave.specs.Pcm.{pcm_of_k}
 
@@ -41,7 +41,7 @@ unfoldable pub sums_number : List ℤ → ℕ → ℕ
 sums_number zs room = cond (eqb (length zs % 2) 1) 13 (cond (ltb room (2 * length zs)) 15 0)
 
 -- the answer: the number, the frames that are held (4,294,967,295 where there are more) and the loudest sum; refused, both are 0
-unfoldable pub sums_poured : ℕ → List ℤ → ℕ → Poured
+unfoldable pub sums_poured : ℕ → List ℤ → ℕ → SumsTold
 sums_poured a zs room =
     cond (eqb (sums_number zs room) 0)
     (record { number = 0; held = min (frames_past (gain_of a) zs) 4294967295; loudest = loudest_of zs })

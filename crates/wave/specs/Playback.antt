@@ -2,7 +2,7 @@
 use Rattle.std.specs.Prelude.{Bool, true, false, cond, ◌&&◌, List, [], ◌∷◌, ◌++◌, ℕ, ◌+◌, ◌-◌, ◌*◌, ◌/◌, eqb, leb, ltb, ℤ, length, take, drop}
 use Rattle.std.specs.Int.{w16}
 use Rattle.std.proofs.Common.{to_z}
-use Rattle.wave.specs.declared.Heard.{Heard}
+use Rattle.wave.specs.Answers.{Heard}
 use Rattle.wave.specs.Headings.{heading_of, most_frames}
 
 -- two runs of bytes are the same

@@ -1,6 +1,9 @@
 // The heading of a PCM file.
 ghost use Rattle.std.specs.Prelude.{◌++◌, ◌≡◌, length, drop, ◌≤◌, ◌/◌, ◌%◌};
+ghost use Rattle.wave.specs.Answers.{told_number};
 ghost use Rattle.wave.specs.Headings.{heading_of, heading_number, headed};
+
+use crate::Refusal;
 
 // The byte of a number that counts in units of `worth`: 1, 256, 65,536 or 16,777,216.
 fn byte(n: u64, worth: u64) -> u8
@@ -79,17 +82,17 @@ pub fn put(head: &[u8], out: &mut [u8])
 }
 
 // The heading for so many frames.
-pub fn heading(frames: u64, out: &mut [u8]) -> u8
-    ensures value { result ≡ heading_number frames (length out.old) }
+pub fn heading(frames: u64, out: &mut [u8]) -> Result<(), Refusal>
+    ensures value { told_number result ≡ heading_number frames (length out.old) }
     ensures output { out.new ≡ headed frames out.old }
 {
     if 1073741814 < frames {
-        return 14;
+        return Err(Refusal::TooLong);
     }
     if out.len() < 44 {
-        return 15;
+        return Err(Refusal::NoRoom);
     }
     let head = bytes(frames);
     put(&head, out);
-    0
+    Ok(())
 }

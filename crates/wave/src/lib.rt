@@ -3,6 +3,7 @@
 
 #![tactic(auto)]
 
+mod answers;
 mod headings;
 mod lowering;
 mod pcm;
@@ -10,24 +11,9 @@ mod playback;
 mod pours;
 mod recording;
 
+pub use answers::{Poured, Refusal};
 pub use headings::heading;
 pub use lowering::{attenuation_for, pour_sums};
 pub use playback::read;
 pub use pours::pour;
 pub use recording::write;
-
-// 02's number, 0 where the file is read, and its frames; 0 where it is refused.
-#[derive(Clone, Copy)]
-pub struct Heard {
-    pub number: u8,
-    pub frames: u32,
-}
-
-// 02's number, 0 where the sums are poured; the frames that were held, or 4,294,967,295 where there are more; and the
-// largest size of a sum before it was lowered. Where it is refused, the last two are 0.
-#[derive(Clone, Copy)]
-pub struct Poured {
-    pub number: u8,
-    pub held: u32,
-    pub loudest: u32,
-}

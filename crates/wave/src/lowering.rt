@@ -2,9 +2,10 @@
 ghost use Rattle.std.specs.Prelude.{cond, ◌||◌, ◌++◌, ◌≡◌, pos, negsuc, nat_abs, length, drop, ◌≤◌, ◌*◌, ◌%◌, max};
 ghost use Rattle.arith.specs.Holds.{held_to};
 ghost use Rattle.arith.specs.Within.{Within};
+ghost use Rattle.wave.specs.Answers.{told_sums};
 ghost use Rattle.wave.specs.Lowering.{attenuation_for, frames_past, is_past, loudest_of, lowered_by, poured_sums, sum_word, sums_into, sums_poured};
 
-use crate::{Poured, pcm};
+use crate::{Poured, Refusal, pcm};
 
 // A sum times a gain of 2^-24, rounded down.
 fn lower(z: i32, g: u32) -> i64
@@ -108,38 +109,26 @@ fn fill(sums: &[i32], g: u32, out: &mut [u8])
     }
 }
 
-// A refusal: no frame is held, and no sum is heard.
-fn refuse(number: u8) -> Poured
-    ensures { result ≡ record { number = number; held = 0; loudest = 0 } }
-{
-    Poured {
-        number,
-        held: 0,
-        loudest: 0,
-    }
-}
-
 // A run of sums as bytes at a lower level, for a host that streams.
-pub fn pour_sums(sums: &[i32], attenuation: u16, out: &mut [u8]) -> Poured
-    ensures value { result ≡ sums_poured attenuation sums.now (length out.old) }
+pub fn pour_sums(sums: &[i32], attenuation: u16, out: &mut [u8]) -> Result<Poured, Refusal>
+    ensures value { told_sums result ≡ sums_poured attenuation sums.now (length out.old) }
     ensures output { out.new ≡ sums_into attenuation sums.now out.old }
 {
     if sums.len() % 2 == 1 {
-        return refuse(13);
+        return Err(Refusal::NotOutput);
     }
     if out.len() / 2 < sums.len() {
-        return refuse(15);
+        return Err(Refusal::NoRoom);
     }
-    let table = curves::gains();
-    let g = curves::gain(&table, attenuation as u64);
+    let table = curves::GainTable::new();
+    let g = table.gain(attenuation as u64);
     fill(sums, g, out);
     // a slice may have more frames than 32 bits can count
     let held = arith::least(frames_past(sums, g), 4294967295) as u32;
-    Poured {
-        number: 0,
+    Ok(Poured {
         held,
         loudest: loudest_of(sums),
-    }
+    })
 }
 
 // The least attenuation, in cB, with which no sum of at most this size is held.
@@ -149,6 +138,6 @@ pub fn attenuation_for(loudest: u32) -> u16
     if loudest <= 8388608 {
         return 0;
     }
-    let table = curves::gains();
-    curves::least_cb(&table, (140737488355328 / (loudest as u64)) as u32)
+    let table = curves::GainTable::new();
+    table.least_cb((140737488355328 / (loudest as u64)) as u32)
 }

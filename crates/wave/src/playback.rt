@@ -1,8 +1,9 @@
 // The reader of such files.
 ghost use Rattle.std.specs.Prelude.{◌++◌, ◌≡◌, T, length, take, drop, ◌≤◌, ◌*◌};
+ghost use Rattle.wave.specs.Answers.{told_heard};
 ghost use Rattle.wave.specs.Playback.{frames_in, heard_of, is_recording, pcms_in, replayed, same_bytes};
 
-use crate::{Heard, headings};
+use crate::{Refusal, headings};
 
 // Whether a file begins with these 44 bytes.
 fn begins(file: &[u8], head: &[u8]) -> bool
@@ -53,26 +54,17 @@ fn fill(file: &[u8], out: &mut [i16])
 }
 
 // A file's frames, and its numbers in the output.
-pub fn read(file: &[u8], out: &mut [i16]) -> Heard
-    ensures value { result ≡ heard_of file.now (length out.old) }
+pub fn read(file: &[u8], out: &mut [i16]) -> Result<u32, Refusal>
+    ensures value { told_heard result ≡ heard_of file.now (length out.old) }
     ensures output { out.new ≡ replayed file.now out.old }
 {
     if !is_recording(file) {
-        return Heard {
-            number: 28,
-            frames: 0,
-        };
+        return Err(Refusal::NotRecording);
     }
     let frames = (file.len() - 44) / 4;
     if out.len() < 2 * frames {
-        return Heard {
-            number: 15,
-            frames: 0,
-        };
+        return Err(Refusal::NoRoom);
     }
     fill(file, out);
-    Heard {
-        number: 0,
-        frames: frames as u32,
-    }
+    Ok(frames as u32)
 }

@@ -1,9 +1,10 @@
 // Output numbers poured as bytes, two for each.
 ghost use Rattle.std.specs.Prelude.{false, ◌++◌, ◌≡◌, length, take, drop, ◌≤◌, ◌*◌, ◌+◌};
 ghost use Rattle.arith.specs.Lists.{any_of};
+ghost use Rattle.wave.specs.Answers.{told_number};
 ghost use Rattle.wave.specs.Pours.{is_broken, is_other, poured_of, pour_number, poured_into};
 
-use crate::pcm;
+use crate::{Refusal, pcm};
 
 // Whether one of the numbers is no output number.
 fn has_other(numbers: &[f32]) -> bool
@@ -45,16 +46,16 @@ pub fn fill(numbers: &[f32], out: &mut [u8], from: usize)
 }
 
 // A run of numbers as bytes, for a host that streams.
-pub fn pour(numbers: &[f32], out: &mut [u8]) -> u8
-    ensures value { result ≡ pour_number numbers.now (length out.old) }
+pub fn pour(numbers: &[f32], out: &mut [u8]) -> Result<(), Refusal>
+    ensures value { told_number result ≡ pour_number numbers.now (length out.old) }
     ensures output { out.new ≡ poured_into numbers.now out.old }
 {
     if is_broken(numbers) {
-        return 13;
+        return Err(Refusal::NotOutput);
     }
     if out.len() / 2 < numbers.len() {
-        return 15;
+        return Err(Refusal::NoRoom);
     }
     fill(numbers, out, 0);
-    0
+    Ok(())
 }

@@ -1,65 +1,34 @@
 // W: a file of numbers.
-use crate::input;
-use cases::{Line, Place};
+use cases::{Bad, Held, Input, Text};
 
 // The file is written into the output that is lent, and the line has the hash of all of that.
-fn line(numbers: &[f32], out: &mut [u8], text: &mut [u8; 65536], at: usize) -> usize {
-    let number = wave::write(numbers, out);
-    let mut to = cases::called(text, at, b'W', number);
-    to = cases::hashed(text, to, cases::fnv_bytes(out));
-    cases::put(text, to, b'\n')
+fn line(numbers: &[f32], out: &mut [u8], text: &mut Text) {
+    let number = match wave::write(numbers, out) {
+        Ok(()) => 0,
+        Err(refusal) => refusal.number(),
+    };
+    text.called(b'W', number);
+    text.hashed(cases::fnv(out));
+    text.put(b'\n');
 }
 
-// An output of so many bytes, which hold a5 (hex) before.
-fn into_output(
-    numbers: &[f32],
-    text: &mut [u8; 65536],
-    from: Place,
-    at: usize,
-    length: u32,
-) -> Line {
-    if 66000 < length {
-        return Line {
-            place: cases::spoilt(from),
-            at,
-        };
-    }
+// An output of so many bytes, which hold a5 (hex) before. More than there is room for are bad.
+fn into_output(numbers: &[f32], text: &mut Text, length: u32) -> Result<(), Bad> {
     let mut out = [165u8; 66000];
     let n = length as usize;
-    Line {
-        place: from,
-        at: line(numbers, &mut out[..n], text, at),
+    if out.len() < n {
+        return Err(Bad);
     }
-}
-
-// As many numbers as are lent, and the output's length behind them.
-fn with_numbers(
-    numbers: &mut [f32],
-    room: &mut [u8],
-    text: &mut [u8; 65536],
-    from: Place,
-    at: usize,
-) -> Line {
-    let behind = input::next_numbers(room, from, numbers);
-    let length = cases::next_u32(room, behind);
-    let place = length.place;
-    if place.cut {
-        return Line { place, at };
-    }
-    into_output(numbers, text, place, at, length.value)
+    line(numbers, &mut out[..n], text);
+    Ok(())
 }
 
 // The command behind its letter.
-pub fn write(room: &mut [u8], text: &mut [u8; 65536], from: Place, at: usize) -> Line {
-    let count = cases::next_u32(room, from);
-    let place = count.place;
-    if 8448 < count.value {
-        return Line {
-            place: cases::spoilt(place),
-            at,
-        };
-    }
-    let mut numbers = [0f32; 8448];
-    let n = count.value as usize;
-    with_numbers(&mut numbers[..n], room, text, place, at)
+pub fn write(input: &mut Input, text: &mut Text) -> Result<(), Bad> {
+    let mut room = [0f32; 8448];
+    let mut numbers = Held::nothing(&mut room);
+    let count: u32 = input.next()?;
+    numbers.read(input, count)?;
+    let length: u32 = input.next()?;
+    into_output(numbers.lent(), text, length)
 }

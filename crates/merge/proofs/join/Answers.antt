@@ -17,24 +17,24 @@ use Rattle.merge.specs.Internal.Order.{tally_start, tally_of}
 use Rattle.merge.proofs.MergingLaws.{all-late, all-size, tally-held, file-length, laid-file, joined-late, joined-flaw, joined-good, fitted-long, fitted-in}
 use Rattle.merge.proofs.join.Goals as goal
 
-pub returns-in-At : goal.returns-in-At
-returns-in-At c = let sequence : List Entry = sequence_of c.args.count c.args.file.now c.args.at in
+pub returns-in-Some : goal.returns-in-Some
+returns-in-Some c = let sequence : List Entry = sequence_of c.args.count c.args.file.now c.args.at in
     let same-sequence : lane_sequence c.args.file.now c.lanes-l.result ≡ sequence = ap (λ (es : List Entry). in_order (entries_of c.args.file.now es)) c.lanes-l.ensures.result_value in
     let tally-is : c.tally-t.result ≡ tally_of tally_start sequence (3600000000 * c.args.division) = c.tally-t.ensures ∙ ap (λ (es : List Entry). tally_of tally_start es (3600000000 * c.args.division)) same-sequence in
     let late_is : c.tally-t.result.hour.late ≡ late_of c.args.division sequence = ap (λ (t : Tally). t.hour.late) tally-is ∙ all-late sequence c.args.division in
     let a = c.args in
-    let e = joined-late a.file.now a.count a.division a.at (room_of a.out.now) _ (sym (late_is) ∙ c.in-At.is) in
+    let e = joined-late a.file.now a.count a.division a.at (room_of a.out.now) _ (sym (late_is) ∙ c.in-Some.is) in
     rw e (record { value = c.refused.ensures; output = refl })
 
-pub returns-in-At-flaw : goal.returns-in-At-flaw
-returns-in-At-flaw c = let sequence : List Entry = sequence_of c.args.count c.args.file.now c.args.at in
+pub returns-in-Some-flaw : goal.returns-in-Some-flaw
+returns-in-Some-flaw c = let sequence : List Entry = sequence_of c.args.count c.args.file.now c.args.at in
     let same-sequence : lane_sequence c.args.file.now c.lanes-l.result ≡ sequence = ap (λ (es : List Entry). in_order (entries_of c.args.file.now es)) c.lanes-l.ensures.result_value in
     let tally-is : c.tally-t.result ≡ tally_of tally_start sequence (3600000000 * c.args.division) = c.tally-t.ensures ∙ ap (λ (es : List Entry). tally_of tally_start es (3600000000 * c.args.division)) same-sequence in
     let late_is : c.tally-t.result.hour.late ≡ late_of c.args.division sequence = ap (λ (t : Tally). t.hour.late) tally-is ∙ all-late sequence c.args.division in
     let a = c.args in
-    let f = sym c.lanes-l.ensures.flaw ∙ c.in-At-flaw.is in
-    let e = joined-flaw a.file.now a.count a.division a.at (room_of a.out.now) _ (sym (late_is) ∙ c.in-None.is) f in
-    rw e (record { value = c.refused-in-At-flaw.ensures; output = refl })
+    let f = sym c.lanes-l.ensures.flaw ∙ c.in-Some-flaw.is in
+    let e = joined-flaw a.file.now a.count a.division a.at (room_of a.out.now) _ (sym (late_is) ∙ c.in_default.is) f in
+    rw e (record { value = c.refused-in-Some-flaw.ensures; output = refl })
 
 pub whole_size-size-requires : goal.whole_size-size-requires
 whole_size-size-requires c = let sequence : List Entry = sequence_of c.args.count c.args.file.now c.args.at in
@@ -50,8 +50,8 @@ returns-then-room-size c = let sequence : List Entry = sequence_of c.args.count 
     let size_is : c.whole_size-size.result ≡ held_count (length file) = c.whole_size-size.ensures ∙ ap (λ (t : Tally). held_count (t.size + length (closing_bytes t.line))) (tally-is)
     ∙ all-size (sequence) (3600000000 * c.args.division) ∙ ap held_count (sym (file-length c.args.division (sequence))) in
     let late_is : c.tally-t.result.hour.late ≡ late_of c.args.division sequence = ap (λ (t : Tally). t.hour.late) tally-is ∙ all-late sequence c.args.division in
-    let outcome : (room : ℕ) → joined_of c.args.file.now c.args.count c.args.division c.args.at room ≡ fitted room file = λ room. joined-good c.args.file.now c.args.count c.args.division c.args.at room (sym (late_is) ∙ c.in-None.is)
-    (sym c.lanes-l.ensures.flaw ∙ c.in-None-flaw.is) in
+    let outcome : (room : ℕ) → joined_of c.args.file.now c.args.count c.args.division c.args.at room ≡ fitted room file = λ room. joined-good c.args.file.now c.args.count c.args.division c.args.at room (sym (late_is) ∙ c.in_default.is)
+    (sym c.lanes-l.ensures.flaw ∙ c.in_default-flaw.is) in
     let a = c.args in
     let z = size_is in
     let r = c.room.ensures in
@@ -88,8 +88,8 @@ returns c = let sequence : List Entry = sequence_of c.args.count c.args.file.now
     let size_is : c.whole_size-size.result ≡ held_count (length file) = c.whole_size-size.ensures ∙ ap (λ (t : Tally). held_count (t.size + length (closing_bytes t.line))) (tally-is)
     ∙ all-size (sequence) (3600000000 * c.args.division) ∙ ap held_count (sym (file-length c.args.division (sequence))) in
     let late_is : c.tally-t.result.hour.late ≡ late_of c.args.division sequence = ap (λ (t : Tally). t.hour.late) tally-is ∙ all-late sequence c.args.division in
-    let outcome : (room : ℕ) → joined_of c.args.file.now c.args.count c.args.division c.args.at room ≡ fitted room file = λ room. joined-good c.args.file.now c.args.count c.args.division c.args.at room (sym (late_is) ∙ c.in-None.is)
-    (sym c.lanes-l.ensures.flaw ∙ c.in-None-flaw.is) in
+    let outcome : (room : ℕ) → joined_of c.args.file.now c.args.count c.args.division c.args.at room ≡ fitted room file = λ room. joined-good c.args.file.now c.args.count c.args.division c.args.at room (sym (late_is) ∙ c.in_default.is)
+    (sym c.lanes-l.ensures.flaw ∙ c.in_default-flaw.is) in
     let a = c.args in
     let z = size_is in
     let r = c.room.ensures in

@@ -1,11 +1,9 @@
 -- What is so of an entry that a track has come to, and what comes behind it.
-use Rattle.std.specs.Prelude.{Bool, true, false, cond, List, ◌≡◌, ℕ, ◌*◌, ◌<◌, ◌≤◌, length}
+use Rattle.std.specs.Prelude.{Bool, true, false, cond, List, ◌≡◌, ℕ, ◌*◌, ◌<◌, ◌≤◌, length, Option, Some, None}
 use Rattle.smf.specs.declared.Item.{Item}
 use Rattle.smf.specs.declared.Item.TheVariants.{Bad, End, Passed, Tempo, Channel}
 use Rattle.smf.specs.Track.{is_bad}
 use Rattle.merge.specs.declared.Entry.{Entry}
-use Rattle.merge.specs.declared.Spot.{Spot}
-use Rattle.merge.specs.declared.Spot.TheVariants.{None, At}
 use Rattle.merge.specs.Entries.{no_tick}
 
 -- an event ends behind its place and in front of its track's end
@@ -37,5 +35,5 @@ goes_on (Tempo tempo behind) = true
 goes_on (Channel status first second behind) = true
 
 -- the fault of a track that has come to its end
-unfoldable pub flaw_at : Entry → Spot
-flaw_at e = cond (is_bad e.item) (At e.place) None
+unfoldable pub flaw_at : Entry → Option ℕ
+flaw_at e = cond (is_bad e.item) (Some e.place) None

@@ -1,9 +1,8 @@
 -- What is told of each event on the way through the sequence.
-use Rattle.std.specs.Prelude.{cond, List, [], ◌∷◌, ℕ, ◌+◌, min, ltb, length}
+use Rattle.std.specs.Prelude.{cond, List, [], ◌∷◌, ℕ, ◌+◌, min, ltb, length, None}
 use Rattle.merge.specs.declared.Entry.{Entry}
 use Rattle.merge.specs.declared.Hour.{Hour}
 use Rattle.merge.specs.declared.Tally.{Tally}
-use Rattle.merge.specs.declared.Spot.TheVariants.{None}
 use Rattle.merge.specs.Lateness.{tempo_after, sum_at, nearer}
 use Rattle.merge.specs.Internal.Lines.{entry_bytes, line_after, line_start, held_count}
 

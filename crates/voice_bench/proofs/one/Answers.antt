@@ -4,4 +4,4 @@ use Rattle.voice.proofs.SumsLaws.{zeros-small}
 use Rattle.voice_bench.proofs.one.Goals as goal
 
 pub round-requires : goal.round-requires
-round-requires c = (c.requires.0, c.requires.1, lit≤ tt, zeros-small 8192)
+round-requires c = (lit≤ tt, zeros-small 8192)

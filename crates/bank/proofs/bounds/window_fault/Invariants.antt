@@ -1,13 +1,13 @@
 -- `window_fault` meets its contract.
+use Rattle.std.specs.Prelude.{None}
 use mathlib.Core.Path.{◌≡◌}
 use Prim.Native.Nat.{◌-◌, ◌≤◌}
 use Rattle.bank.specs.Bounds.{bad_window}
 use Rattle.records.specs.Zones.{zone_below}
-use Rattle.records.specs.declared.Found.TheVariants.{Nothing}
 use Rattle.bank.proofs.bounds.window_fault.Given as goal
 
 abbrev pub invariant-loop-h : goal.invariant-loop-h
-invariant-loop-h l = (zone_below l.b l.m.instruments (bad_window l.b l.m) l.h ≡ Nothing) × (l.h ≤ l.heads)
+invariant-loop-h l = (zone_below l.b l.m.instruments (bad_window l.b l.m) l.h ≡ None) × (l.h ≤ l.heads)
 
 abbrev pub decreases-loop-h : goal.decreases-loop-h
 decreases-loop-h l = l.heads - l.h

@@ -1,13 +1,13 @@
 -- `window_in` meets its contract.
+use Rattle.std.specs.Prelude.{Some}
 use borrow.Author.Rules.{rules}
 use mathlib.Core.Path.{◌≡◌, refl, sym, ap, ◌∙◌}
 use native.Mathlib.Omega.{arith}
-use Prim.Native.Nat.{◌+◌, ◌-◌}
+use Prim.Native.Nat.{◌+◌}
 use Rattle.bank.specs.Bounds.{bad_window}
 use Rattle.bank.specs.Links.{zone_link_at}
 use Rattle.records.proofs.LookingLaws.{first-none, first-miss, first-hit}
-use Rattle.records.specs.Zones.{link_at, global_of}
-use Rattle.records.specs.declared.Found.TheVariants.{At}
+use Rattle.records.specs.Zones.{link_at}
 use Rattle.bank.proofs.OnePassLaws.{bad-over}
 use Rattle.bank.proofs.bounds.window_in.Goals as goal
 
@@ -21,7 +21,7 @@ returns-then-bad_over c = let from = c.bag_of-from in
     let a = c.args in
     let bad = sym (bad-over a.b.now a.m a.h (from.result + c.loop-j.j)) ∙ rw (← c.loop-j.invariant.1) (sym c.bad_over.ensures) ∙ c.if-bad_over.true in
     let hit = first-hit (bad_window a.b.now a.m a.h) from.result c.loop-j.j count.result c.loop-j.invariant.0 bad (search rules) in
-    rw (← from.ensures, ← count.ensures, hit) (ap At (c.link_at.ensures ∙ ap (link_at a.m.instruments) c.zone_at.ensures))
+    rw (← from.ensures, ← count.ensures, hit) (ap Some (c.link_at.ensures ∙ ap (link_at a.m.instruments) c.zone_at.ensures))
 
 pub loop-j-preserved : goal.loop-j-preserved
 loop-j-preserved c = let from = c.bag_of-from in

@@ -1,11 +1,10 @@
 -- `chunk_fault` meets its contract.
+use Rattle.std.specs.Prelude.{Some}
 use lib.ListN.{length}
-use Prim.Native.Nat.{◌-◌}
 use borrow.Author.Tests.{lt-ltb, le-ltb}
 use native.Mathlib.Omega.{arith}
 use mathlib.Core.Path.{◌≡◌, sym, ap, ◌∙◌}
 use borrow.Author.Rules.{rules}
-use Rattle.records.specs.declared.Found.TheVariants.{At}
 use Rattle.records.proofs.LookingLaws.{first-none, first-miss0, first-hit0}
 use Rattle.records.specs.Chunks.{chunk_at}
 use Rattle.bank.specs.Framing.{bad_chunk, chunk_fault}
@@ -18,7 +17,7 @@ pub returns-then-bad_chunk : goal.returns-then-bad_chunk
 unfolding chunk_fault
 returns-then-bad_chunk c = let b = c.args.b.now in
     let e = first-hit0 (bad_chunk b) c.loop-k.k 9 c.loop-k.invariant.0 (sym c.bad_chunk.ensures ∙ c.if-bad_chunk.true) (search rules) in
-    simp e (ap At c.chunk_at.ensures.0)
+    simp e (ap Some c.chunk_at.ensures.0)
 
 pub loop-k-preserved : goal.loop-k-preserved
 loop-k-preserved c = let b = c.args.b.now in
@@ -30,7 +29,7 @@ returns-then-end-b c = let b = c.args.b.now in
     let k : c.loop-k.k ≡ 9 = omega arith in
     let e = rw k at c.loop-k.invariant.0 in
     let t = lt-ltb (chunk_at b 9) (length b) (omega (arith, c.chunk_at-end.ensures.0)) in
-    simp (e, t) (ap At c.chunk_at-end.ensures.0)
+    simp (e, t) (ap Some c.chunk_at-end.ensures.0)
 
 pub returns : goal.returns
 unfolding chunk_fault

@@ -1,9 +1,8 @@
 -- `records_fault` meets its contract.
-use Prim.Native.Nat.{◌-◌}
+use Rattle.std.specs.Prelude.{Some}
 use native.Mathlib.Omega.{arith}
 use mathlib.Core.Path.{◌≡◌, sym, ap, ◌∙◌}
 use borrow.Author.Rules.{rules}
-use Rattle.records.specs.declared.Found.TheVariants.{At}
 use Rattle.records.proofs.LookingLaws.{first-none, first-miss0, first-hit0}
 use Rattle.bank.specs.Framing.{bad_records, records_fault}
 use Rattle.bank.proofs.framing.records_fault.Goals as goal
@@ -15,7 +14,7 @@ pub returns-then-bad_records : goal.returns-then-bad_records
 unfolding records_fault
 returns-then-bad_records c = let b = c.args.b.now in
     let e = first-hit0 (bad_records b) c.loop-k.k 9 c.loop-k.invariant.0 (sym c.bad_records.ensures ∙ c.if-bad_records.true) (search rules) in
-    simp e (ap At c.chunk_at.ensures.0)
+    simp e (ap Some c.chunk_at.ensures.0)
 
 pub loop-k-preserved : goal.loop-k-preserved
 loop-k-preserved c = let b = c.args.b.now in

@@ -1,13 +1,13 @@
 -- `records_fault` meets its contract.
+use Rattle.std.specs.Prelude.{None}
 use Prim.Native.Nat.{◌-◌, ◌≤◌}
 use mathlib.Core.Path.{◌≡◌}
-use Rattle.records.specs.declared.Found.TheVariants.{Nothing}
 use Rattle.records.specs.Looking.{first}
 use Rattle.bank.specs.Framing.{bad_records}
 use Rattle.bank.proofs.framing.records_fault.Given as goal
 
 abbrev pub invariant-loop-k : goal.invariant-loop-k
-invariant-loop-k l = (first (bad_records l.b) 0 l.k ≡ Nothing) × (l.k ≤ 9)
+invariant-loop-k l = (first (bad_records l.b) 0 l.k ≡ None) × (l.k ≤ 9)
 
 abbrev pub decreases-loop-k : goal.decreases-loop-k
 decreases-loop-k l = 9 - l.k

@@ -2,7 +2,6 @@
 use borrow.Author.Rules.{rules}
 use mathlib.Core.Path.{◌≡◌, sym, ap, ◌∙◌}
 use native.Mathlib.Omega.{arith}
-use Prim.Native.Nat.{◌-◌}
 use Rattle.bank.specs.Indexes.{bad_bag, bag_fault}
 use Rattle.records.specs.Looking.{placed}
 use Rattle.records.proofs.LookingLaws.{first-none, first-miss0, first-hit0}

@@ -13,13 +13,13 @@ pub loop-h-init : goal.loop-h-init
 loop-h-init c = (below_none _ _ _, search rules)
 
 pub enum_known-found : goal.enum_known-found
-enum_known-found c = c.in-At.in-At-own.keys1
+enum_known-found c = c.in-Some.in-Some-own.keys1
 
-pub returns-in-At : goal.returns-in-At
+pub returns-in-Some : goal.returns-in-Some
 unfolding past_fault
-returns-in-At c = let a = c.args in
-    let q = c.in-At.p in
-    let found = sym c.past_in-found.ensures ∙ c.in-At.is in
+returns-in-Some c = let a = c.args in
+    let q = c.in-Some.p in
+    let found = sym c.past_in-found.ensures ∙ c.in-Some.is in
     sym (zone-placed a.b.now a.m.instruments (zone_past a.b.now a.m a.ram a.rom) (zone_link_at a.b.now a.m.instruments) c.loop-h.h q c.loop-h.invariant.0 found (rw c.less-heads.ensures at c.loop-h-test.true))
 
 pub enum_told-1 : goal.enum_told-1

@@ -1,46 +1,46 @@
 -- `rate_fault` meets its contract.
+use Rattle.std.specs.Prelude.{Some}
 use mathlib.Core.Path.{◌≡◌, refl, sym, ◌∙◌}
 use native.Mathlib.Omega.{arith}
 use Prim.Native.Nat.{ℕ, ◌+◌, ◌-◌, ◌*◌, ◌<◌}
 use Rattle.bank.specs.Rates.{bad_rate, rate_fault}
 use Rattle.records.specs.Looking.{first}
 use Rattle.records.proofs.LookingLaws.{first-is}
-use Rattle.records.specs.declared.Found.TheVariants.{At}
 use Rattle.bank.proofs.rates.rate_fault.Goals as goal
 
 pub lowest_bad-requires : goal.lowest_bad-requires
 lowest_bad-requires c = tt
 
 pub enum_told-1 : goal.enum_told-1
-enum_told-1 c = c.in-Nothing.in-Nothing-own.keys1
+enum_told-1 c = c.in-None.in-None-own.keys1
 
 pub enum_known-k : goal.enum_known-k
-enum_known-k c = c.in-At.in-At-own.keys2
+enum_known-k c = c.in-Some.in-Some-own.keys2
 
 -- the product alone
 within : (a k : ℕ) → a + 46 * k < 18446744073709551616 → 46 * k < 18446744073709551616
 within a k h = omega arith
 
 pub overflow_mul-result : goal.overflow_mul-result
-overflow_mul-result c = let sample : ℕ = c.in-At.k in
+overflow_mul-result c = let sample : ℕ = c.in-Some.k in
     let room : (k : ℕ) → k < 0 + (c.args.m.instruments.nlinks - 1) → c.args.m.samples + 46 * k < 18446744073709551616 = λ k h. omega arith in
-    let found : first (bad_rate c.args.b.now c.args.m) 0 (c.args.m.instruments.nlinks - 1) ≡ At sample = sym c.lowest_bad.ensures ∙ c.in-At.is in
+    let found : first (bad_rate c.args.b.now c.args.m) 0 (c.args.m.instruments.nlinks - 1) ≡ Some sample = sym c.lowest_bad.ensures ∙ c.in-Some.is in
     let low : c.args.m.samples + 46 * sample < 18446744073709551616 = room sample (first-is (bad_rate c.args.b.now c.args.m) 0 (c.args.m.instruments.nlinks - 1) sample found).high in
     record { fits = within c.args.m.samples (sample) (low) }
 
 pub overflow_add-result : goal.overflow_add-result
 overflow_add-result c = let room : (k : ℕ) → k < 0 + (c.args.m.instruments.nlinks - 1) → c.args.m.samples + 46 * k < 18446744073709551616 = λ k h. omega arith in
-    let sample : ℕ = c.in-At.k in
-    let found : first (bad_rate c.args.b.now c.args.m) 0 (c.args.m.instruments.nlinks - 1) ≡ At sample = sym c.lowest_bad.ensures ∙ c.in-At.is in
+    let sample : ℕ = c.in-Some.k in
+    let found : first (bad_rate c.args.b.now c.args.m) 0 (c.args.m.instruments.nlinks - 1) ≡ Some sample = sym c.lowest_bad.ensures ∙ c.in-Some.is in
     let low : c.args.m.samples + 46 * sample < 18446744073709551616 = room sample (first-is (bad_rate c.args.b.now c.args.m) 0 (c.args.m.instruments.nlinks - 1) sample found).high in
     record { fits = low }
 
-pub returns-in-Nothing : goal.returns-in-Nothing
+pub returns-in-None : goal.returns-in-None
 unfolding rate_fault
-returns-in-Nothing c = rw (sym c.lowest_bad.ensures ∙ c.in-Nothing.is) refl
+returns-in-None c = rw (sym c.lowest_bad.ensures ∙ c.in-None.is) refl
 
-pub returns-in-At : goal.returns-in-At
+pub returns-in-Some : goal.returns-in-Some
 unfolding rate_fault
-returns-in-At c = let sample : ℕ = c.in-At.k in
-    let found : first (bad_rate c.args.b.now c.args.m) 0 (c.args.m.instruments.nlinks - 1) ≡ At sample = sym c.lowest_bad.ensures ∙ c.in-At.is in
+returns-in-Some c = let sample : ℕ = c.in-Some.k in
+    let found : first (bad_rate c.args.b.now c.args.m) 0 (c.args.m.instruments.nlinks - 1) ≡ Some sample = sym c.lowest_bad.ensures ∙ c.in-Some.is in
     rw (found) refl

@@ -2,7 +2,6 @@
 use borrow.Author.Rules.{rules}
 use mathlib.Core.Path.{◌≡◌, refl, sym, ◌∙◌}
 use native.Mathlib.Omega.{arith}
-use Prim.Native.Nat.{◌-◌}
 use Rattle.bank.proofs.OnePassLaws.{zones-none, zones-next}
 use Rattle.bank.proofs.rates.with_instrument.Goals as goal
 

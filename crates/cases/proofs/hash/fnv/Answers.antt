@@ -1,19 +1,18 @@
--- The hash so far is that over the numbers passed.
-use Rattle.std.proofs.Common.{◌-◌, ◌<◌, ◌≤◌, length, refl, ap, ◌∙◌, arith, take_all}
-use lib.Ieee.{nan}
-use Rattle.cases.specs.Internal.Hash.{hash_all, hash_each, hash_number}
+-- The hash so far is that over the items passed.
+use Rattle.std.proofs.Common.{◌<◌, ◌≤◌, length, sym, ap, ◌∙◌, refl, arith, take_all}
+use Rattle.cases.specs.Internal.Hash.{hash_each}
 use Rattle.cases.proofs.HashLaws.{hash-step}
 use Rattle.cases.proofs.hash.fnv.Goals as goal
 
-pub loop-i-init : goal.loop-i-init
+pub loop-x-init : goal.loop-x-init
 unfolding hash_each
-loop-i-init c = (omega arith, refl)
+loop-x-init g c = refl
 
-pub loop-i-preserved : goal.loop-i-preserved
-loop-i-preserved c = let xs = c.args.numbers.now in
-    let h : c.loop-i.i < length xs = omega arith in
-    (omega arith, rw (hash-step hash_number 14695981039346656037 xs c.loop-i.i nan h, ← c.loop-i.invariant.1, ← c.bits_of.ensures) c.hash_bits-h.ensures)
+pub loop-x-preserved : goal.loop-x-preserved
+loop-x-preserved g c = let xs = c.args.items.now in
+    let h : c.loop-x.x-index < length xs = omega arith in
+    rw (hash-step g.T.Hashed.after 14695981039346656037 xs c.loop-x.x-index c.x-item.result h, ← c.loop-x.invariant, ← c.x-item.is) c.into_hash-h.ensures
 
 pub returns : goal.returns
-returns c = let xs = c.args.numbers.now in let i = c.loop-i.i in let h : length xs ≤ i = omega arith in
-    c.loop-i.invariant.1 ∙ ap (hash_all 14695981039346656037) (take_all i xs h)
+returns g c = let xs = c.args.items.now in let i = c.loop-x.x-index in let h : length xs ≤ i = omega arith in
+    c.loop-x.invariant ∙ (ap (hash_each g.T.Hashed.after 14695981039346656037) (take_all i xs h) ∙ sym (g.met.T.Hashed.in_order 14695981039346656037 xs))

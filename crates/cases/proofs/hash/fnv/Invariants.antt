@@ -1,10 +1,7 @@
--- The hash so far is that over the numbers passed.
-use Rattle.std.proofs.Common.{◌≡◌, ◌-◌, ◌≤◌, length, take}
-use Rattle.cases.specs.Internal.Hash.{hash_all}
+-- The hash so far is that over the items passed.
+use Rattle.std.proofs.Common.{◌≡◌, take}
+use Rattle.cases.specs.Internal.Hash.{hash_each}
 use Rattle.cases.proofs.hash.fnv.Given as goal
 
-abbrev pub invariant-loop-i : goal.invariant-loop-i
-invariant-loop-i l = (l.i ≤ length l.numbers) × (l.h ≡ hash_all l.initial.h (take l.i l.numbers))
-
-abbrev pub decreases-loop-i : goal.decreases-loop-i
-decreases-loop-i l = length l.numbers - l.i
+abbrev pub invariant-loop-x : goal.invariant-loop-x
+invariant-loop-x g l = l.h ≡ hash_each g.T.Hashed.after l.initial.h (take l.x-index l.items)

@@ -7,7 +7,7 @@ use Rattle.engine.proofs.RenderingLaws.{output-mixed, zeros-at}
 use Rattle.engine.proofs.rendering.play.Goals as goal
 
 pub run_all-x-requires : goal.run_all-x-requires
-run_all-x-requires c = record { tables = (search rules, search rules); sums = (search rules, zeros-small 8192) }
+run_all-x-requires c = record { sums = (search rules, zeros-small 8192) }
 
 pub returns : goal.returns
 returns c = let a = c.args in

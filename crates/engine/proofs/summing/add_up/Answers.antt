@@ -12,7 +12,7 @@ use Rattle.engine.proofs.summing.add_up.Goals as goal
 pub run_all-requires : goal.run_all-requires
 run_all-requires c = let zeros : c.fill.new.self ≡ replicate (length c.args.acc.now) (pos 0) = search (rules, overwrites) in
     let long = ap length zeros ∙ length-replicate (length c.args.acc.now) (pos 0) in
-    record { tables = (search rules, search rules); sums = (omega (arith, long, c.requires), subst (Small 0) (sym zeros) (zeros-small (length c.args.acc.now))) }
+    record { sums = (omega (arith, long, c.requires), subst (Small 0) (sym zeros) (zeros-small (length c.args.acc.now))) }
 
 pub returns : goal.returns
 returns c = let a = c.args in

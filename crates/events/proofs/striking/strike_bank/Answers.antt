@@ -27,10 +27,10 @@ parts_of-m-requires c = admitted-room c.args.bank.now (sym c.admitted.ensures �
 
 pub overflow_cast-h : goal.overflow_cast-h
 overflow_cast-h c = let heads : c.parts_of-m.result.presets.nheads < 4294967296 = omega arith in
-    omega (arith, heads, preset-low c.args.bank.now c.parts_of-m.result c.bank_number-number.result c.channel_of-c.result.program c.in-At.h (sym c.preset_for.ensures ∙ c.in-At.is))
+    omega (arith, heads, preset-low c.args.bank.now c.parts_of-m.result c.bank_number-number.result c.channel_of-c.result.program c.in-Some.h (sym c.preset_for.ensures ∙ c.in-Some.is))
 
-pub returns-in-Nothing : goal.returns-in-Nothing
-returns-in-Nothing c = let fine : admitted c.args.bank.now ≡ true = sym c.admitted.ensures ∙ not-false c.admitted.result c.if-not-admitted.false-raw in
+pub returns-in-None : goal.returns-in-None
+returns-in-None c = let fine : admitted c.args.bank.now ≡ true = sym c.admitted.ensures ∙ not-false c.admitted.result c.if-not-admitted.false-raw in
     let found : c.preset_for.result
     ≡ preset_for c.args.bank.now (parts_of c.args.bank.now) (channel_bank c.args.e.now c.args.channel)
     (channel_at c.args.e.now c.args.channel).program = let b = c.args.bank.now in
@@ -40,10 +40,10 @@ returns-in-Nothing c = let fine : admitted c.args.bank.now ≡ true = sym c.admi
     ∙ ap (λ (x : ℕ). preset_for b (parts_of b) x c.channel_of-c.result.program) c.bank_number-number.ensures
     ∙ ap (λ (x : Channel). preset_for b (parts_of b) (channel_bank c.args.e.now c.args.channel) x.program) c.channel_of-c.ensures in
     let a = c.args in
-    sym (answer-none a.bank.now a.ram.now a.rom.now a.channel a.key a.velocity a.e.now (fine) (sym (found) ∙ c.in-Nothing.is))
+    sym (answer-none a.bank.now a.ram.now a.rom.now a.channel a.key a.velocity a.e.now (fine) (sym (found) ∙ c.in-None.is))
 
-pub returns-in-At : goal.returns-in-At
-returns-in-At c = let fine : admitted c.args.bank.now ≡ true = sym c.admitted.ensures ∙ not-false c.admitted.result c.if-not-admitted.false-raw in
+pub returns-in-Some : goal.returns-in-Some
+returns-in-Some c = let fine : admitted c.args.bank.now ≡ true = sym c.admitted.ensures ∙ not-false c.admitted.result c.if-not-admitted.false-raw in
     let found : c.preset_for.result
     ≡ preset_for c.args.bank.now (parts_of c.args.bank.now) (channel_bank c.args.e.now c.args.channel)
     (channel_at c.args.e.now c.args.channel).program = let b = c.args.bank.now in
@@ -53,7 +53,7 @@ returns-in-At c = let fine : admitted c.args.bank.now ≡ true = sym c.admitted.
     ∙ ap (λ (x : ℕ). preset_for b (parts_of b) x c.channel_of-c.result.program) c.bank_number-number.ensures
     ∙ ap (λ (x : Channel). preset_for b (parts_of b) (channel_bank c.args.e.now c.args.channel) x.program) c.channel_of-c.ensures in
     let a = c.args in
-    let i = c.in-At.h in
+    let i = c.in-Some.h in
     c.strike_layers.ensures
     ∙ ap (λ (m : Parts). layers_answer a.ram.now a.rom.now a.channel (voices_of a.bank.now m i a.channel a.key a.velocity) a.e.now) c.parts_of-m.ensures
-    ∙ sym (answer-found a.bank.now a.ram.now a.rom.now a.channel a.key a.velocity a.e.now i (fine) (sym (found) ∙ c.in-At.is))
+    ∙ sym (answer-found a.bank.now a.ram.now a.rom.now a.channel a.key a.velocity a.e.now i (fine) (sym (found) ∙ c.in-Some.is))

@@ -26,15 +26,11 @@ returns-then-count-gt32 c = let a = c.args in
 
 pub loop-i-init : goal.loop-i-init
 loop-i-init c = let a = c.args in (
-  c.octaves-t.ensures,
   ap (replicate 32) c.no_voice-none.ensures
       ∙ filled_none (voice_of a.b.now a.m a.h a.channel a.key a.velocity) (layers_of a.b.now a.m a.key a.velocity a.h),
   search rules,
   omega (arith, c.if-count-gt32.false),
 )
-
-pub voice_by-v-requires : goal.voice_by-v-requires
-voice_by-v-requires c = c.loop-i.invariant.0
 
 pub loop-i-preserved : goal.loop-i-preserved
 unfolding voice_of searched
@@ -49,10 +45,9 @@ loop-i-preserved c = let a = c.args in
     let less : i < found.count = omega (arith, c.loop-i-test.true) in
     let at = found_at all found c.search-found.ensures few i less in
     let v = c.voice_by-v.ensures ∙ ap (λ (x : Layer). voice_by b a.m x a.channel a.key a.velocity) c.layer_of-l.ensures in (
-      c.loop-i.invariant.0,
-      rw c.loop-i.invariant.1 (filled-set f all i _ _ (omega arith) (omega arith) at v),
+      rw c.loop-i.invariant.0 (filled-set f all i _ _ (omega arith) (omega arith) at v),
       omega arith,
-      c.loop-i.invariant.3,
+      c.loop-i.invariant.2,
     )
 
 pub returns : goal.returns
@@ -63,5 +58,5 @@ returns c = let a = c.args in
     let all = layers_of a.b.now a.m a.key a.velocity a.h in
     let few : found.count ≤ 32 = omega (arith, c.if-count-gt32.false) in
     let size = found-length all found c.search-found.ensures few in
-    let e : c.loop-i.i ≡ found.count = omega (arith, c.loop-i-test.false, c.loop-i.invariant.2) in
-    rw (c.loop-i.invariant.1, e) (struck-few f all found.count size (omega arith))
+    let e : c.loop-i.i ≡ found.count = omega (arith, c.loop-i-test.false, c.loop-i.invariant.1) in
+    rw (c.loop-i.invariant.0, e) (struck-few f all found.count size (omega arith))

@@ -1,4 +1,5 @@
 -- `lanes` meets its contract.
+use Rattle.std.proofs.Common.{Some, None}
 use mathlib.Core.List.{List, [], ◌∷◌, ◌++◌, map, append_assoc, append-nil}
 use mathlib.Core.Path.{◌≡◌, sym, ap, ◌∙◌}
 use Prim.Native.Nat.{ℕ, suc, ◌+◌, ◌-◌, ◌<◌, ◌≤◌}
@@ -10,7 +11,6 @@ use Rattle.smf.specs.declared.Header.TheVariants.{Refused, Track}
 use Rattle.smf.specs.Head.{track_from}
 use Rattle.merge.specs.declared.Entry.{Entry}
 use Rattle.merge.specs.declared.Tracks.{Tracks}
-use Rattle.merge.specs.declared.Spot.TheVariants.{None, At}
 use Rattle.merge.specs.Lanes.{first_entry, flaw_of, lanes_from, flaw_in}
 use Rattle.merge.specs.Internal.Entries.{Settled}
 use Rattle.merge.specs.Internal.Lanes.{no_lane, tick_of, Lined}
@@ -36,7 +36,7 @@ module _ (b : List ℕ) (count from : ℕ) (ticks : List ℕ) (entries : List En
   next-is = omega arith
 
   -- no further track
-  cut : (number place : ℕ) → track_from (length b) b at ≡ Refused number place → (take k entries ≡ lanes_from count b from) × (At place ≡ flaw_in count b from)
+  cut : (number place : ℕ) → track_from (length b) b at ≡ Refused number place → (take k entries ≡ lanes_from count b from) × (Some place ≡ flaw_in count b from)
   cut number place e =
       let c = lanes-cut b (count - (k + 1)) at number place e in
       let l = rw (next-is, c.0, append-nil (take k entries)) at s.lanes in
@@ -44,8 +44,8 @@ module _ (b : List ℕ) (count from : ℕ) (ticks : List ℕ) (entries : List En
       (sym l, sym f)
 
   -- one that has a fault
-  flawed : (begin end place : ℕ) (e : Entry) → k < 256 → e ≡ first_entry b begin end → track_from (length b) b at ≡ Track begin end → flaw_of b e ≡ At place
-      → (take (k + 1) (set entries k e) ≡ lanes_from count b from) × (At place ≡ flaw_in count b from)
+  flawed : (begin end place : ℕ) (e : Entry) → k < 256 → e ≡ first_entry b begin end → track_from (length b) b at ≡ Track begin end → flaw_of b e ≡ Some place
+      → (take (k + 1) (set entries k e) ≡ lanes_from count b from) × (Some place ≡ flaw_in count b from)
   flawed begin end place e r i t f =
       let c = lanes-flawed b (count - (k + 1)) at begin end place t (rw i at f) in
       let stored = take-suc-set entries k e (omega (arith, s.way.whole)) in
@@ -131,12 +131,12 @@ bounds-entries-k c = omega arith
 pub flaw-flaw-requires : goal.flaw-flaw-requires
 flaw-flaw-requires c = c.settled-e.ensures.settled
 
-pub returns-in-At : goal.returns-in-At
-returns-in-At c = let a = c.args in
+pub returns-in-Some : goal.returns-in-Some
+returns-in-Some c = let a = c.args in
     let p = c.requires in
     let t = sym c.track_from-h.ensures ∙ c.in-Track.is in
     let f = c.flaw-flaw.ensures in
-    let g = c.in-At.is in
+    let g = c.in-Some.is in
     let r = flawed a.b.now a.count a.from c.loop-k.ticks c.loop-k.entries c.loop-k.at c.loop-k.k c.loop-k.invariant (omega arith) _ _ _ _ (omega arith) c.settled-e.ensures.value t (sym f ∙ g) in
     record { result_value = r.0; lined = lined-way a.b.now _ (way-more a.b.now c.loop-k.k c.loop-k.entries c.loop-k.ticks _ (omega arith) c.loop-k.invariant.way c.settled-e.ensures.settled); flaw = g ∙ r.1 }
 

@@ -49,17 +49,15 @@ seen_more ts n i best h s = go (ltb (tick_at ts i) best.tick) refl
         }
 
 pub loop-i-init : goal.loop-i-init
-loop-i-init c = (
-  omega arith,
-  record {
-    in-lanes = omega arith;
-    some = omega arith;
-    least = λ k h. absurd (omega arith);
-    first = λ g. absurd (omega arith);
-    found = λ g. absurd (omega arith);
-    none = λ g. refl;
-  },
-)
+loop-i-init c =
+    record {
+      in-lanes = omega arith;
+      some = omega arith;
+      least = λ k h. absurd (omega arith);
+      first = λ g. absurd (omega arith);
+      found = λ g. absurd (omega arith);
+      none = λ g. refl;
+    }
 
 pub offset_bounds-ticks-i : goal.offset_bounds-ticks-i
 offset_bounds-ticks-i c = omega arith
@@ -67,16 +65,13 @@ offset_bounds-ticks-i c = omega arith
 pub bounds-ticks-i : goal.bounds-ticks-i
 bounds-ticks-i c = omega arith
 
-pub loop-i-smaller : goal.loop-i-smaller
-loop-i-smaller c = omega arith
-
 pub loop-i-preserved : goal.loop-i-preserved
 loop-i-preserved c = let a = c.args in
-    (omega arith, rw c.better-best.ensures (seen_more a.ticks.now a.count c.loop-i.i c.loop-i.best (omega arith) c.loop-i.invariant.1))
+    rw c.better-best.ensures (seen_more a.ticks.now a.count c.loop-i.i c.loop-i.best (omega arith) c.loop-i.invariant)
 
 pub returns : goal.returns
 returns c = let l = c.loop-i in
-    let s = l.invariant.1 in
+    let s = l.invariant in
     let all : l.i ≡ c.args.count = omega arith in
     record {
       in-lanes = s.in-lanes;

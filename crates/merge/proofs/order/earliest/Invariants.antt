@@ -17,7 +17,4 @@ pub record Seen (ts : List ℕ) (n i : ℕ) (best : Best) : Type 0 where
   pub none : best.lane ≡ n → best.tick ≡ no_tick
 
 abbrev pub invariant-loop-i : goal.invariant-loop-i
-invariant-loop-i l = (l.i ≤ l.count) × Seen l.ticks l.count l.i l.best
-
-abbrev pub decreases-loop-i : goal.decreases-loop-i
-decreases-loop-i l = l.count - l.i
+invariant-loop-i l = Seen l.ticks l.count l.i l.best

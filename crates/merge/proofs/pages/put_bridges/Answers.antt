@@ -33,12 +33,12 @@ room-front out at tempo n k h r = omega (arith, room_for out at tempo n k h r, l
 
 pub loop-k-init : goal.loop-k-init
 unfolding bridge_bytes
-loop-k-init c = let a = c.args in (sym (laid_none a.out.now a.at), omega arith, refl, omega arith)
+loop-k-init c = let a = c.args in (sym (laid_none a.out.now a.at), omega arith, refl)
 
 pub put_quantity-p-requires : goal.put_quantity-p-requires
 put_quantity-p-requires c = let i = c.loop-k.invariant in
     let a = c.args in
-    let r = room-front a.out.now a.at a.tempo a.n c.loop-k.k c.loop-k-test.true c.requires in
+    let r = room-front a.out.now a.at a.tempo a.n c.loop-k.k (omega arith) c.requires in
     (room-then a.out.now a.at (bridge_bytes a.tempo c.loop-k.k) delta r _ _ i.1 i.0, omega arith)
 
 pub put_tempo-p-requires : goal.put_tempo-p-requires
@@ -46,31 +46,28 @@ unfolding three_bytes
 put_tempo-p-requires c = let behind : (c.put_quantity-p.result ≡ c.args.at + length (bridge_bytes c.args.tempo c.loop-k.k ++ delta))
     × (c.put_quantity-p.new.out ≡ laid_over c.args.out.now c.args.at (bridge_bytes c.args.tempo c.loop-k.k ++ delta)) = let i = c.loop-k.invariant in
     let a = c.args in
-    let r = room-front a.out.now a.at a.tempo a.n c.loop-k.k c.loop-k-test.true c.requires in
+    let r = room-front a.out.now a.at a.tempo a.n c.loop-k.k (omega arith) c.requires in
     laid_then a.out.now a.at (bridge_bytes a.tempo c.loop-k.k) delta r _ _ i.1 i.0 _ _ c.put_quantity-p.ensures.value c.put_quantity-p.ensures.output in
     let a = c.args in
-    let r = room_for a.out.now a.at a.tempo a.n c.loop-k.k c.loop-k-test.true c.requires in
+    let r = room_for a.out.now a.at a.tempo a.n c.loop-k.k (omega arith) c.requires in
     let w = behind in
     room-then a.out.now a.at (bridge_bytes a.tempo c.loop-k.k ++ delta) (change a.tempo) r _ _ w.0 w.1
-
-pub loop-k-smaller : goal.loop-k-smaller
-loop-k-smaller c = omega arith
 
 pub loop-k-preserved : goal.loop-k-preserved
 unfolding three_bytes
 loop-k-preserved c = let behind : (c.put_quantity-p.result ≡ c.args.at + length (bridge_bytes c.args.tempo c.loop-k.k ++ delta))
     × (c.put_quantity-p.new.out ≡ laid_over c.args.out.now c.args.at (bridge_bytes c.args.tempo c.loop-k.k ++ delta)) = let i = c.loop-k.invariant in
     let a = c.args in
-    let r = room-front a.out.now a.at a.tempo a.n c.loop-k.k c.loop-k-test.true c.requires in
+    let r = room-front a.out.now a.at a.tempo a.n c.loop-k.k (omega arith) c.requires in
     laid_then a.out.now a.at (bridge_bytes a.tempo c.loop-k.k) delta r _ _ i.1 i.0 _ _ c.put_quantity-p.ensures.value c.put_quantity-p.ensures.output in
     let a = c.args in
-    let r = room_for a.out.now a.at a.tempo a.n c.loop-k.k c.loop-k-test.true c.requires in
+    let r = room_for a.out.now a.at a.tempo a.n c.loop-k.k (omega arith) c.requires in
     let w = behind in
     let both = laid_then a.out.now a.at (bridge_bytes a.tempo c.loop-k.k ++ delta) (change a.tempo) r _ _ w.0 w.1 _ _ c.put_tempo-p.ensures.value c.put_tempo-p.ensures.output in
     let e = one_more a.tempo c.loop-k.k in
     let x = rw e at both.1 in
     let y = rw e at both.0 in
-    (rw (add-one) x, rw (add-one) y, ap length both.1 ∙ laid-length a.out.now a.at (bridge_bytes a.tempo c.loop-k.k ++ delta ++ change a.tempo) r, omega arith)
+    (rw (add-one) x, rw (add-one) y, ap length both.1 ∙ laid-length a.out.now a.at (bridge_bytes a.tempo c.loop-k.k ++ delta ++ change a.tempo) r)
 
 pub returns : goal.returns
 returns c = let l = c.loop-k in

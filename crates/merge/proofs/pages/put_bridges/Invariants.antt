@@ -7,7 +7,4 @@ use Rattle.merge.proofs.pages.put_bridges.Given as goal
 
 -- k bridges are put down
 abbrev pub invariant-loop-k : goal.invariant-loop-k
-invariant-loop-k l = (l.out ≡ laid_over l.initial.out l.at (bridge_bytes l.tempo l.k)) × (l.p ≡ l.at + length (bridge_bytes l.tempo l.k)) × (length l.out ≡ length l.initial.out) × (l.k ≤ l.n)
-
-abbrev pub decreases-loop-k : goal.decreases-loop-k
-decreases-loop-k l = l.n - l.k
+invariant-loop-k l = (l.out ≡ laid_over l.initial.out l.at (bridge_bytes l.tempo l.k)) × (l.p ≡ l.at + length (bridge_bytes l.tempo l.k)) × (length l.out ≡ length l.initial.out)

@@ -12,21 +12,21 @@ use Rattle.player.proofs.asking.held_in.Goals as goal
 pub loop-i-init : goal.loop-i-init
 unfolding count_to
 loop-i-init c = let e = c.args.e in
-    (paired-length e.sounding e.voices ∙ c.well_formed.0.1.1.0.1.0.1, refl, omega arith)
+    (paired-length e.sounding e.voices ∙ c.well_formed.0.1.1.0.1.0.1, refl)
 
 pub overflow_add-count : goal.overflow_add-count
 overflow_add-count c = let counted : c.loop-i.count + c.one_if_held-count.result
     ≡ count_to is_held (c.loop-i.i + 1) (slots_of c.args.e) = let ss = slots_of c.args.e in
-    let q = c.one_if_held-count.ensures ∙ ap (λ (s : Slot). cond (is_held s) 1 0) c.slot_of-s.ensures in
+    let q = c.one_if_held-count.ensures ∙ ap (λ (s : Slot). cond (is_held s) 1 0) c.slot_of.ensures in
     omega (arith, c.loop-i.invariant.1, q, count-step is_held ss c.loop-i.i (free blank) (omega (arith, c.loop-i.invariant.0))) in
     omega (arith, counted, count-le is_held (slots_of c.args.e) (c.loop-i.i + 1))
 
 pub loop-i-preserved : goal.loop-i-preserved
 loop-i-preserved c = let counted : c.loop-i.count + c.one_if_held-count.result
     ≡ count_to is_held (c.loop-i.i + 1) (slots_of c.args.e) = let ss = slots_of c.args.e in
-    let q = c.one_if_held-count.ensures ∙ ap (λ (s : Slot). cond (is_held s) 1 0) c.slot_of-s.ensures in
+    let q = c.one_if_held-count.ensures ∙ ap (λ (s : Slot). cond (is_held s) 1 0) c.slot_of.ensures in
     omega (arith, c.loop-i.invariant.1, q, count-step is_held ss c.loop-i.i (free blank) (omega (arith, c.loop-i.invariant.0))) in
-    (c.loop-i.invariant.0, counted, omega arith)
+    (c.loop-i.invariant.0, counted)
 
 pub returns : goal.returns
 returns c = let ss = slots_of c.args.e in

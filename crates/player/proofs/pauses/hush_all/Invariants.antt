@@ -1,10 +1,7 @@
 -- One channel a turn.
-use Rattle.std.proofs.Common.{◌≡◌, ◌-◌, ◌≤◌}
+use Rattle.std.proofs.Common.{◌≡◌}
 use Rattle.player.specs.Pauses.{hushed_to}
 use Rattle.player.proofs.pauses.hush_all.Given as goal
 
 abbrev pub invariant-loop-channel : goal.invariant-loop-channel
-invariant-loop-channel l = (l.x ≡ hushed_to l.channel l.initial.x) × (l.channel ≤ 16)
-
-abbrev pub decreases-loop-channel : goal.decreases-loop-channel
-decreases-loop-channel l = 16 - l.channel
+invariant-loop-channel l = l.x ≡ hushed_to l.channel l.initial.x

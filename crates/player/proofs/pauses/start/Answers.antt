@@ -14,4 +14,4 @@ pub returns : goal.returns
 unfolding started
 returns c = let q = c.open-o.ensures in
     let z = sym (ap (λ (o : Opening). eqb o.number 0) q) ∙ eq-eqb c.open-o.result.number 0 c.if-o-ne0.false in
-    simp (c.cue.ensures, c.next.ensures, c.with_engine-x.ensures, c.freshen_all.ensures, c.hush_all.ensures, q, z)
+    simp (c.cue.ensures, c.next.ensures, c.freshen_all.ensures, c.hush_all.ensures, q, z)

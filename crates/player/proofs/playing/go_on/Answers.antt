@@ -19,7 +19,7 @@ unfolding forward
 returns c = let a = c.args in
     let e = a.x.player.engine in
     record {
-      tally = simp (c.with_engine.ensures, c.play-y.ensures.state, c.wrapping_add_u32.ensures.value, ticked-some a.ram.now a.rom.now a.m e c.if-m-eq0.false);
+      tally = simp (c.with_engine.ensures, c.play-y.ensures.state, ticked-some a.ram.now a.rom.now a.m e c.if-m-eq0.false);
       output = ap (put_mid a.at (length a.out.now - a.at) a.out.now) c.play-y.ensures.output
           ∙ part-put a.at (2 * a.m) a.out.now (output a.ram.now a.rom.now e a.m) (omega (arith, c.requires.1));
     }

@@ -1,16 +1,26 @@
 -- A turn goes on to the next event, and applies it where frames are left.
-use Rattle.std.proofs.Common.{◌≡◌, ℕ, ◌+◌, ◌-◌, ◌*◌, ◌<◌, ◌≤◌, Bool, cond, ltb, List, ◌++◌, take, drop, sym, refl, ap, ◌∙◌, subst, ap₂, append_assoc, append-nil, arith, rules}
+use Rattle.std.proofs.Common.{◌≡◌, ℕ, ◌+◌, ◌-◌, ◌*◌, ◌<◌, ◌≤◌, Bool, true, false, cond, ltb, ltb-true, List, ◌++◌, take, drop, Option, None, Some, unwrap_or, sym, refl, ap, ◌∙◌, subst, ap₂, append_assoc, append-nil, arith, rules}
 use lib.Ieee.{Float}
 use Rattle.engine.specs.Rendering.{output}
+use Rattle.smf.specs.declared.Event.{Event}
 use Rattle.player.specs.declared.Tally.{Tally}
-use Rattle.player.specs.Cues.{gap_of}
+use Rattle.player.specs.Cues.{song_over, no_event, gap_of}
 use Rattle.player.specs.Playing.{opened, forward, applying, performed, numbers}
-use Rattle.player.proofs.CuesLaws.{left, gap-most, left-low}
-use Rattle.player.proofs.PlayingLaws.{left_behind, output-length, written_on, forward-counts, Bounded, turned, turn-after, turn-numbers, turn-less, turn-counts}
+use Rattle.player.proofs.CuesLaws.{left, gap-most, gap-less, left-low}
+use Rattle.player.proofs.PlayingLaws.{left_behind, output-length, written_on, forward-counts, forward-ended, Bounded, turned, turn-after, turn-numbers, turn-less, turn-counts}
 use Rattle.player.proofs.playing.play_on.Goals as goal
 
+-- the frame of the event that comes has 32 bits, of a player that is handed in and of one behind a turn
+low-given : (c : goal.After-open-x) (o : Option Event) → c.args.p.event ≡ o → (unwrap_or o no_event).frame < 4294967296
+low-given c None e = omega arith
+low-given c (Some v) e = let t = rw e at c.well_formed in omega (arith, t)
+
+low-after : (c : goal.After-apply_if-x) (o : Option Event) → c.apply_if-x.result.player.event ≡ o → (unwrap_or o no_event).frame < 4294967296
+low-after c None e = omega arith
+low-after c (Some v) e = let t = rw e at c.apply_if-x.type_inv in omega (arith, t)
+
 pub loop-k-init : goal.loop-k-init
-loop-k-init c = let low : Bounded c.args.p × (c.args.p.cursor.end < 4294967296) = (record { clock = omega arith; began = omega arith; frame = omega arith }, omega arith) in
+loop-k-init c = let low : Bounded c.args.p × (c.args.p.cursor.end < 4294967296) = (record { clock = omega arith; began = omega arith; frame = low-given c c.args.p.event refl }, omega arith) in
     let a = c.args in
     let o = c.open-x.ensures in
     let n : a.n ≡ a.n - 0 = omega arith in (
@@ -45,7 +55,13 @@ apply_if-x-requires c = let a = c.args in
     let f = forward-counts a.ram.now a.rom.now c.gap-m.result c.loop-k.x in
     let p = ap (λ (x : Tally). x.applied) c.go_on-x.ensures.tally in
     let r = ap (λ (x : Tally). x.refused) c.go_on-x.ensures.tally in
-    (omega (arith, p, f.0, i.0), omega (arith, p, r, f.0, f.1, i.1))
+    let q = c.loop-k.x.player in
+    let comes : (k m n : ℕ) → ltb (k + m) n ≡ true → k ≤ n → m ≡ gap_of q (n - k) → song_over q ≡ false =
+    λ (k m n : ℕ) (t : ltb (k + m) n ≡ true) (h : k ≤ n) (e : m ≡ gap_of q (n - k)). (gap-less q (n - k) (omega (arith, ltb-true (k + m) n t, e))).0 in (
+      λ t. ap (λ (x : Tally). song_over x.player) c.go_on-x.ensures.tally ∙ forward-ended a.ram.now a.rom.now c.gap-m.result c.loop-k.x ∙ comes c.loop-k.k c.gap-m.result a.n t c.loop-k.invariant.0 c.gap-m.ensures,
+      omega (arith, p, f.0, i.0),
+      omega (arith, p, r, f.0, f.1, i.1),
+    )
 
 pub loop-k-smaller : goal.loop-k-smaller
 loop-k-smaller c = let state : (let a = c.args in
@@ -67,7 +83,7 @@ loop-k-smaller c = let state : (let a = c.args in
     omega (arith, t, q, g, gap-most c.loop-k.x.player most)
 
 pub loop-k-preserved : goal.loop-k-preserved
-loop-k-preserved c = let low-next : Bounded c.apply_if-x.result.player = record { clock = omega (arith, c.apply_if-x.type_inv); began = omega (arith, c.apply_if-x.type_inv); frame = omega (arith, c.apply_if-x.type_inv) } in
+loop-k-preserved c = let low-next : Bounded c.apply_if-x.result.player = record { clock = omega (arith, c.apply_if-x.type_inv); began = omega (arith, c.apply_if-x.type_inv); frame = low-after c c.apply_if-x.result.player.event refl } in
     let state : (let a = c.args in
     let most = a.n - c.loop-k.k in
     let m = gap_of c.loop-k.x.player most in

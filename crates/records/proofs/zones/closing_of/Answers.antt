@@ -2,7 +2,6 @@
 use borrow.Author.Rules.{rules}
 use mathlib.Core.Path.{◌≡◌, sym, ap₂, ◌∙◌}
 use native.Mathlib.Omega.{arith}
-use Prim.Native.Nat.{◌-◌}
 use Rattle.records.specs.Looking.{first}
 use Rattle.records.proofs.LookingLaws.{first-none, first-miss, first-hit}
 use Rattle.records.specs.Zones.{has, closing_of}

@@ -3,7 +3,7 @@ use mathlib.Core.Path.{refl, sym, ◌∙◌}
 use native.Mathlib.Omega.{arith}
 use borrow.Author.Tests.{eq-eqb, ne_eqb}
 use Prim.Native.Nat.{◌<◌}
-use Rattle.riff.specs.Chunks.{sought_at}
+use Rattle.riff.specs.Internal.Chunks.{sought_at}
 use Rattle.riff.proofs.ChunksLaws.{next-in, first-further, first-none, first-here}
 use Rattle.riff.proofs.chunks.first.Goals as goal
 

@@ -4,18 +4,14 @@ use borrow.Author.Tests.{lt-ltb, le-ltb}
 use Rattle.smf.specs.Items.{exclusive_at}
 use Rattle.smf.proofs.items.exclusive_at.Goals as goal
 
-pub returns-then-edge-behind : goal.returns-then-edge-behind
+pub returns-then-edge-q : goal.returns-then-edge-q
 unfolding exclusive_at
-returns-then-edge-behind c = let q = c.quantity_at-q in
-    let e = sym q.ensures.0 ∙ c.in-Good.is in
-    rw (e, exclusive_at, lt-ltb _ _ c.if-edge-behind.true) refl
+returns-then-edge-q c = rw (sym c.quantity_at.ensures.0 ∙ c.in-Some.is, exclusive_at, lt-ltb _ _ c.if-edge-q.true) refl
 
-pub returns-in-Bad : goal.returns-in-Bad
+pub returns-in_default : goal.returns-in_default
 unfolding exclusive_at
-returns-in-Bad c = rw (sym c.quantity_at-q.ensures.0 ∙ c.in-Bad.is, exclusive_at) refl
+returns-in_default c = rw (sym c.quantity_at.ensures.0 ∙ c.in_default.is, exclusive_at) refl
 
-pub returns-else-edge-behind : goal.returns-else-edge-behind
+pub returns : goal.returns
 unfolding exclusive_at
-returns-else-edge-behind c = let q = c.quantity_at-q in
-    let e = sym q.ensures.0 ∙ c.in-Good.is in
-    rw (e, exclusive_at, le-ltb _ _ c.if-edge-behind.false) refl
+returns c = rw (sym c.quantity_at.ensures.0 ∙ c.in-Some.is, exclusive_at, le-ltb _ _ c.if-edge-q.false) refl

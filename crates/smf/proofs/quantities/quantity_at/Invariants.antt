@@ -6,7 +6,4 @@ use Rattle.smf.proofs.quantities.quantity_at.Given as goal
 
 -- of four bytes the rest is read, behind the bits of the first n
 abbrev pub invariant-loop-n : goal.invariant-loop-n
-invariant-loop-n l = (quantity_at l.b l.edge l.at ≡ quantity_from (4 - l.n) l.b l.edge l.p l.value) × (l.n ≤ 4) × (l.value < 128 ^ l.n)
-
-abbrev pub decreases-loop-n : goal.decreases-loop-n
-decreases-loop-n l = 4 - l.n
+invariant-loop-n l = (quantity_at l.b l.edge l.at ≡ quantity_from (4 - l.n) l.b l.edge l.p l.value) × (l.value < 128 ^ l.n)

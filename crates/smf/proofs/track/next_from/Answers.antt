@@ -42,15 +42,15 @@ loop-c-preserved c = let b = c.args.b.now in
 pub enum_known-m-in-Given-1 : goal.enum_known-m-in-Given-1
 enum_known-m-in-Given-1 c = c.in-Given.in-Given-own.keys4
 
-pub event_of-event-requires : goal.event_of-event-requires
-event_of-event-requires c = let b = c.args.b.now in
+pub event_of-requires : goal.event_of-requires
+event_of-requires c = let b = c.args.b.now in
     let f = (meet-given b c.loop-c.c _ _ (sym c.meet_at-m.ensures ∙ c.in-Given.is)).0 in
     rw f.same-division f.early
 
 pub returns-in-Given : goal.returns-in-Given
 returns-in-Given c = let b = c.args.b.now in
     let e = sym c.meet_at-m.ensures ∙ c.in-Given.is in
-    rw c.event_of-event.ensures (sym (c.loop-c.invariant.0 ∙ next-given b c.loop-c.c _ _ e))
+    rw c.event_of.ensures (sym (c.loop-c.invariant.0 ∙ next-given b c.loop-c.c _ _ e))
 
 pub returns : goal.returns
 returns c = let b = c.args.b.now in

@@ -78,7 +78,7 @@ returns c = let w = c.args.w.now in
     let e = c.enter-e.ensures.0 in
     let t = sym (ap (dead v) e) ∙ sym c.is_dead.ensures ∙ c.if-is_dead.false in
     let u = sym (ap waiting e) ∙ sym c.is_waiting.ensures ∙ c.if-is_waiting.false in
-    let loudness = rw (w-back w64 c.requires.1 (lit< tt)) at c.loud_of-u.ensures.0 ∙ ap (loud l w v) e in
+    let loudness = rw (w-back w64 c.requires (lit< tt)) at c.loud_of-u.ensures.0 ∙ ap (loud l w v) e in
     let back = w-back w64 c.loud_of-u.ensures.1 (lit< tt) in
     let inside = subst (λ (q : ℤ). Within q 16777216) loudness (w_le c.loud_of-u.ensures.1 (lit≤ tt)) in
     let pan = to_z-of_z {w = w16} {z = v.pan} (sfits_of c.well_formed.1.1.1.1.0.1.1.1.0.1.1.1.1.1.1.1.1.1.1.1.1.1.1.1.1.1.0.1) in

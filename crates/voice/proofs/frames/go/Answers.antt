@@ -44,7 +44,7 @@ returns-then-m-gt0 c = let on : c.args.s ≡ sounds c.args.s.voice = ap (λ (b :
 
 pub onward-r-requires : goal.onward-r-requires
 onward-r-requires c = let p = c.requires.sums in
-    record { tables = c.requires.tables; loss = rw (w-back w64 c.requires.loss (lit< tt)) c.requires.loss; enters = sym c.enter-e.ensures.0; sums = (p.1, p.2) }
+    record { loss = rw (w-back w64 c.requires.loss (lit< tt)) c.requires.loss; enters = sym c.enter-e.ensures.0; sums = (p.1, p.2) }
 
 -- frames of which none went add nothing
 nothing-added : (st : ℕ) (l : ℤ) (w : List ℤ) (k : ℕ) (v : Voice) (acc after : List ℤ) (m : ℕ) → after ≡ add_at (2 * k) (heard_at st l w m (sounds v)) acc → m ≡ 0 → after ≡ acc
@@ -55,7 +55,7 @@ nothing-added st l w k v acc after m s e =
 pub one-requires : goal.one-requires
 one-requires c = let none = nothing-added c.args.st c.args.l c.args.w.now c.args.k c.args.s.voice c.args.acc.now c.onward-r.new.acc c.onward-r.result.frames (rw (w-back w64 c.requires.loss (lit< tt)) at c.onward-r.ensures.sums) in
     let p = c.requires.sums in
-    record { tables = c.requires.tables; loss = rw (w-back w64 c.requires.loss (lit< tt)) c.requires.loss; sums = rw (none c.if-r-eq0.true) (omega (arith, p.0, p.1), p.2) }
+    record { loss = rw (w-back w64 c.requires.loss (lit< tt)) c.requires.loss; sums = rw (none c.if-r-eq0.true) (omega (arith, p.0, p.1), p.2) }
 
 pub returns-then-r-eq0 : goal.returns-then-r-eq0
 returns-then-r-eq0 c = let none = nothing-added c.args.st c.args.l c.args.w.now c.args.k c.args.s.voice c.args.acc.now c.onward-r.new.acc c.onward-r.result.frames (rw (w-back w64 c.requires.loss (lit< tt)) at c.onward-r.ensures.sums) in

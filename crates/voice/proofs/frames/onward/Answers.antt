@@ -41,7 +41,7 @@ roomy v s (suc m) a h d r k z = room v s m a h d r (k m (omega arith))
 pub ring-requires : goal.ring-requires
 ring-requires c = let y = c.way_of-way.ensures.size in
     let b = w-back w64 c.requires.loss (lit< tt) in
-    record { tables = c.requires.tables; loss = rw b c.requires.loss; sides = (c.sides_of-sides.ensures.1, c.sides_of-sides.ensures.3); way = (y.0, y.1, y.2); sums = (omega (arith, c.few.ensures.0, c.requires.sums.0), c.requires.sums.1) }
+    record { loss = rw b c.requires.loss; sides = (c.sides_of-sides.ensures.1, c.sides_of-sides.ensures.3); way = (y.0, y.1, y.2); sums = (omega (arith, c.few.ensures.0, c.requires.sums.0), c.requires.sums.1) }
 
 pub returns-then-count-eq0 : goal.returns-then-count-eq0
 returns-then-count-eq0 c = let counts : (c.args.v.attack < 4294967296) × (c.args.v.hold < 4294967296) × (c.args.v.decay < 4294967296) × (c.args.v.release < 4294967296) = (omega arith, omega arith, omega arith, omega arith) in

@@ -45,7 +45,6 @@ go-f-requires c = let a = c.args in
     let x : length xs ≡ 2 * c.loop-k.k = heard-length a.st z a.w.now c.loop-k.k a.s0 in
     let t = c.loop-k-test.true in
     record {
-      tables = c.requires.tables;
       loss = rw (w-back w64 c.requires.loss (lit< tt)) c.requires.loss;
       sounding = not-false c.loop-k.s.sounding c.if-not-s.false;
       sums = (

@@ -84,7 +84,7 @@ cb_in-e-requires c = let value : ℕ = c.loop-m.c.value in
 
 pub regain-known-requires : goal.regain-known-requires
 regain-known-requires c = let b = w-back w64 c.requires.loss (lit< tt) in
-    record { tables = c.requires.tables; loss = (rw b c.requires.loss, c.cb_in-e.ensures.1); known = (c.loop-m.invariant.4, c.loop-m.invariant.5) }
+    record { loss = (rw b c.requires.loss, c.cb_in-e.ensures.1); known = (c.loop-m.invariant.4, c.loop-m.invariant.5) }
 
 pub rung_at-u-requires : goal.rung_at-u-requires
 rung_at-u-requires c = let value : ℕ = c.loop-m.c.value in

@@ -24,7 +24,7 @@ returns c = let v = c.args.v in
     let read : c.read-x.result ≡ reading (folds v s) v.loopfrom v.loopto c.args.w.now v.place =
     c.read-x.ensures.0 ∙ ap (λ (b : Bool). reading b v.loopfrom v.loopto c.args.w.now v.place) c.is_folding-f.ensures in
     let loss : c.total_of-a.result ≡ whole_loss c.args.l (envelope v s) =
-    rw (w-back w64 c.requires.1 (lit< tt)) at c.total_of-a.ensures ∙ ap (whole_loss c.args.l) c.envelope_of.ensures.0 in
+    rw (w-back w64 c.requires (lit< tt)) at c.total_of-a.ensures ∙ ap (whole_loss c.args.l) c.envelope_of.ensures.0 in
     let gain : c.gain.result ≡ gain_of (whole_loss c.args.l (envelope v s)) = c.gain.ensures.0 ∙ ap gain_of loss in
     let scaled = rw x at c.scaled_by-u.ensures.0 ∙ ap₂ (λ (y : ℤ) (z : ℕ). floor_z (y *ℤ pos z) 65536) read gain in (
       rw (w-back w64 c.shape.ensures.1 (lit< tt)) (rw u at c.shape.ensures.0 ∙ ap (shaped v s) scaled),

@@ -13,7 +13,7 @@ returns-then-sums-eq1 c = let a = c.args in
     let zs = a.sums.now in
     let out = a.out.now in
     let r = sums-refused a.attenuation zs out 13 (sums-13 zs (length out) c.if-sums-eq1.true) refl in
-    record { value = c.refuse.ensures ∙ r.0; output = r.1 }
+    record { value = r.0; output = r.1 }
 
 pub returns-then-out-sums : goal.returns-then-out-sums
 returns-then-out-sums c = let a = c.args in
@@ -21,7 +21,7 @@ returns-then-out-sums c = let a = c.args in
     let out = a.out.now in
     let few = c.if-out-sums.true in
     let r = sums-refused a.attenuation zs out 15 (sums-15 zs (length out) (not-odd (length zs) c.if-sums-eq1.false) (omega (arith, few))) refl in
-    record { value = c.refuse-then-out-sums.ensures ∙ r.0; output = r.1 }
+    record { value = r.0; output = r.1 }
 
 pub fill-requires : goal.fill-requires
 fill-requires c = let enough = c.if-out-sums.false in

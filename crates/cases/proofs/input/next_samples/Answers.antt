@@ -1,9 +1,0 @@
--- The room and the place go on, and the lengths of the room and of what is lent stay.
-use Rattle.std.proofs.Common.{◌-◌, arith, length-set}
-use Rattle.cases.proofs.input.next_samples.Goals as goal
-
-pub loop-i-smaller : goal.loop-i-smaller
-loop-i-smaller c = simp length-set (omega arith)
-
-pub loop-i-preserved : goal.loop-i-preserved
-loop-i-preserved c = simp length-set (omega arith, omega arith, omega arith)

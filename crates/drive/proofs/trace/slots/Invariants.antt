@@ -1,9 +1,0 @@
--- The slots are those below 32.
-use Prim.Native.Nat.{◌≤◌, ◌-◌}
-use Rattle.drive.proofs.trace.slots.Given as goal
-
-abbrev pub invariant-loop-i : goal.invariant-loop-i
-invariant-loop-i l = l.i ≤ 32
-
-abbrev pub decreases-loop-i : goal.decreases-loop-i
-decreases-loop-i l = 32 - l.i

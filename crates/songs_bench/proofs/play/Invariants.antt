@@ -1,9 +1,0 @@
--- As many rounds as asked.
-use Rattle.std.proofs.Common.{◌-◌, ◌≤◌}
-use Rattle.songs_bench.proofs.play.Given as goal
-
-abbrev pub invariant-loop-i : goal.invariant-loop-i
-invariant-loop-i l = l.i ≤ l.rounds
-
-abbrev pub decreases-loop-i : goal.decreases-loop-i
-decreases-loop-i l = l.rounds - l.i
