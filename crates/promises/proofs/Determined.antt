@@ -8,7 +8,7 @@ use mathlib.Core.Bool.{Bool}
 use Rattle.promises.specs.Determined.{Settles, Outcome, Ends}
 use Rattle.std.specs.Prelude.{Result, Ok, Err, Option}
 use Rattle.state.specs.Answers.{Answered, status_of}
-use Rattle.state.proofs.ToldLaws.{answered-apart}
+use Rattle.state.proofs.ToldLaws.{call-told-apart, status-told-apart}
 use Rattle.state.specs.declared.Refusal.{Refusal}
 use Rattle.voice.specs.declared.Shown.{Shown}
 use Rattle.state.specs.declared.Engine.{Engine}
@@ -55,8 +55,11 @@ outcome a l = record { answer = a; output = l }
 pub calls-determined : D.CallsDetermined
 calls-determined x e o p h k = ap₂ outcome (h.0 ∙ sym k.0) (h.1 ∙ sym k.1)
 
-pub answered-tells-apart : D.AnsweredTells
-answered-tells-apart r s e f h = (answered-apart r s e f h, ap (λ (x : Answered). x.engine) h)
+pub told-call-apart : D.ToldCallApart
+told-call-apart r s e f h = (call-told-apart r s e f h, ap (λ (x : Answered). x.engine) h)
+
+pub told-status-apart : D.ToldStatusApart
+told-status-apart = status-told-apart
 
 pub status-determined : D.StatusDetermined
 status-determined a = equation ℕ (status_of a)
