@@ -80,10 +80,7 @@ impl<'a> Loan<'a> {
         ram: &'a mut [i16],
         rom: &'a mut [i16],
     ) -> Loan<'a>
-        ensures bank { result.bank ≡ record { items = bank.entry; held = 0; lent = 0 } }
-        ensures song { result.song ≡ record { items = song.entry; held = 0; lent = 0 } }
-        ensures ram { result.ram ≡ record { items = ram.entry; held = 0; lent = 0 } }
-        ensures rom { result.rom ≡ record { items = rom.entry; held = 0; lent = 0 } }
+        ensures { result ≡ record { bank = record { items = bank.entry; held = 0; lent = 0 }; song = record { items = song.entry; held = 0; lent = 0 }; ram = record { items = ram.entry; held = 0; lent = 0 }; rom = record { items = rom.entry; held = 0; lent = 0 } } }
     {
         Loan {
             bank: Held::nothing(bank),

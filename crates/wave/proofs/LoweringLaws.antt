@@ -4,7 +4,7 @@ use mathlib.Core.Bool.{Bool, true, false, cond, ◌||◌}
 use mathlib.Core.List.{List, [], ◌∷◌, ◌++◌, append-nil}
 use mathlib.Core.Logic.{inl, inr}
 use Prim.Native.Nat.{ℕ, zero, suc, ◌+◌, ◌*◌, ◌/◌, ◌%◌, ◌≤◌, ◌<◌, max, min}
-use native.Mathlib.Nat.{not-suc-le-zero, eq-zero-or-pos, div-lt_iff_lt-mul, le_antisymm, le_trans, le-max_left, le-max_right, max-le, max-zero, zero-max, add_assoc}
+use native.Mathlib.Nat.{not-suc-le-zero, eq-zero-or-pos, le_antisymm, le_trans, le-max_left, le-max_right, max-le, max-zero, zero-max, add_assoc}
 use native.Mathlib.Numerals.{add-one}
 use native.Mathlib.Omega.{arith}
 use borrow.Author.Tests.{eq-eqb, le-leb, lt-leb, lt-ltb, le-ltb}
@@ -120,16 +120,6 @@ pub past-high : (k : ℤ) → lt_z k (negsuc 8388607) ≡ false → lt_z (pos 83
 unfolding is_past
 past-high k e = rw e refl
 
--- a frame counts once, whichever of its sums is past the range
-pub left-counts : (a b : Bool) → a ≡ true → ◌≡◌ {A = ℕ} 1 (cond (a || b) 1 0)
-left-counts a b e = rw e refl
-
-pub right-counts : (a b : Bool) → a ≡ false → b ≡ true → ◌≡◌ {A = ℕ} 1 (cond (a || b) 1 0)
-right-counts a b e f = rw (e, f) refl
-
-pub none-counts : (a b : Bool) → a ≡ false → b ≡ false → ◌≡◌ {A = ℕ} 0 (cond (a || b) 1 0)
-none-counts a b e f = rw (e, f) refl
-
 -- 1 or 0
 pub at_most_one : (b : Bool) → cond b 1 0 ≤ 1
 at_most_one true = omega arith
@@ -212,7 +202,3 @@ none_needed size h = rw (le-leb size 8388608 h) refl
 pub some-needed : (size : ℕ) → 8388608 < size → least_cb (140737488355328 / size) ≡ attenuation_for size
 unfolding attenuation_for
 some-needed size h = rw (lt-leb size 8388608 h) refl
-
--- the level that it has to reach is a number of 32 bits
-pub level-lt : (size : ℕ) → 8388608 < size → 140737488355328 / size < 4294967296
-level-lt size h = (div-lt_iff_lt-mul {k = size} {x = 140737488355328} {y = 4294967296} (omega (arith, h))).1 (omega (arith, h))

@@ -1,17 +1,16 @@
 -- Bytes that are the same, and the 16-bit numbers of bytes.
-use mathlib.Core.Path.{◌≡◌, refl, sym, ap, ap₂, ◌∙◌, subst}
+use mathlib.Core.Path.{◌≡◌, refl, sym, ap, ◌∙◌, subst}
 use borrow.Author.Tests.{eq-eqb, eqb-true, le-leb, le-ltb, lt-leb, lt-ltb, ne_eqb}
 use mathlib.Core.Bool.{Bool, true, false, ◌&&◌, and-false, true≢false}
 use mathlib.Core.List.{List, [], ◌∷◌, ◌++◌}
 use Prim.Native.Nat.{ℕ, zero, suc, ◌+◌, ◌-◌, ◌*◌, ◌/◌, ◌%◌, ◌≤◌, ◌<◌}
 use native.Mathlib.Nat.{lt_irrefl, not-suc-le-zero}
-use native.Mathlib.Numerals.{add-one}
 use native.Mathlib.Omega.{arith}
 use lib.Dec.{T, eqb, eqb→eq, leb, leb→le}
 use lib.Ieee.Fits.{and_l, and_r}
 use lib.IntN.{ℤ}
 use lib.ListN.{length, get_or, take, drop, length-drop}
-use lib.Seq.{get_or-drop, take-suc}
+use lib.Seq.{get_or-drop}
 use mir.Syntax.{w16}
 use mir.Val.{to_z}
 use Rattle.arith.specs.Bytes.{u8_at, u16_at}
@@ -86,11 +85,6 @@ taken-frames file t =
     leb→le (frames_in file) most_frames
     (and_r (eqb (length file) (44 + 4 * frames_in file)) (leb (frames_in file) most_frames)
     (and_l (eqb (length file) (44 + 4 * frames_in file) && leb (frames_in file) most_frames) (same_bytes (take 44 file) (heading_of (frames_in file))) t))
-
--- a turn of the comparison: one byte more is the same
-pub same_turn : (xs ys : List ℕ) (i : ℕ) → take i xs ≡ take i ys → get_or xs i 0 ≡ get_or ys i 0 → i < length xs → i < length ys → take (i + 1) xs ≡ take (i + 1) ys
-same_turn xs ys i e x h l =
-    rw (add-one, take-suc xs i 0 h, take-suc ys i 0 l) (ap₂ (λ (t : List ℕ) (b : ℕ). t ++ (b ∷ [])) e x)
 
 -- ---- the tests of a file, one after the other
 

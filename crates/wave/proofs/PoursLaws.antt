@@ -13,7 +13,6 @@ use lib.Ieee.{Float, nan}
 use lib.IntN.{ℤ, pos, negsuc}
 use lib.ListN.{length, get_or, set, take, drop, length-append, take-append-drop}
 use lib.Seq.{length-take-le, take-suc}
-use Rattle.arith.proofs.Loops.{any-turn}
 use Rattle.arith.proofs.Put.{put, put2}
 use Rattle.arith.specs.Floors.{mod_z}
 use Rattle.arith.specs.Lists.{any_of}
@@ -112,10 +111,6 @@ pub other_at : (xs : List Float) (i : ℕ) → is_output (get_or xs i nan) ≡ f
 other_at [] i e h = absurd (not-suc-le-zero h)
 other_at (x ∷ xs) zero e h = ap (λ (b : Bool). not b || any_of is_other xs) e
 other_at (x ∷ xs) (suc i) e h = ap (λ (b : Bool). is_other x || b) (other_at xs i e (le_of_suc-le-suc h)) ∙ or-true (is_other x)
-
--- a turn of the search: one output number more
-pub none-turn : (xs : List Float) (i : ℕ) → any_of is_other (take i xs) ≡ false → is_output (get_or xs i nan) ≡ true → i < length xs → any_of is_other (take (i + 1) xs) ≡ false
-none-turn xs i e o h = any-turn is_other xs i nan h ∙ ap₂ ◌||◌ e (ap not o)
 
 -- ---- the answers of `pour`
 

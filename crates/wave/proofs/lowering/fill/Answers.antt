@@ -1,25 +1,19 @@
 -- The bytes of the first i sums stand in front, two for each.
 use mathlib.Core.Path.{◌≡◌, refl, ap, ◌∙◌}
-use mathlib.Core.List.{List, ◌++◌}
+use mathlib.Core.List.{List}
 use native.Mathlib.Omega.{arith}
-use Prim.Native.Nat.{ℕ, ◌+◌, ◌*◌, ◌/◌, ◌%◌, ◌<◌}
+use Prim.Native.Nat.{ℕ, ◌+◌, ◌*◌, ◌/◌, ◌%◌}
 use lib.IntN.{ℤ, pos}
-use lib.ListN.{length, get_or, set, take, drop, length-set}
-use lib.Seq.{lt-length-set, take-length}
+use lib.ListN.{get_or, set, length-set}
 use mir.Facts.{to_z-of_z}
 use mir.Syntax.{w32}
 use mir.Val.{to_z, of_z}
-use Rattle.wave.specs.Lowering.{poured_sums, sum_word}
+use Rattle.wave.specs.Lowering.{sum_word}
 use Rattle.wave.proofs.LoweringLaws.{sums_none, sums-turn}
 use Rattle.wave.proofs.lowering.fill.Goals as goal
 
 pub loop-i-init : goal.loop-i-init
 loop-i-init c = let a = c.args in (refl, sums_none a.g a.sums.now a.out.now)
-
-pub bounds-out-i-in-loop-i : goal.bounds-out-i-in-loop-i
-bounds-out-i-in-loop-i c = let len : length c.loop-i.out ≡ length c.args.out.now = c.loop-i.invariant.0 in
-    let inside : c.loop-i.i < length c.args.sums.now = omega arith in
-    lt-length-set c.loop-i.out (2 * c.loop-i.i) (c.word-w.result % 256) (omega (arith, len, inside, c.requires.room))
 
 pub loop-i-preserved : goal.loop-i-preserved
 loop-i-preserved c = let xs = c.args.sums.now in
@@ -32,14 +26,3 @@ loop-i-preserved c = let xs = c.args.sums.now in
       ap (λ (o : List ℕ). set (set o (2 * i) (w % 256)) (2 * i + 1) (w / 256)) c.loop-i.invariant.1
           ∙ sums-turn c.args.g xs d i w (omega arith) c.requires.room (c.word-w.ensures ∙ ap (λ (z : ℤ). sum_word c.args.g z) one),
     )
-
-pub shape_of-out : goal.shape_of-out
-shape_of-out c = c.loop-i.invariant.0
-
-pub returns : goal.returns
-returns c = let xs = c.args.sums.now in
-    let d = c.args.out.now in
-    let all : c.loop-i.i ≡ length xs = omega arith in
-    c.loop-i.invariant.1
-    ∙ ap (λ (j : ℕ). poured_sums c.args.g (take j xs) ++ drop (2 * j) d) all
-    ∙ ap (λ (t : List ℤ). poured_sums c.args.g t ++ drop (2 * length xs) d) (take-length xs)

@@ -1,27 +1,18 @@
 -- The held ones of the first k frames are counted.
-use mathlib.Core.Path.{◌≡◌, ap, ap₂, sym, ◌∙◌}
+use mathlib.Core.Path.{◌≡◌, ap₂, sym, ◌∙◌}
 use native.Mathlib.Omega.{arith}
-use Prim.Native.Nat.{ℕ, ◌+◌, ◌*◌}
+use Prim.Native.Nat.{◌+◌, ◌*◌}
 use mathlib.Core.Bool.{cond}
 use lib.IntN.{ℤ, pos}
-use lib.ListN.{length, get_or, take}
-use lib.Seq.{take-length}
+use lib.ListN.{get_or}
 use mir.Facts.{to_z-of_z}
 use mir.Syntax.{w32}
 use mir.Val.{to_z, of_z}
-use Rattle.wave.specs.Lowering.{frames_past}
 use Rattle.wave.proofs.LoweringLaws.{at_most_one, either_past, past-none, past-turn}
 use Rattle.wave.proofs.lowering.frames_past.Goals as goal
 
 pub loop-k-init : goal.loop-k-init
 loop-k-init c = (past-none c.args.g c.args.sums.now, omega arith, omega (arith, c.requires.0))
-
-pub overflow_add-count : goal.overflow_add-count
-overflow_add-count c = let a = c.args in
-    let x = get_or a.sums.now (2 * c.loop-k.k) (pos 0) in
-    let y = get_or a.sums.now (2 * c.loop-k.k + 1) (pos 0) in
-    let e = c.one_if_past-count.ensures in
-    record { fits = omega (arith, e, at_most_one (either_past a.g (to_z w32 (of_z w32 x)) (to_z w32 (of_z w32 y))), c.loop-k.invariant.1, c.loop-k.invariant.2) }
 
 pub loop-k-preserved : goal.loop-k-preserved
 loop-k-preserved c = let a = c.args in
@@ -36,9 +27,3 @@ loop-k-preserved c = let a = c.args in
       omega (arith, e, at_most_one (either_past a.g x y), c.loop-k.invariant.1),
       c.loop-k.invariant.2,
     )
-
-pub returns : goal.returns
-returns c = let a = c.args in
-    let xs = a.sums.now in
-    let all : 2 * c.loop-k.k ≡ length xs = omega (arith, c.loop-k.invariant.2) in
-    c.loop-k.invariant.0 ∙ ap (λ (j : ℕ). frames_past a.g (take j xs)) all ∙ ap (frames_past a.g) (take-length xs)

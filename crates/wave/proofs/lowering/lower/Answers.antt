@@ -1,10 +1,10 @@
 -- floor(z * g / 2^24) and its bound, by the signed expression.
-use lib.Dec.{lit≤, lit<}
+use lib.Dec.{lit≤}
 use mir.Facts.{to_z-of_z}
 use mir.Syntax.{w32, w64}
 use mathlib.Core.List.{List, [], ◌∷◌}
-use Rattle.arith.proofs.WithinLaws.{w_fits, w-nat, w_le, w-of}
-use Rattle.arith.proofs.Expressions.{E, Var, var, mul, shr, given, fits, back, within}
+use Rattle.arith.proofs.WithinLaws.{w-nat, w_le, w-of}
+use Rattle.arith.proofs.Expressions.{E, Var, var, mul, shr, given, back, within}
 use Rattle.wave.specs.Lowering.{lowered_by}
 use Rattle.wave.proofs.lowering.lower.Goals as goal
 
@@ -13,13 +13,6 @@ product = mul (var 0) (var 1)
 
 abbrev whole : E
 whole = shr product 24
-
-pub overflow_cast-result : goal.overflow_cast-result
-overflow_cast-result c = rw (to_z-of_z c.ranges.z) (w_fits w64 (w-of w32 c.ranges.z) (lit< tt))
-
-pub overflow_mul-result : goal.overflow_mul-result
-overflow_mul-result c = let env : List Var = given (w-of w32 c.ranges.z) ∷ given (w-nat c.requires) ∷ [] in
-    rw (to_z-of_z c.ranges.z) (fits w64 (env) product tt)
 
 pub returns : goal.returns
 unfolding lowered_by

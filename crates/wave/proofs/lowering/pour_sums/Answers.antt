@@ -23,13 +23,6 @@ returns-then-out-sums c = let a = c.args in
     let r = sums-refused a.attenuation zs out 15 (sums-15 zs (length out) (not-odd (length zs) c.if-sums-eq1.false) (omega (arith, few))) refl in
     record { value = r.0; output = r.1 }
 
-pub fill-requires : goal.fill-requires
-fill-requires c = let enough = c.if-out-sums.false in
-    record { g_bound = c.gain-g.ensures.1; room = omega (arith, enough) }
-
-pub frames_past-requires : goal.frames_past-requires
-frames_past-requires c = (not-odd (length c.args.sums.now) c.if-sums-eq1.false, c.gain-g.ensures.1)
-
 pub returns : goal.returns
 returns c = let a = c.args in
     let zs = a.sums.now in

@@ -1,5 +1,5 @@
 -- The 16-bit number of the sum, lowered and held.
-use mathlib.Core.Path.{◌≡◌, ap, sym, subst, ◌∙◌}
+use mathlib.Core.Path.{◌≡◌, ap, ◌∙◌}
 use lib.Dec.{lit<}
 use lib.IntN.{ℤ, pos, negsuc}
 use mir.Facts.{to_z-of_z}
@@ -7,15 +7,10 @@ use mir.Syntax.{w32}
 use mir.Val.{to_z, of_z}
 use Rattle.arith.specs.Floors.{mod_z}
 use Rattle.arith.specs.Holds.{held_to}
-use Rattle.arith.specs.Within.{Within}
 use Rattle.arith.proofs.WithinLaws.{w-back}
 use Rattle.wave.specs.Lowering.{lowered_by, sum_word}
 use Rattle.wave.specs.Pcm.{pcm_of_k}
 use Rattle.wave.proofs.lowering.word.Goals as goal
-
-pub word-requires : goal.word-requires
-word-requires c = let read : to_z w32 (of_z w32 c.clip.result) ≡ c.clip.result = w-back w32 c.clip.ensures.1 (lit< tt) in
-    subst (λ (k : ℤ). Within k 8388608) (sym (read)) c.clip.ensures.1
 
 pub returns : goal.returns
 unfolding sum_word

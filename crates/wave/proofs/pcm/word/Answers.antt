@@ -1,7 +1,7 @@
 -- By its sign and its size.
-use mathlib.Core.Path.{◌≡◌, ap, ap₂, sym, subst, ◌∙◌}
+use mathlib.Core.Path.{◌≡◌, ap, ap₂, ◌∙◌}
 use mathlib.Core.Bool.{Bool}
-use Prim.Native.Nat.{ℕ, ◌≤◌}
+use Prim.Native.Nat.{ℕ}
 use lib.IntN.{ℤ, pos, nat_abs}
 use lib.Signed.{lt_z}
 use mir.Facts.{to_z-of_z}
@@ -10,10 +10,6 @@ use mir.Val.{to_z, of_z}
 use Rattle.wave.specs.Internal.Pcm.{word_of}
 use Rattle.wave.proofs.LoweringLaws.{word-signed}
 use Rattle.wave.proofs.pcm.word.Goals as goal
-
-pub word_of-requires : goal.word_of-requires
-word_of-requires c = let size_is : c.size.result ≡ nat_abs c.args.k = c.size.ensures ∙ ap nat_abs (to_z-of_z c.ranges.k) in
-    subst (λ (n : ℕ). n ≤ 8388608) (sym (size_is)) c.requires.within
 
 pub returns : goal.returns
 returns c = let size_is : c.size.result ≡ nat_abs c.args.k = c.size.ensures ∙ ap nat_abs (to_z-of_z c.ranges.k) in

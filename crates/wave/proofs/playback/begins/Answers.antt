@@ -1,27 +1,19 @@
 -- The first i bytes are the heading's.
 use mathlib.Core.List.{List}
-use mathlib.Core.Path.{◌≡◌, refl, ap, subst, sym, ◌∙◌}
+use mathlib.Core.Path.{◌≡◌, ap, subst, sym, ◌∙◌}
 use Prim.Native.Nat.{ℕ, ◌<◌}
 use native.Mathlib.Nat.{le_of_eq}
 use native.Mathlib.Omega.{arith}
 use lib.ListN.{take}
 use lib.Seq.{get_or-take, take_all}
 use Rattle.wave.specs.Playback.{same_bytes}
-use Rattle.wave.proofs.PlaybackLaws.{differ-at, same_refl, same_turn}
+use Rattle.wave.proofs.PlaybackLaws.{differ-at, same_refl}
 use Rattle.wave.proofs.playback.begins.Goals as goal
-
-pub loop-i-init : goal.loop-i-init
-loop-i-init c = refl
 
 pub returns-then-file-i : goal.returns-then-file-i
 returns-then-file-i c = let i = c.loop-i.i in
     let inside : i < 44 = omega arith in
     differ-at (take 44 c.args.file.now) c.args.head.now i 0 (λ e. c.if-file-i.true (sym (get_or-take 44 c.args.file.now i 0 inside) ∙ e))
-
-pub loop-i-preserved : goal.loop-i-preserved
-loop-i-preserved c = let i = c.loop-i.i in
-    let inside : i < 44 = omega arith in
-    same_turn c.args.file.now c.args.head.now i c.loop-i.invariant c.if-file-i.false (omega (arith, inside, c.requires.room)) (omega (arith, inside, c.requires.whole))
 
 pub returns : goal.returns
 returns c = let xs = c.args.file.now in let ys = c.args.head.now in

@@ -1,5 +1,5 @@
 -- The first i numbers are the file's, the others as they were.
-use mathlib.Core.Path.{◌≡◌, refl, ap, ap₂, ◌∙◌}
+use mathlib.Core.Path.{◌≡◌, ap, ap₂, ◌∙◌}
 use mathlib.Core.List.{List, ◌++◌}
 use Prim.Native.Nat.{ℕ, ◌≤◌, ◌<◌, ◌-◌, ◌*◌, ◌/◌}
 use native.Mathlib.Nat.{le_of_eq}
@@ -18,32 +18,8 @@ use Rattle.wave.proofs.playback.fill.Goals as goal
 pub overflow_sub-count : goal.overflow_sub-count
 overflow_sub-count c = let whole = taken-length c.args.file.now c.requires.t in omega (arith, whole)
 
-pub loop-i-init : goal.loop-i-init
-loop-i-init c = (refl, refl)
-
-pub overflow_mul-i : goal.overflow_mul-i
-overflow_mul-i c = let file = c.args.file.now in
-    let most : frames_in file ≤ 1073741814 = taken-frames file c.requires.t in
-    let numbers : (length file - 44) / 2 ≡ 2 * frames_in file = taken-numbers file c.requires.t in
-    omega arith
-
-pub overflow_add-i : goal.overflow_add-i
-overflow_add-i c = let file = c.args.file.now in
-    let most : frames_in file ≤ 1073741814 = taken-frames file c.requires.t in
-    let numbers : (length file - 44) / 2 ≡ 2 * frames_in file = taken-numbers file c.requires.t in
-    omega arith
-
 pub u16_at-requires : goal.u16_at-requires
 u16_at-requires c = let file = c.args.file.now in
-    let most : frames_in file ≤ 1073741814 = taken-frames file c.requires.t in
-    let numbers : (length file - 44) / 2 ≡ 2 * frames_in file = taken-numbers file c.requires.t in
-    omega arith
-
-pub signed16-requires : goal.signed16-requires
-signed16-requires c = tt
-
-pub offset_bounds-out-i : goal.offset_bounds-out-i
-offset_bounds-out-i c = let file = c.args.file.now in
     let most : frames_in file ≤ 1073741814 = taken-frames file c.requires.t in
     let numbers : (length file - 44) / 2 ≡ 2 * frames_in file = taken-numbers file c.requires.t in
     omega arith
@@ -65,9 +41,6 @@ loop-i-preserved c = let file = c.args.file.now in let vs = pcms_in (drop 44 fil
       ap₂ (λ (o : List ℤ) (z : ℤ). set o i z) c.loop-i.invariant.1 v
           ∙ copy-turn vs c.args.out.now i (pos 0) (omega (arith, inside, many)) (omega (arith, inside, numbers, c.requires.room)),
     )
-
-pub shape_of-out : goal.shape_of-out
-shape_of-out c = c.loop-i.invariant.0
 
 pub returns : goal.returns
 returns c = let file = c.args.file.now in let vs = pcms_in (drop 44 file) in

@@ -19,9 +19,6 @@ pub returns-then-out-frames : goal.returns-then-out-frames
 returns-then-out-frames c = let answer = read_short c.args.file.now c.args.out.now (sym c.is_recording.ensures ∙ not-false _ c.if-not-is_recording.false-raw) c.if-out-frames.true in
     record { value = answer.0; output = answer.1 }
 
-pub fill-requires : goal.fill-requires
-fill-requires c = record { t = subst T (sym (not-false _ c.if-not-is_recording.false-raw) ∙ c.is_recording.ensures) tt; room = c.if-out-frames.false }
-
 pub overflow_cast-result : goal.overflow_cast-result
 overflow_cast-result c = let file = c.args.file.now in
     let most = taken-frames file (subst T (sym (not-false _ c.if-not-is_recording.false-raw) ∙ c.is_recording.ensures) tt) in

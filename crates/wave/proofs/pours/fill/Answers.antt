@@ -1,14 +1,11 @@
 -- The bytes of the first i numbers are poured, two for each.
-use mathlib.Core.Path.{◌≡◌, refl, ap, subst, sym, ◌∙◌}
-use mathlib.Core.List.{List, ◌++◌}
+use mathlib.Core.Path.{refl, ap, subst, sym, ◌∙◌}
+use mathlib.Core.List.{List}
 use Prim.Native.Nat.{ℕ, ◌<◌, ◌+◌, ◌*◌, ◌/◌, ◌%◌}
 use native.Mathlib.Omega.{arith}
 use lib.Dec.{T}
-use lib.Ieee.{Float}
-use lib.ListN.{length, set, take, drop, length-set}
-use lib.Seq.{lt-length-set, take-length}
-use Rattle.wave.specs.Pours.{poured_of}
-use Rattle.wave.proofs.PoursLaws.{clean_of, output-at, pour-turn, poured-none, poured_upto}
+use lib.ListN.{length, set, length-set}
+use Rattle.wave.proofs.PoursLaws.{clean_of, output-at, pour-turn, poured-none}
 use Rattle.wave.proofs.pours.fill.Goals as goal
 
 pub loop-i-init : goal.loop-i-init
@@ -19,11 +16,6 @@ pcm-word-requires c = let xs = c.args.numbers.now in
     let inside : c.loop-i.i < length xs = omega arith in
     subst T (sym (output-at xs c.loop-i.i (clean_of xs c.requires.numbers_value) inside)) tt
 
-pub bounds-out-from-in-loop-i : goal.bounds-out-from-in-loop-i
-bounds-out-from-in-loop-i c = let len : length c.loop-i.out ≡ length c.args.out.now = c.loop-i.invariant.0 in
-    let inside : c.loop-i.i < length c.args.numbers.now = omega arith in
-    lt-length-set c.loop-i.out (c.args.from + 2 * c.loop-i.i) (c.pcm-word.result % 256) (omega (arith, len, inside, c.requires.room))
-
 pub loop-i-preserved : goal.loop-i-preserved
 loop-i-preserved c = let xs = c.args.numbers.now in let d = c.args.out.now in let i = c.loop-i.i in let at = c.args.from in
     let w = c.pcm-word.result in
@@ -32,13 +24,3 @@ loop-i-preserved c = let xs = c.args.numbers.now in let d = c.args.out.now in le
       ap (λ (o : List ℕ). set (set o (at + 2 * i) (w % 256)) (at + 2 * i + 1) (w / 256)) c.loop-i.invariant.1
           ∙ pour-turn xs at d i w inside c.requires.room c.pcm-word.ensures,
     )
-
-pub shape_of-out : goal.shape_of-out
-shape_of-out c = c.loop-i.invariant.0
-
-pub returns : goal.returns
-returns c = let xs = c.args.numbers.now in
-    let all : c.loop-i.i ≡ length xs = omega arith in
-    c.loop-i.invariant.1
-    ∙ ap (poured_upto xs c.args.from c.args.out.now) all
-    ∙ ap (λ (t : List Float). (take c.args.from c.args.out.now ++ poured_of t) ++ drop (c.args.from + 2 * length xs) c.args.out.now) (take-length xs)

@@ -13,10 +13,6 @@ returns-then-out-numbers c = let few = c.if-out-numbers.true in
     let answer = pour-short c.args.numbers.now c.args.out.now (sym c.is_broken.ensures ∙ c.if-is_broken.false) (omega (arith, few)) in
     record { value = answer.0; output = answer.1 }
 
-pub fill-requires : goal.fill-requires
-fill-requires c = let enough = c.if-out-numbers.false in
-    record { numbers_value = sym c.is_broken.ensures ∙ c.if-is_broken.false; room = omega (arith, enough) }
-
 pub returns : goal.returns
 returns c = let enough = c.if-out-numbers.false in
     let answer = pour-done c.args.numbers.now c.args.out.now c.fill.new.out (sym c.is_broken.ensures ∙ c.if-is_broken.false) (omega (arith, enough)) c.fill.ensures in
