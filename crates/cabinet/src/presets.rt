@@ -25,16 +25,17 @@ pub fn thularek_preset(
 ) -> u32
     ensures { (result ≡ (sheet_of bytes.now place).kind) × (name.new ≡ (sheet_of bytes.now place).name) × (zones.new ≡ (sheet_of bytes.now place).zones) × (low.new ≡ (sheet_of bytes.now place).low) × (high.new ≡ (sheet_of bytes.now place).high) }
 {
-    let (kind, s) = match layers::preset_sheet(bytes, place) {
-        Ok(s) => (0, s),
-        Err(NoSheet::NotAdmitted) => (1, BLANK),
-        Err(NoSheet::AtEnd) => (2, BLANK),
-    };
+    let sheet = layers::preset_sheet(bytes, place);
+    let s = sheet.unwrap_or(BLANK);
     *name = s.name as usize;
     *zones = s.zones;
     *low = s.low;
     *high = s.high;
-    kind
+    match sheet {
+        Ok(_) => 0,
+        Err(NoSheet::NotAdmitted) => 1,
+        Err(NoSheet::AtEnd) => 2,
+    }
 }
 
 // 8 where a window past its memory was found, as a note-on answers; else 0.

@@ -1,7 +1,7 @@
 -- Laws of a preset's keys, as the loops over its zones want them.
 use mathlib.Core.List.{List}
 use mathlib.Core.Bool.{true}
-use mathlib.Core.Path.{◌≡◌, refl}
+use mathlib.Core.Path.{◌≡◌, refl, ap}
 use Prim.Native.Nat.{ℕ, ◌+◌, ◌-◌, ◌*◌, ◌<◌, ◌≤◌}
 use lib.ListN.{length}
 use native.Mathlib.Numerals.{add-one}
@@ -15,7 +15,11 @@ use Rattle.records.specs.Zones.{zone_at, global_of, zone_count}
 use Rattle.records.specs.declared.Parts.{Parts}
 use Rattle.records.specs.declared.Side.{Side}
 use Rattle.records.specs.declared.Zone.{Zone}
-use Rattle.layers.specs.Spans.{joined, keys_under, span_under, zone_span, span_below, span_of, row_sheet, SheetNumbers}
+use Rattle.layers.specs.Spans.{joined, keys_under, span_under, zone_span, span_below, span_of, row_sheet, SheetNumbers, told_sheet}
+use Rattle.layers.specs.declared.NoSheet.{NoSheet}
+use Rattle.layers.specs.declared.NoSheet.TheVariants.{NotAdmitted, AtEnd}
+use Rattle.layers.specs.declared.Sheet.{Sheet}
+use Rattle.std.specs.Prelude.{Result, Ok, Err}
 use Rattle.layers.specs.declared.Area.{Area}
 use Rattle.layers.specs.declared.Range.{Range}
 
@@ -40,3 +44,19 @@ unfolding parts_of presets body records bytes_in
 name_in b h ok low =
     let a = admitted-rules b ok in
     omega (arith, low, a.whole, chunk_next b 0, chunk-up b 1 8)
+
+-- the sheet that numbers of kind 0 tell of
+abbrev sheet_in : SheetNumbers → Result Sheet NoSheet
+sheet_in x = Ok (record { name = x.name; zones = x.zones; low = x.low; high = x.high })
+
+-- the numbers of two answers are one only where the answers are
+pub sheet-told-apart : (a b : Result Sheet NoSheet) → told_sheet a ≡ told_sheet b → a ≡ b
+sheet-told-apart (Ok s) (Ok t) e = ap sheet_in e
+sheet-told-apart (Ok s) (Err NotAdmitted) e = absurd (omega (arith, ap (λ (x : SheetNumbers). x.kind) e))
+sheet-told-apart (Ok s) (Err AtEnd) e = absurd (omega (arith, ap (λ (x : SheetNumbers). x.kind) e))
+sheet-told-apart (Err NotAdmitted) (Ok t) e = absurd (omega (arith, ap (λ (x : SheetNumbers). x.kind) e))
+sheet-told-apart (Err NotAdmitted) (Err NotAdmitted) e = refl
+sheet-told-apart (Err NotAdmitted) (Err AtEnd) e = absurd (omega (arith, ap (λ (x : SheetNumbers). x.kind) e))
+sheet-told-apart (Err AtEnd) (Ok t) e = absurd (omega (arith, ap (λ (x : SheetNumbers). x.kind) e))
+sheet-told-apart (Err AtEnd) (Err NotAdmitted) e = absurd (omega (arith, ap (λ (x : SheetNumbers). x.kind) e))
+sheet-told-apart (Err AtEnd) (Err AtEnd) e = refl

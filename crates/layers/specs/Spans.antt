@@ -96,7 +96,7 @@ sheet_of b at =
     cond (admitted b) (cond (ltb at (m.presets.nheads - 1)) (row_sheet b m at) (no_sheet 2)) (no_sheet 1)
 
 -- the numbers of an answer: 0 with a sheet, 1 where the bank is not admitted, 2 at the end
-abbrev pub told : Result Sheet NoSheet → SheetNumbers
-told (Ok s) = record { kind = 0; name = s.name; zones = s.zones; low = s.low; high = s.high }
-told (Err NotAdmitted) = no_sheet 1
-told (Err AtEnd) = no_sheet 2
+abbrev pub told_sheet : Result Sheet NoSheet → SheetNumbers
+told_sheet (Ok s) = record { kind = 0; name = s.name; zones = s.zones; low = s.low; high = s.high }
+told_sheet (Err NotAdmitted) = no_sheet 1
+told_sheet (Err AtEnd) = no_sheet 2

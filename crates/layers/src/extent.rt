@@ -5,7 +5,7 @@ ghost use Rattle.records.specs.Internal.Amounts.{at};
 ghost use Rattle.totals.specs.Settings.{play_mode};
 ghost use Rattle.layers.specs.Extent.{extent_of};
 
-use arith::{hold, least, less};
+use arith::hold;
 use records::Parts;
 
 // A window of the ROM or of the RAM, its mode as it is played, its loop counted from its start, and the sample's rate.
@@ -42,7 +42,7 @@ fn play(mode: u64) -> u8
 fn rate16(rate: u32) -> u16
     ensures { result ≡ min 65535 rate }
 {
-    least(65535, rate as u64) as u16
+    rate.min(65535) as u16
 }
 
 // The extent of sample k with the values v.
@@ -58,8 +58,8 @@ pub fn extent_of(b: &[u8], m: Parts, k: u32, v: &[i16; 61]) -> Extent
         start,
         end,
         mode: play(records::mode_of(v)),
-        loopfrom: less(from, start),
-        loopto: less(to, start),
+        loopfrom: from.saturating_sub(start),
+        loopto: to.saturating_sub(start),
         rate: rate16(records::rate_of(b, m, k)),
     }
 }

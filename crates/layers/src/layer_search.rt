@@ -87,12 +87,10 @@ pub fn preset_for(b: &[u8], m: Parts, bank: u16, program: u8) -> Option<usize>
     ensures { result ≡ preset_for b.now m bank program }
 {
     let count = m.presets.nheads;
-    let mut h: u32 = 0;
-    while h + 1 < count {
+    for h in 0..count.saturating_sub(1) {
         if is_preset(b, m, bank, program, h) {
             return Some(h as usize);
         }
-        h = h + 1;
     }
     None
 }

@@ -1,6 +1,6 @@
 // What is told of a preset: its name's place, its zones, and the lowest and highest key of its layers.
 ghost use Rattle.std.specs.Prelude.{◌≡◌};
-ghost use Rattle.layers.specs.Spans.{area_of, layer_keys, keys_under, span_under, zone_span, span_of, sheet_of, told};
+ghost use Rattle.layers.specs.Spans.{area_of, layer_keys, keys_under, span_under, zone_span, span_of, sheet_of, told_sheet};
 ghost use Rattle.records.specs.Zones.{zone_count};
 
 use crate::ranges::{key_range, velocity_range};
@@ -85,7 +85,7 @@ fn span_of(b: &[u8], m: Parts, h: u32) -> Range
 
 // The sheet of the phdr record at a place, where the bank is admitted and the record is not the terminal.
 pub fn preset_sheet(bank: &[u8], place: u32) -> Result<Sheet, NoSheet>
-    ensures { told result ≡ sheet_of bank.now place }
+    ensures { told_sheet result ≡ sheet_of bank.now place }
 {
     if !bank::admitted(bank) {
         return Err(NoSheet::NotAdmitted);

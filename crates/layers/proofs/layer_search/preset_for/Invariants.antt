@@ -1,13 +1,9 @@
 -- `preset_for` meets its contract: none of the records passed is the preset.
 use Rattle.std.specs.Prelude.{None}
 use mathlib.Core.Path.{◌≡◌}
-use Prim.Native.Nat.{◌-◌, ◌≤◌}
 use Rattle.records.specs.Looking.{first}
 use Rattle.layers.specs.LayerSearch.{is_preset}
 use Rattle.layers.proofs.layer_search.preset_for.Given as goal
 
 abbrev pub invariant-loop-h : goal.invariant-loop-h
-invariant-loop-h l = (first (is_preset l.b l.m l.bank l.program) 0 l.h ≡ None) × (l.h ≤ l.count - 1)
-
-abbrev pub decreases-loop-h : goal.decreases-loop-h
-decreases-loop-h l = l.count - l.h
+invariant-loop-h l = first (is_preset l.b l.m l.bank l.program) 0 l.h ≡ None

@@ -1,7 +1,7 @@
 -- `search` meets its contract: the array holds the layers of the zones passed, and the rest is blank.
 use mathlib.Core.List.{◌++◌}
 use mathlib.Core.Path.{◌≡◌}
-use Prim.Native.Nat.{◌+◌, ◌-◌, ◌≤◌, ◌<◌}
+use Prim.Native.Nat.{◌<◌}
 use lib.ListN.{length}
 use Rattle.layers.specs.LayerSearch.{under, layers_below}
 use Rattle.layers.proofs.LayerSearchLaws.{padded}

@@ -2,7 +2,6 @@
 use borrow.Author.Rules.{rules}
 use mathlib.Core.Path.{refl, ap, ◌∙◌}
 use native.Mathlib.Omega.{arith}
-use Prim.Native.Nat.{◌-◌}
 use Rattle.layers.specs.Spans.{span_below, span_of}
 use Rattle.layers.proofs.SpansLaws.{below-turn}
 use Rattle.layers.proofs.spans.span_of.Goals as goal

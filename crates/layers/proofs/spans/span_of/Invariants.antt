@@ -1,6 +1,6 @@
 -- `span_of` meets its contract.
 use mathlib.Core.Path.{◌≡◌}
-use Prim.Native.Nat.{◌-◌, ◌≤◌, ◌<◌}
+use Prim.Native.Nat.{◌<◌}
 use Rattle.layers.specs.Spans.{span_below}
 use Rattle.layers.proofs.spans.span_of.Given as goal
 

@@ -1,6 +1,6 @@
 -- `span_under` meets its contract.
 use mathlib.Core.Path.{◌≡◌}
-use Prim.Native.Nat.{◌-◌, ◌≤◌, ◌<◌}
+use Prim.Native.Nat.{◌<◌}
 use Rattle.layers.specs.Spans.{span_under}
 use Rattle.layers.proofs.spans.span_under.Given as goal
 
