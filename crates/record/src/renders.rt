@@ -5,6 +5,7 @@ use cases::{Command, Loan};
 use player::Player;
 
 // What of a case is recorded.
+#[derive(Clone, Copy)]
 pub struct Tape {
     // the frames of all done renders
     pub frames: u64,
