@@ -1,6 +1,6 @@
 // What C's memory holds: the last call's number, count, refused events and place, and the player's twin.
 ghost use Rattle.std.specs.Prelude.{◌≡◌};
-ghost use Rattle.state.specs.Answers.{answered};
+ghost use Rattle.state.specs.Answers.{told_call};
 ghost use Rattle.cabinet.specs.Keeping.{player_in, kept, kept_answer, kept_start, kept_play};
 
 use crate::{Flat, FlatPlayer};
@@ -29,7 +29,7 @@ pub fn keep(number: u8, count: u32, refused: u32, place: u32, p: Player) -> Flat
 
 // After a direct call.
 pub fn keep_answer(a: Result<u32, Refusal>, e: Engine, s: Flat) -> Flat
-    ensures { result ≡ kept_answer (answered a e) s }
+    ensures { result ≡ kept_answer (told_call a e) s }
 {
     let p = player::with_engine(player_in(s), e);
     keep(status_of(a), a.unwrap_or(0), 0, 0, p)

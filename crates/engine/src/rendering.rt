@@ -2,7 +2,7 @@
 ghost use Rattle.std.specs.Prelude.{◌≡◌, ◌*◌, ◌≤◌, ◌&&◌, ◌||◌, ◌++◌, length, drop};
 ghost use Rattle.state.specs.Slots.{slots_of};
 ghost use Rattle.state.specs.Reach.{ends_past};
-ghost use Rattle.state.specs.Answers.{answered, status_of};
+ghost use Rattle.state.specs.Answers.{told_call, status_of};
 ghost use Rattle.engine.specs.Rendering.{distance, lacks, lacking, render_number, output, played, render, rendered};
 
 use crate::adding::{mix_all, run_all};
@@ -84,7 +84,7 @@ pub fn render<'a>(
     out: &mut [f32],
     to: u32,
 ) -> Result<u32, Refusal>
-    ensures answer { answered result e.new ≡ render to ram.now rom.now (length out.old) e.old }
+    ensures answer { told_call result e.new ≡ render to ram.now rom.now (length out.old) e.old }
     ensures output { out.new ≡ rendered to ram.now rom.now out.old e.old }
 {
     render_number(*e, to, ram, rom, out.len())?;

@@ -1,7 +1,7 @@
 // The sums of voices themselves: what a recorder measures, and lowers before it is held.
 ghost use Rattle.std.specs.Prelude.{◌≡◌, ◌*◌, length, replicate, pos};
 ghost use Rattle.engine.specs.Rendering.{played, render};
-ghost use Rattle.state.specs.Answers.{answered};
+ghost use Rattle.state.specs.Answers.{told_call};
 ghost use Rattle.engine.specs.Summing.{sums_of, summed};
 
 use crate::adding::run_all;
@@ -29,7 +29,7 @@ pub fn sums<'a>(
     out: &mut [i32],
     to: u32,
 ) -> Result<u32, Refusal>
-    ensures answer { answered result e.new ≡ render to ram.now rom.now (length out.old) e.old }
+    ensures answer { told_call result e.new ≡ render to ram.now rom.now (length out.old) e.old }
     ensures output { out.new ≡ summed to ram.now rom.now out.old e.old }
 {
     render_number(*e, to, ram, rom, out.len())?;

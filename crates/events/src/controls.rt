@@ -1,6 +1,6 @@
 // Control change.
 ghost use Rattle.std.specs.Prelude.{◌≡◌, ◌<◌};
-ghost use Rattle.state.specs.Answers.{answered};
+ghost use Rattle.state.specs.Answers.{told_call};
 ghost use Rattle.events.specs.Controls.{with_stored, with_volume, with_expression, silence, pedal, controlled, control_change};
 ghost use Rattle.events.specs.Keys.{held, off};
 
@@ -96,7 +96,7 @@ fn control_one(e: Engine, channel: u8, control: u8, value: u8) -> Engine
 
 // Control change. It counts no voices.
 pub fn control_change(e: &mut Engine, channel: u8, control: u8, value: u8) -> Result<u32, Refusal>
-    ensures { answered result e.new ≡ control_change channel control value e.old }
+    ensures { told_call result e.new ≡ control_change channel control value e.old }
 {
     if past_two(channel, control, value) {
         return Err(Refusal::OutOfRange);

@@ -1,7 +1,7 @@
 // Note-off, and which voices are let off.
 ghost use Rattle.std.specs.Prelude.{◌≡◌, cond};
 ghost use Rattle.voice.specs.Release.{release};
-ghost use Rattle.state.specs.Answers.{answered, done};
+ghost use Rattle.state.specs.Answers.{told_call, done};
 ghost use Rattle.events.specs.Keys.{held, held_key, pedal_down, mark, let_off, off_key, note_off, pedal_held};
 ghost use Rattle.events.specs.Internal.Keys.{picked, off_all};
 
@@ -84,7 +84,7 @@ fn off_one(s: Slot, channel: u8, whom: Whom, down: bool, g: &GainTable) -> Slot
 }
 
 // How many are picked, and the state with all of them let off.
-pub fn off_all(e: Engine, channel: u8, whom: Whom, down: bool, g: &GainTable) -> (u32, Engine)
+pub(crate) fn off_all(e: Engine, channel: u8, whom: Whom, down: bool, g: &GainTable) -> (u32, Engine)
     ensures { done result.0 result.1 ≡ off_all channel whom down e }
 {
     let mut x = e;
@@ -109,7 +109,7 @@ pub fn is_down(e: Engine, channel: u8) -> bool
 }
 
 // A note-off past its tests; how many voices it lets off.
-pub fn off_key(e: &mut Engine, channel: u8, key: u8) -> u32
+pub(crate) fn off_key(e: &mut Engine, channel: u8, key: u8) -> u32
     ensures { done result e.new ≡ off_key channel key e.old }
 {
     let g = GainTable::new();
@@ -121,7 +121,7 @@ pub fn off_key(e: &mut Engine, channel: u8, key: u8) -> u32
 
 // Note-off: releases each held voice of channel and key, or marks it while the pedal is down; how many they were.
 pub fn note_off(e: &mut Engine, channel: u8, key: u8) -> Result<u32, Refusal>
-    ensures { answered result e.new ≡ note_off channel key e.old }
+    ensures { told_call result e.new ≡ note_off channel key e.old }
 {
     if past_one(channel, key) {
         return Err(Refusal::OutOfRange);

@@ -1,7 +1,7 @@
 // Note-on: its tests, and the layers of a lent bank.
 ghost use Rattle.std.specs.Prelude.{◌≡◌};
 ghost use Rattle.layers.specs.Voicing.{voices_of};
-ghost use Rattle.state.specs.Answers.{answered};
+ghost use Rattle.state.specs.Answers.{told_call};
 ghost use Rattle.events.specs.Striking.{channel_bank, note_on, bank_from};
 ghost use Rattle.events.specs.Internal.Striking.{layers_answer, bank_answer};
 
@@ -34,7 +34,7 @@ fn strike_layers<'a>(
     key: u8,
     velocity: u8,
 ) -> Result<u32, Refusal>
-    ensures { answered result e.new ≡ layers_answer ram.now rom.now channel (voices_of bank.now m h channel key velocity) e.old }
+    ensures { told_call result e.new ≡ layers_answer ram.now rom.now channel (voices_of bank.now m h channel key velocity) e.old }
 {
     let s = voices_for(bank, m, h, channel, key, velocity);
     let n = s.count as usize;
@@ -59,7 +59,7 @@ fn strike_bank<'a>(
     key: u8,
     velocity: u8,
 ) -> Result<u32, Refusal>
-    ensures { answered result e.new ≡ bank_answer (bank_from bank.now) ram.now rom.now channel key velocity e.old }
+    ensures { told_call result e.new ≡ bank_answer (bank_from bank.now) ram.now rom.now channel key velocity e.old }
 {
     if !bank::admitted(bank) {
         return Err(Refusal::NotAdmitted);
@@ -83,7 +83,7 @@ pub fn note_on<'a>(
     key: u8,
     velocity: u8,
 ) -> Result<u32, Refusal>
-    ensures { answered result e.new ≡ note_on (bank_from bank.now) ram.now rom.now channel key velocity e.old }
+    ensures { told_call result e.new ≡ note_on (bank_from bank.now) ram.now rom.now channel key velocity e.old }
 {
     if past_two(channel, key, velocity) {
         return Err(Refusal::OutOfRange);

@@ -1,6 +1,6 @@
 // What an event of a song does: the direct call that it names.
 ghost use Rattle.std.specs.Prelude.{◌≡◌};
-ghost use Rattle.state.specs.Answers.{answered};
+ghost use Rattle.state.specs.Answers.{told_call};
 ghost use Rattle.player.specs.Acting.{kind_of, channel_in, bend_in, heeded};
 
 use engine::{Engine, Refusal};
@@ -35,7 +35,7 @@ pub fn heed<'a>(
     rom: &'a [i16],
     v: Event,
 ) -> Result<u32, Refusal>
-    ensures { answered result e.new ≡ heeded bank.now ram.now rom.now v e.old }
+    ensures { told_call result e.new ≡ heeded bank.now ram.now rom.now v e.old }
 {
     let channel = channel_in(v);
     match kind_of(v) {

@@ -22,7 +22,7 @@ fn hush_all(e: Engine) -> Engine
     ensures { result ≡ hushed_to 16 e }
 {
     let mut x = e;
-    for channel in 0..16 {
+    for channel in 0..16u8 {
         x = hush(x, channel);
     }
     x
@@ -47,7 +47,7 @@ fn freshen_all(e: Engine) -> Engine
     ensures { result ≡ freshened_to 16 e }
 {
     let mut x = e;
-    for channel in 0..16 {
+    for channel in 0..16u8 {
         x = freshen(x, channel);
     }
     x

@@ -110,20 +110,22 @@ pub fn render<'a>(
     ensures answer { result ≡ answered file.now bank.now ram.now rom.now to (length out.old) p }
     ensures output { out.new ≡ sounded_into file.now bank.now ram.now rom.now to out.old p }
 {
-    if let Err(refusal) = engine::rendering::render_number(p.engine, to, ram, rom, out.len()) {
-        return Answer {
+    match engine::rendering::render_number(p.engine, to, ram, rom, out.len()) {
+        Ok(()) => {
+            let n = engine::rendering::distance_to(p.engine, to);
+            let x = play_on(p, file, bank, ram, rom, out, n);
+            Answer {
+                number: 0,
+                applied: x.applied,
+                refused: x.refused,
+                player: x.player,
+            }
+        }
+        Err(refusal) => Answer {
             number: refusal.number(),
             applied: 0,
             refused: 0,
             player: p,
-        };
-    }
-    let n = engine::rendering::distance_to(p.engine, to);
-    let x = play_on(p, file, bank, ram, rom, out, n);
-    Answer {
-        number: 0,
-        applied: x.applied,
-        refused: x.refused,
-        player: x.player,
+        },
     }
 }

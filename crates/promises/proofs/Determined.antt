@@ -1,18 +1,14 @@
 -- Contracts that are equations determine what they speak of.
 use mathlib.Core.Path.{◌≡◌, refl, sym, ◌∙◌, ap, ap₂}
-use Rattle.std.specs.Prelude.{Option}
 use mathlib.Core.List.{List}
 use lib.Ieee.{Float}
 use Prim.Native.Nat.{ℕ}
 use mathlib.Core.Bool.{Bool}
 use Rattle.promises.specs.Determined.{Settles, Outcome, Ends}
-use lib.Dec.{eqb}
-use mathlib.Core.Bool.{cond}
-use Rattle.std.specs.Prelude.{Result, Ok, Err}
-use Rattle.state.specs.Answers.{Answered, answered, number, status_of}
-use Rattle.state.proofs.AnswersLaws.{refusal-numbered}
+use Rattle.std.specs.Prelude.{Result, Ok, Err, Option}
+use Rattle.state.specs.Answers.{Answered, status_of}
+use Rattle.state.proofs.ToldLaws.{call-told-apart, status-told-apart}
 use Rattle.state.specs.declared.Refusal.{Refusal}
-use Rattle.state.specs.declared.Refusal.TheVariants.{NotAdmitted, OutOfRange, NoPreset, TooManyLayers, ClockBehind, TooManyFrames, OutputTooShort, PastMemory}
 use Rattle.voice.specs.declared.Shown.{Shown}
 use Rattle.state.specs.declared.Engine.{Engine}
 use Rattle.bank.specs.Admission.{fault_of, fault_number, admitted}
@@ -58,35 +54,11 @@ outcome a l = record { answer = a; output = l }
 pub calls-determined : D.CallsDetermined
 calls-determined x e o p h k = ap₂ outcome (h.0 ∙ sym k.0) (h.1 ∙ sym k.1)
 
--- the refusal of a number
-refusal_of : ℕ → Refusal
-refusal_of n =
-    cond (eqb n 1) NotAdmitted (cond (eqb n 2) OutOfRange (cond (eqb n 3) NoPreset (cond (eqb n 4) TooManyLayers
-    (cond (eqb n 5) ClockBehind (cond (eqb n 6) TooManyFrames (cond (eqb n 7) OutputTooShort PastMemory))))))
+pub told-call-apart : D.ToldCallApart
+told-call-apart r s e f h = (call-told-apart r s e f h, ap (λ (x : Answered). x.engine) h)
 
-numbered : (r : Refusal) → refusal_of (number r) ≡ r
-unfolding refusal_of
-numbered NotAdmitted = refl
-numbered OutOfRange = refl
-numbered NoPreset = refl
-numbered TooManyLayers = refl
-numbered ClockBehind = refl
-numbered TooManyFrames = refl
-numbered OutputTooShort = refl
-numbered PastMemory = refl
-
--- answers by their number and their count
-told : (r s : Result ℕ Refusal) (e f : Engine) → answered r e ≡ answered s f → r ≡ s
-told (Ok n) (Ok m) e f h = ap (λ (x : Answered). Ok {A = ℕ} {E = Refusal} x.count) h
-told (Ok n) (Err s) e f h =
-    let t = ap (λ (x : Answered). eqb x.status 0) h ∙ refusal-numbered s in cc
-told (Err r) (Ok m) e f h =
-    let t = sym (refusal-numbered r) ∙ ap (λ (x : Answered). eqb x.status 0) h in cc
-told (Err r) (Err s) e f h =
-    ap (λ (x : Refusal). Err {A = ℕ} x) (sym (numbered r) ∙ ap (λ (x : Answered). refusal_of x.status) h ∙ numbered s)
-
-pub answered-tells-apart : D.AnsweredTells
-answered-tells-apart r s e f h = (told r s e f h, ap (λ (x : Answered). x.engine) h)
+pub told-status-apart : D.ToldStatusApart
+told-status-apart = status-told-apart
 
 pub status-determined : D.StatusDetermined
 status-determined a = equation ℕ (status_of a)

@@ -2,7 +2,7 @@
 -- in the source; tools/contracts compares it with the functions that `contract of` names.
 use Rattle.std.specs.Prelude.{◌≡◌, List, Float, ℕ, Bool, cond, ℤ, length, Option, Result}
 use Rattle.std.specs.Borrow.{Bor}
-use Rattle.state.specs.Answers.{Answered, answered, status_of}
+use Rattle.state.specs.Answers.{Answered, told_call, status_of}
 use Rattle.state.specs.declared.Refusal.{Refusal}
 use Rattle.state.specs.declared.Engine.{Engine}
 use Rattle.promises.specs.Calls.{Call, does, written}
@@ -80,14 +80,18 @@ pub record Outcome : Type 0 where
 abbrev pub CallsDetermined : Type 0
 CallsDetermined = (x : Call) (e : Engine) → Settles Outcome (λ o. (o.answer ≡ does x e) × (o.output ≡ written x e))
 
--- two outcomes of which it is said that they leave the same are one: answer and state; so this tells apart state::answered
-abbrev pub AnsweredTells : Type 0
-AnsweredTells = (r s : Result ℕ Refusal) (e f : Engine) → answered r e ≡ answered s f → (r ≡ s) × (e ≡ f)
+-- what a call of the engine answers, with the state after, is told by one record alone: tells apart state::told_call
+abbrev pub ToldCallApart : Type 0
+ToldCallApart = (r s : Result ℕ Refusal) (e f : Engine) → told_call r e ≡ told_call s f → (r ≡ s) × (e ≡ f)
+
+-- the number of an answer that has no count tells it: tells apart state::status_of
+abbrev pub ToldStatusApart : Type 0
+ToldStatusApart = (r s : Result (Unit {0}) Refusal) → status_of r ≡ status_of s → r ≡ s
 
 -- 01's number of an answer
--- contract of state::status_of(answer)
+-- contract of state::status_of(told)
 abbrev pub StatusDetermined : Type 0
-StatusDetermined = (answer : Result ℕ Refusal) → Settles ℕ (λ r. r ≡ status_of answer)
+StatusDetermined = (told : Result ℕ Refusal) → Settles ℕ (λ r. r ≡ status_of told)
 
 -- ---- state and engine: the others, which touch no state
 

@@ -40,8 +40,8 @@ count_of (Ok n) = n
 count_of (Err r) = 0
 
 -- what a call leaves, by its answer and the state after
-abbrev pub answered : Result ℕ Refusal → Engine → Answered
-answered r e = record { status = status_of r; count = count_of r; engine = e }
+abbrev pub told_call : Result ℕ Refusal → Engine → Answered
+told_call r e = record { status = status_of r; count = count_of r; engine = e }
 
 -- the answer where the tests gave a number (0: none)
 abbrev pub answer : ℕ → Engine → Answered → Answered

@@ -14,10 +14,10 @@ impl Refusal {
 }
 
 // The number of a call's answer: 0 where it is done, else that of its refusal.
-pub fn status_of(answer: Result<u32, Refusal>) -> u8
-    ensures { result ≡ status_of answer }
+pub fn status_of(told: Result<u32, Refusal>) -> u8
+    ensures { result ≡ status_of told }
 {
-    match answer {
+    match told {
         Ok(_) => 0,
         Err(refusal) => refusal.number(),
     }

@@ -38,38 +38,6 @@ module _ (low high : ℕ) (x : ℤ) (l : low < 65536) (h : high < 65536) (f : SF
     sum_is : to_z w32 (of_z w32 (to_z w32 (of_z w32 x) +ℤ to_z w32 low)) ≡ x +ℤ pos low
     sum_is = rw (x-is, low-is) (w-back w32 inside (lit< tt))
 
-pub overflow_sub-l : goal.overflow_sub-l
-overflow_sub-l c =
-    let a = c.args in
-    let k = c.ranges in
-    rw (low-is a.low a.high a.x k.low.fits k.high.fits k.x, +ℤ_idl (neg_ℤ (pos a.low))) (w_fits w32 (minus a.low a.high a.x k.low.fits k.high.fits k.x) (lit< tt))
-
-pub returns-then-x-l : goal.returns-then-x-l
-returns-then-x-l c =
-    let a = c.args in
-    let k = c.ranges in
-    (sym (up-low a.low a.high a.x (rw (x-is a.low a.high a.x k.low.fits k.high.fits k.x, least a.low a.high a.x k.low.fits k.high.fits k.x) at c.if-x-l.true)), omega arith)
-
-pub returns-then-h-x : goal.returns-then-h-x
-returns-then-h-x c =
-    let a = c.args in
-    let k = c.ranges in
-    (add_comm a.low a.high ∙ sym (up-high a.low a.high a.x (rw (x-is a.low a.high a.x k.low.fits k.high.fits k.x, least a.low a.high a.x k.low.fits k.high.fits k.x) at c.if-x-l.false) (rw (x-is a.low a.high a.x k.low.fits k.high.fits k.x, high_is a.low a.high a.x k.low.fits k.high.fits k.x) at c.if-h-x.true)), omega arith)
-
-pub overflow_add-result-2 : goal.overflow_add-result-2
-overflow_add-result-2 c =
-    let a = c.args in
-    let k = c.ranges in
-    rw (x-is a.low a.high a.x k.low.fits k.high.fits k.x, low-is a.low a.high a.x k.low.fits k.high.fits k.x) (w_fits w32 (inside a.low a.high a.x k.low.fits k.high.fits k.x (rw (x-is a.low a.high a.x k.low.fits k.high.fits k.x, least a.low a.high a.x k.low.fits k.high.fits k.x) at c.if-x-l.false) (rw (x-is a.low a.high a.x k.low.fits k.high.fits k.x, high_is a.low a.high a.x k.low.fits k.high.fits k.x) at c.if-h-x.false)) (lit< tt))
-
-pub overflow_cast-result-2 : goal.overflow_cast-result-2
-overflow_cast-result-2 c =
-    let a = c.args in
-    let k = c.ranges in
-    let t = rw (x-is a.low a.high a.x k.low.fits k.high.fits k.x, least a.low a.high a.x k.low.fits k.high.fits k.x) at c.if-x-l.false in
-    let u = rw (x-is a.low a.high a.x k.low.fits k.high.fits k.x, high_is a.low a.high a.x k.low.fits k.high.fits k.x) at c.if-h-x.false in
-    rw (sum_is a.low a.high a.x k.low.fits k.high.fits k.x t u) (lifts a.low a.x t, record { fits = lt_of_le_of_lt (inside a.low a.high a.x k.low.fits k.high.fits k.x t u).within (lit< tt) })
-
 pub returns : goal.returns
 returns c =
     let a = c.args in

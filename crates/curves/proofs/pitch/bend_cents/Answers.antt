@@ -11,14 +11,6 @@ use Rattle.curves.proofs.pitch.bend_cents.Goals as goal
 abbrev product : E
 product = mul (sub (var 0) (lit (pos 8192))) (lit (pos 25))
 
-pub overflow_sub-result : goal.overflow_sub-result
-overflow_sub-result c = let env : List Var = given (w-nat {m = c.args.bend} {n = 65535} (omega arith)) ∷ [] in
-    fits w32 (env) (sub (var 0) (lit (pos 8192))) tt
-
-pub overflow_mul-result : goal.overflow_mul-result
-overflow_mul-result c = let env : List Var = given (w-nat {m = c.args.bend} {n = 65535} (omega arith)) ∷ [] in
-    fits w32 (env) product tt
-
 pub returns : goal.returns
 unfolding bend_cents
 returns c = let env : List Var = given (w-nat {m = c.args.bend} {n = 65535} (omega arith)) ∷ [] in

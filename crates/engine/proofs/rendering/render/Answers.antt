@@ -3,7 +3,7 @@ use Rattle.std.proofs.Common.{◌≡◌, ℕ, Result, Err, rules, ◌*◌, ◌<�
 use Rattle.state.specs.declared.Engine.{Engine}
 use Rattle.state.specs.Slots.{with_clock}
 use Rattle.state.specs.declared.Refusal.{Refusal}
-use Rattle.state.specs.Answers.{done, refused, answered}
+use Rattle.state.specs.Answers.{done, refused, told_call}
 use Rattle.state.proofs.AnswersLaws.{refusal-numbered}
 use Rattle.engine.specs.Rendering.{output, played, render, rendered}
 use Rattle.engine.proofs.RenderingLaws.{zero-low, clock-there}
@@ -16,7 +16,7 @@ returns-in_err-render_number c = let a = c.args in
     let passed : c.from_residual.result ≡ Err refusal = search rules in
     let q = c.in_err-render_number.ensures in
     let z = sym (ap (λ (k : ℕ). eqb k 0) q) ∙ refusal-numbered refusal in
-    record { answer = ap (λ (r : Result ℕ Refusal). answered r a.e.now) passed ∙ ap (λ (k : ℕ). refused k a.e.now) q ∙ simp z; output = simp z }
+    record { answer = ap (λ (r : Result ℕ Refusal). told_call r a.e.now) passed ∙ ap (λ (k : ℕ). refused k a.e.now) q ∙ simp z; output = simp z }
 
 pub play-x-requires : goal.play-x-requires
 play-x-requires c = let a = c.args in

@@ -12,19 +12,11 @@ use Rattle.curves.proofs.levels.GainTable.louder.Goals as goal
 at : (g : List ℕ) (i : ℕ) → g ≡ gains → get_or g i 0 ≡ kept i
 at g i e = ap (λ (x : List ℕ). get_or x i 0) e
 
-pub loop-i-init : goal.loop-i-init
-loop-i-init c = λ b h. omega arith
-
 pub returns-then-from-m : goal.returns-then-from-m
 unfolding louder
 returns-then-from-m c = let a = c.args in
     let e = c.from.ensures ∙ at a.self.now.entries c.loop-i.i c.args.self.now.kept in
     count-is kept a.m 200 c.loop-i.i c.loop-i.auto.i-end c.loop-i.invariant (λ h. rw e at c.if-from-m.true)
-
-pub loop-i-preserved : goal.loop-i-preserved
-loop-i-preserved c = let a = c.args in
-    let e = c.from.ensures ∙ at a.self.now.entries c.loop-i.i c.args.self.now.kept in
-    one_more kept a.m c.loop-i.i c.loop-i.invariant (rw e at c.if-from-m.false)
 
 pub returns : goal.returns
 unfolding louder

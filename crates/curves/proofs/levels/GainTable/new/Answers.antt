@@ -24,9 +24,6 @@ turn t₀ t a x n h e q =
     let s : take (a + 1) gains ≡ take a gains ++ (get_or gains a 0 ∷ []) = rw add-one (take-suc gains a 0 g) in
     rw (e, put (take a gains) t₀ a x 0 l k, q, s)
 
-pub loop-a-init : goal.loop-a-init
-loop-a-init c = (refl, refl)
-
 pub loop-a-preserved : goal.loop-a-preserved
 unfolding high_of low_of
 loop-a-preserved c = let l = c.loop-a in

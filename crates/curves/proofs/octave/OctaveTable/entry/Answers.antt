@@ -12,8 +12,5 @@ use Rattle.curves.proofs.octave.OctaveTable.entry.Goals as goal
 same : (t : List ℕ) (i : ℕ) → t ≡ octaves → (get_or t i 0 ≡ get_or octaves i 0) × (get_or t i 0 ≤ 2147483647)
 same t i e = let h = ap (λ (l : List ℕ). get_or l i 0) e in (h, rw h (octave-le i))
 
-pub overflow_cast-result : goal.overflow_cast-result
-overflow_cast-result c = record { fits = lt_of_le_of_lt (same c.args.self.now.entries (c.args.c % 1200) c.args.self.now.kept).1 (lit< tt) }
-
 pub returns : goal.returns
 returns c = same c.args.self.now.entries (c.args.c % 1200) c.args.self.now.kept

@@ -16,13 +16,5 @@ is-frames c t p e f = rw (e, f)
 most : (t p : ℕ) → t ≤ 2147483647 → p ≤ 65536 → t * 44100 * p ≤ 6206523233579827200
 most t p h k = mul-le-mul (mul-le-mul h (le_refl 44100)) k
 
-pub overflow_mul-scaled-2 : goal.overflow_mul-scaled-2
-overflow_mul-scaled-2 c = record { fits = lt_of_le_of_lt (most c.entry.result c.two_to.result c.entry.ensures.1 c.two_to.ensures.1) (lit< tt) }
-
-pub overflow_cast-result : goal.overflow_cast-result
-overflow_cast-result c = let x = c.entry.result * 44100 * c.two_to.result in
-    let h : x ≤ 6206523233579827200 = most c.entry.result c.two_to.result c.entry.ensures.1 c.two_to.ensures.1 in
-    record { fits = omega arith }
-
 pub returns : goal.returns
 returns c = is-frames c.args.c c.entry.result c.two_to.result c.entry.ensures.0 c.two_to.ensures.0

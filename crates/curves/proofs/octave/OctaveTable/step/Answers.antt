@@ -20,14 +20,5 @@ is-step cents rate u t e f = rw (f, div-div-eq-div-mul _ 44100 _, e)
 most : (t rate : ℕ) → t ≤ 2147483647 → rate ≤ 65535 → t * rate ≤ 140735340806145
 most t rate h k = mul-le-mul h k
 
-pub overflow_mul-scaled : goal.overflow_mul-scaled
-overflow_mul-scaled c = record { fits = lt_of_le_of_lt (most c.entry.result c.args.rate c.entry.ensures.1 (omega arith)) (lit< tt) }
-
-pub overflow_cast-result-2 : goal.overflow_cast-result-2
-overflow_cast-result-2 c = let x = c.entry.result * c.args.rate in
-    let h : x ≤ 140735340806145 = most c.entry.result c.args.rate c.entry.ensures.1 (omega arith) in
-    let k : x / 44100 ≤ 4294967295 = omega arith in
-    record { fits = lt_of_le_of_lt (le_trans (div-le_self (x / 44100) (2 ^ (14 - c.lift-c.result / 1200))) k) (lit< tt) }
-
 pub returns : goal.returns
 returns c = is-step c.args.cents c.args.rate c.lift-c.result c.entry.result (rw (to_z-of_z c.ranges.cents) at c.lift-c.ensures.0) c.entry.ensures.0
