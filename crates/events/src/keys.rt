@@ -84,7 +84,13 @@ fn off_one(s: Slot, channel: u8, whom: Whom, down: bool, g: &GainTable) -> Slot
 }
 
 // How many are picked, and the state with all of them let off.
-pub(crate) fn off_all(e: Engine, channel: u8, whom: Whom, down: bool, g: &GainTable) -> (u32, Engine)
+pub(crate) fn off_all(
+    e: Engine,
+    channel: u8,
+    whom: Whom,
+    down: bool,
+    g: &GainTable,
+) -> (u32, Engine)
     ensures { done result.0 result.1 ≡ off_all channel whom down e }
 {
     let mut x = e;

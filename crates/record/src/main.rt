@@ -52,12 +52,17 @@ fn turn(
 }
 
 // All of a case of n bytes, from a fresh player on, with nothing lent. A proved loop has to end: this one ends at a number that no case comes to.
-fn run(room: &mut [u8; 4194304], n: usize, tape: &mut Tape) -> Result<(), Complaint> {
-    let mut bank = [0u8; 66000];
-    let mut song = [0u8; 66000];
-    let mut ram = [0i16; 524288];
-    let mut rom = [0i16; 524288];
-    let mut loan = Loan::nothing(&mut bank, &mut song, &mut ram, &mut rom);
+// The arrays are the caller's: the check of a part of an array that is made in the function itself counts through it, and runs out of stack at the large ones.
+fn run(
+    bank: &mut [u8; 66000],
+    song: &mut [u8; 66000],
+    ram: &mut [i16; 524288],
+    rom: &mut [i16; 524288],
+    room: &mut [u8; 4194304],
+    n: usize,
+    tape: &mut Tape,
+) -> Result<(), Complaint> {
+    let mut loan = Loan::nothing(bank, song, ram, rom);
     let mut input = Input::whole(room, n);
     let mut p = player::fresh();
     for _ in 0..u64::MAX {
@@ -86,7 +91,19 @@ fn record(room: &mut [u8; 4194304], n: usize) -> Result<(), Complaint> {
         frames: 0,
         pours: false,
     };
-    run(room, n, &mut counted)?;
+    let mut bank = [0u8; 66000];
+    let mut song = [0u8; 66000];
+    let mut ram = [0i16; 524288];
+    let mut rom = [0i16; 524288];
+    run(
+        &mut bank,
+        &mut song,
+        &mut ram,
+        &mut rom,
+        room,
+        n,
+        &mut counted,
+    )?;
     if 1073741814 < counted.frames {
         return Err(Complaint::Endless);
     }
@@ -95,7 +112,15 @@ fn record(room: &mut [u8; 4194304], n: usize) -> Result<(), Complaint> {
         frames: 0,
         pours: true,
     };
-    run(room, n, &mut poured)
+    run(
+        &mut bank,
+        &mut song,
+        &mut ram,
+        &mut rom,
+        room,
+        n,
+        &mut poured,
+    )
 }
 
 // The case is read whole into the room. One that fills it to the last byte may go on behind it, and is refused.
