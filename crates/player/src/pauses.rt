@@ -41,7 +41,7 @@ fn freshen(e: Engine, channel: u8) -> Engine
     x
 }
 
-// .. of all channels.
+// .. of all channels. (A function that takes the step as a closure would say its equation worse: one line each is plainer.)
 #[tactic(auto, unfolding(crate::specs::Pauses::freshened_to))]
 fn freshen_all(e: Engine) -> Engine
     ensures { result ≡ freshened_to 16 e }

@@ -72,7 +72,7 @@ fn go_on<'a>(x: Tally, ram: &'a [i16], rom: &'a [i16], out: &mut [f32], at: usiz
     }
 }
 
-// n frames, and the events that are due in front of each. A turn goes on to the next event, and applies it if it is one of these.
+// n frames, and the events that are due in front of each. A turn goes on to the next event, and applies it if it is one of these. (It goes on by as many frames as the gap has, so this is no `for`.)
 fn play_on<'a>(
     p: Player,
     file: &[u8],
