@@ -85,13 +85,11 @@ pub fn voices_for(b: &[u8], m: Parts, h: u32, channel: u8, key: u8, velocity: u8
     }
     let t = OctaveTable::new();
     let n = count as usize;
-    let mut i: usize = 0;
-    while i < n {
+    for i in 0..n {
         let p = found.pairs[i];
         let l = layer_of(b, m, h, p);
         let v = voice_by(b, m, l, channel, key, velocity, &t);
         voices[i] = v;
-        i = i + 1;
     }
     Struck { count, voices }
 }

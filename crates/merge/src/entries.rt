@@ -82,7 +82,7 @@ fn flaw_at(e: Entry) -> Option<u32>
     None
 }
 
-// A track's first fault.
+// A track's first fault. No index counts its events: each says where the next one begins.
 pub fn flaw(b: &[u8], e: Entry) -> Option<u32>
     requires { Settled b.now e }
     ensures { result ≡ flaw_from (turns b.now) b.now e }

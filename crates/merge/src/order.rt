@@ -63,7 +63,7 @@ fn told(t: Tally, e: Entry, limit: u64) -> Tally
     }
 }
 
-// .. behind all of them.
+// .. behind all of them. No index counts the events: which track is next, their ticks say.
 pub fn tally(b: &[u8], l: Tracks, division: u16) -> Tally
     requires { Lined b.now l }
     ensures { result ≡ tally_of tally_start (lane_sequence b.now l) (3600000000 * division) }
@@ -84,7 +84,7 @@ pub fn tally(b: &[u8], l: Tracks, division: u16) -> Tally
     t
 }
 
-// The file of the sequence, whose track has so many bytes.
+// The file of the sequence, whose track has so many bytes. Here too the ticks say which track is next.
 pub fn write(b: &[u8], out: &mut [u8], l: Tracks, division: u16, size: u32)
     requires lined { Lined b.now l }
     requires room { 22 + length (line_bytes line_start (lane_sequence b.now l)) ≤ length out.old }

@@ -28,7 +28,6 @@ pub loop-i-init : goal.loop-i-init
 loop-i-init c = let a = c.args in (
   ap (replicate 32) c.no_voice-none.ensures
       ∙ filled_none (voice_of a.b.now a.m a.h a.channel a.key a.velocity) (layers_of a.b.now a.m a.key a.velocity a.h),
-  search rules,
   omega (arith, c.if-count-gt32.false),
 )
 
@@ -42,12 +41,11 @@ loop-i-preserved c = let a = c.args in
     let i = c.loop-i.i in
     let few : found.count ≤ 32 = omega (arith, c.if-count-gt32.false) in
     let size = found-length all found c.search-found.ensures few in
-    let less : i < found.count = omega (arith, c.loop-i-test.true) in
+    let less : i < found.count = omega arith in
     let at = found_at all found c.search-found.ensures few i less in
     let v = c.voice_by-v.ensures ∙ ap (λ (x : Layer). voice_by b a.m x a.channel a.key a.velocity) c.layer_of-l.ensures in (
       rw c.loop-i.invariant.0 (filled-set f all i _ _ (omega arith) (omega arith) at v),
-      omega arith,
-      c.loop-i.invariant.2,
+      c.loop-i.invariant.1,
     )
 
 pub returns : goal.returns
@@ -58,5 +56,5 @@ returns c = let a = c.args in
     let all = layers_of a.b.now a.m a.key a.velocity a.h in
     let few : found.count ≤ 32 = omega (arith, c.if-count-gt32.false) in
     let size = found-length all found c.search-found.ensures few in
-    let e : c.loop-i.i ≡ found.count = omega (arith, c.loop-i-test.false, c.loop-i.invariant.1) in
+    let e : c.loop-i.i ≡ found.count = omega arith in
     rw (c.loop-i.invariant.0, e) (struck-few f all found.count size (omega arith))
