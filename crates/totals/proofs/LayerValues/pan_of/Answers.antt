@@ -6,9 +6,6 @@ use Rattle.arith.proofs.WithinLaws.{w_fits, w-back}
 use Rattle.totals.specs.Values.{total_of, held_total, instrument_only}
 use Rattle.totals.proofs.LayerValues.pan_of.Goals as goal
 
-pub overflow_cast-result : goal.overflow_cast-result
-overflow_cast-result c = rw (w-back w64 c.held_at.ensures.1 (lit< tt)) (w_fits w16 c.held_at.ensures.1 (lit< tt))
-
 pub returns : goal.returns
 unfolding total_of held_total instrument_only between
 returns c = rw (w-back w64 c.held_at.ensures.1 (lit< tt), w-back w16 c.held_at.ensures.1 (lit< tt)) c.held_at.ensures.0

@@ -12,12 +12,6 @@ use Rattle.totals.specs.Values.{total_of, held_total, instrument_only}
 use Rattle.records.specs.Internal.Amounts.{at}
 use Rattle.totals.proofs.LayerValues.sustain_of.Goals as goal
 
-pub overflow_cast-result : goal.overflow_cast-result
-overflow_cast-result c = let r = c.held_at.ensures in
-    let a = c.args in
-    rw (w-back w64 r.1 (lit< tt))
-    (subst (λ (z : ℤ). T (non_neg z)) (sym r.0) (held-nonneg 1000 (at a.self.now.own 37 +ℤ at a.self.now.added 37)), record { fits = lt_of_le_of_lt r.1.within (lit< tt) })
-
 pub returns : goal.returns
 unfolding total_of held_total instrument_only between
 returns c = rw (w-back w64 c.held_at.ensures.1 (lit< tt)) (ap nat_abs c.held_at.ensures.0)

@@ -19,10 +19,6 @@ pub returns-then-x-gt127 : goal.returns-then-x-gt127
 returns-then-x-gt127 c = let a = c.args in
     sym (midi-high a.low a.x a.other (rw (to_z-of_z c.ranges.x) at c.if-x-gt127.true))
 
-pub overflow_cast-result : goal.overflow_cast-result
-overflow_cast-result c = let low-is : to_z w16 c.args.low ≡ pos c.args.low = w-back w16 (w-nat {m = c.args.low} {n = 255} (omega arith)) (lit< tt) in
-    rw (to_z-of_z c.ranges.x) (midi-byte c.args.low c.args.x (rw (to_z-of_z c.ranges.x, low-is) at c.if-x-low.false) (rw (to_z-of_z c.ranges.x) at c.if-x-gt127.false))
-
 pub returns : goal.returns
 returns c = let low-is : to_z w16 c.args.low ≡ pos c.args.low = w-back w16 (w-nat {m = c.args.low} {n = 255} (omega arith)) (lit< tt) in
     let a = c.args in

@@ -16,11 +16,6 @@ part = mul (sub (lit (pos 60)) (var 1)) (var 2)
 abbrev whole : E
 whole = add (var 0) part
 
-pub overflow_mul-result : goal.overflow_mul-result
-overflow_mul-result c = let k : Within c.from.result 255 = rw c.from.ensures (w-nat {m = c.args.k} {n = 255} (omega arith)) in
-    let env : List Var = given c.requires.0 ∷ given k ∷ given c.requires.1 ∷ [] in
-    fits w64 (env) part tt
-
 pub overflow_add-result : goal.overflow_add-result
 overflow_add-result c = let k : Within c.from.result 255 = rw c.from.ensures (w-nat {m = c.args.k} {n = 255} (omega arith)) in
     let env : List Var = given c.requires.0 ∷ given k ∷ given c.requires.1 ∷ [] in
