@@ -13,11 +13,6 @@ use Rattle.totals.proofs.SettingsLaws.{held-nonneg}
 use Rattle.layers.proofs.ExtentLaws.{word_held}
 use Rattle.layers.proofs.extent.word.Goals as goal
 
-pub overflow_cast-result : goal.overflow_cast-result
-overflow_cast-result c = let x = c.args.x in
-    let e = to_z-of_z {w = w64} {z = c.hold.result} (sfits_of c.hold.type_inv) ∙ rw (to_z-of_z c.ranges.x) at c.hold.ensures in
-    rw e (held-nonneg 4294967295 x, record { fits = lt_of_le_of_lt (held-bound (pos 0) (pos 4294967295) x 4294967295 (w-nat (omega arith)) (w-nat (omega arith))).within (lit< tt) })
-
 pub returns : goal.returns
 returns c = let x = c.args.x in
     let e = to_z-of_z {w = w64} {z = c.hold.result} (sfits_of c.hold.type_inv) ∙ rw (to_z-of_z c.ranges.x) at c.hold.ensures in

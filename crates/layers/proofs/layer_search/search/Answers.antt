@@ -67,9 +67,6 @@ search-preserved c = let a = c.args in
       elim c.if-enters.branch [ then-enters+else-loop-j-test w ↦ known-again b i a.key a.velocity (from + n) zone.link barren _ found c.search.found w.loop-j.found w.loop-j.j c.search.invariant.6 c.search.invariant.1 (rw w.from-k.ensures at w.loop-j.invariant.1) (omega (arith, w.loop-j-test.false, w.loop-j.auto.j-end, rw w.from-k.ensures at (w.from-many.ensures ∙ w.zone_count-then-enters.ensures))) (w.barren-is ∙ w.note_barren.ensures) | else-enters w ↦ rw w.barren-is c.search.invariant.6 ],
     )
 
-pub overflow_cast-result : goal.overflow_cast-result
-overflow_cast-result c = elim c.search-test.branch [ else-search-test w ↦ omega (arith, w.found-is, c.search.invariant.2) | then-search-test+then-enters+then-loop-j-test+then-picked+then-found-eq33 w ↦ omega (arith, w.found-is, w.loop-j.invariant.2) ]
-
 pub returns : goal.returns
 unfolding searched layers_of
 returns c = let a = c.args in

@@ -14,7 +14,3 @@ pub loop-n-preserved : goal.loop-n-preserved
 loop-n-preserved c = let from = c.from-from in
     let a = c.args in
     (under-turn a.b.now a.i a.a a.k c.loop-n.n from.result _ _ _ _ _ (c.from-from.ensures ∙ c.bag_of.ensures) c.zone_at-zone.ensures c.global_of-beside.ensures c.loop-n.invariant.0 c.keys_under.ensures c.joined-span.ensures, search rules, search rules)
-
-pub returns : goal.returns
-returns c = let a = c.args in
-    c.loop-n.invariant.0 ∙ ap (span_under a.b.now a.i a.a a.k) (omega (arith, c.loop-n-test.false, c.loop-n.auto.n-end, c.zone_count.ensures, c.from-count.ensures))
