@@ -9,9 +9,6 @@ use Rattle.state.specs.Internal.Seats.{as_slot}
 use Rattle.state.proofs.SeatsLaws.{first-le, first-here, first_on}
 use Rattle.state.proofs.seats.place_of.Goals as goal
 
-pub loop-k-init : goal.loop-k-init
-loop-k-init c = (c.well_formed.0.1.0.1, omega arith)
-
 pub returns-then-order-k : goal.returns-then-order-k
 returns-then-order-k c = let a = c.args in
     let xs = map as_slot a.order in

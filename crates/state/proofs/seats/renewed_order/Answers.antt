@@ -11,12 +11,6 @@ use Rattle.state.specs.Internal.Seats.{as_slot}
 use Rattle.state.proofs.SeatsLaws.{renewed-length, fill-turn}
 use Rattle.state.proofs.seats.renewed_order.Goals as goal
 
-pub loop-k-init : goal.loop-k-init
-loop-k-init c = let n = c.well_formed.0.1.0.1 in (n, n, refl)
-
-pub shifted-requires : goal.shifted-requires
-shifted-requires c = (search rules, c.place_of-p.ensures)
-
 pub loop-k-preserved : goal.loop-k-preserved
 loop-k-preserved c = let a = c.args in
     let xs = map as_slot a.order in
