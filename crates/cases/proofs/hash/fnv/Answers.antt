@@ -12,7 +12,3 @@ pub loop-x-preserved : goal.loop-x-preserved
 loop-x-preserved g c = let xs = c.args.items.now in
     let h : c.loop-x.x-index < length xs = omega arith in
     rw (hash-step g.T.Hashed.after 14695981039346656037 xs c.loop-x.x-index c.x-item.result h, ← c.loop-x.invariant, ← c.x-item.is) c.into_hash-h.ensures
-
-pub returns : goal.returns
-returns g c = let xs = c.args.items.now in let i = c.loop-x.x-index in let h : length xs ≤ i = omega arith in
-    c.loop-x.invariant ∙ (ap (hash_each g.T.Hashed.after 14695981039346656037) (take_all i xs h) ∙ sym (g.met.T.Hashed.in_order 14695981039346656037 xs))
