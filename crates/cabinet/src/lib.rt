@@ -38,7 +38,7 @@ pub use steps::{
 };
 use voice::Channel;
 
-// A stage: 0 delay (t: frames left), 1 attack, 2 hold, 3 decay, 4 sustain, any other release.
+// A stage: 0 delay (t: frames left), 1 attack, 2 hold, 3 decay, 4 sustain, any other release. A number and no enum, since C keeps it.
 #[repr(C)]
 #[derive(Clone, Copy)]
 pub struct FlatStage {

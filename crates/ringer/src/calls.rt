@@ -4,7 +4,8 @@ use cases::{Command, Loan};
 use engine::{Engine, Refusal, status_of};
 use player::{Answer, Player};
 
-// What a call that is no render answers: the number of 01's table (0: done), a count or a place, and the player after.
+// What a call that is no render answers: the number of 01's table (0: done), a count or a place, and the player after. A number and
+// no enum, since a trace's line prints it.
 #[derive(Clone, Copy)]
 pub struct Called {
     pub number: u8,

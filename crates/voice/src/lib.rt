@@ -85,7 +85,7 @@ pub struct Channel {
     pub pedal: u8,
 }
 
-// A slot: whether it sounds, and its record.
+// A slot: whether it sounds, and its record. No Option, since a free slot keeps its record (`free` says so), as the state's array does.
 #[derive(Clone, Copy)]
 pub struct Slot {
     pub sounding: bool,
@@ -100,7 +100,7 @@ pub struct Framed {
     pub right: i32,
 }
 
-// What the panel is told: a slot past 31 is refused.
+// What the panel is told: a slot past 31 is refused. One enum of all cases is the form that is settled for it.
 #[derive(Clone, Copy)]
 pub enum Shown {
     Refused,
