@@ -13,10 +13,6 @@ returns-then-past_bend c = let a = c.args in
     let p = c.past_bend in
     sym (refuses (past_bend a.channel a.bend) a.e.now _ (sym p.ensures ∙ c.if-past_bend.true))
 
-pub with_channel-requires : goal.with_channel-requires
-with_channel-requires c = let a = c.args in
-    bend-low a.channel a.bend (sym c.past_bend.ensures ∙ c.if-past_bend.false)
-
 pub returns : goal.returns
 unfolding pitch_bend
 returns c = let a = c.args in

@@ -11,10 +11,6 @@ returns-then-past_two c = let a = c.args in
     let p = c.past_two in
     sym (refuses (past_two a.channel a.control a.value) a.e.now _ (sym p.ensures ∙ c.if-past_two.true))
 
-pub control_one-requires : goal.control_one-requires
-control_one-requires c = let a = c.args in
-    two-low a.channel a.control a.value (sym c.past_two.ensures ∙ c.if-past_two.false)
-
 pub returns : goal.returns
 unfolding control_change
 returns c = let a = c.args in

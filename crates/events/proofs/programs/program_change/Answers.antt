@@ -13,10 +13,6 @@ returns-then-past_one c = let a = c.args in
     let p = c.past_one in
     sym (refuses (past_one a.channel a.program) a.e.now _ (sym p.ensures ∙ c.if-past_one.true))
 
-pub with_channel-requires : goal.with_channel-requires
-with_channel-requires c = let a = c.args in
-    one-low a.channel a.program (sym c.past_one.ensures ∙ c.if-past_one.false)
-
 pub returns : goal.returns
 unfolding program_change
 returns c = let a = c.args in
