@@ -14,7 +14,3 @@ pub loop-n-preserved : goal.loop-n-preserved
 loop-n-preserved c = let b = c.args.b.now in
     let e : c.loop-n.at + 8 + c.u32_at.result ≡ chunk_at b (c.loop-n.n + 1) = cc (chunk_next b c.loop-n.n) in
     (e, omega (arith, c.u32_at.type_inv), search rules)
-
-pub returns : goal.returns
-returns c = let e : c.loop-n.n ≡ c.args.k = omega arith in
-    (rw e at c.loop-n.invariant.0, omega arith)

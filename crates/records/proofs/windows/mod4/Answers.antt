@@ -9,15 +9,6 @@ use Rattle.arith.specs.Within.{Within}
 use Rattle.arith.proofs.WithinLaws.{w-lit, w-add, w_fits, w-back}
 use Rattle.records.proofs.windows.mod4.Goals as goal
 
-pub overflow_add-result : goal.overflow_add-result
-overflow_add-result c = let up : Within (c.args.x +ℤ pos 32768) 65536 = w-add c.requires (w-lit (pos 32768)) in
-    rw (to_z-of_z c.ranges.x) (w_fits w64 (up) (lit< tt))
-
-pub overflow_cast-result : goal.overflow_cast-result
-overflow_cast-result c = let up : Within (c.args.x +ℤ pos 32768) 65536 = w-add c.requires (w-lit (pos 32768)) in
-    rw (to_z-of_z c.ranges.x, w-back w64 (up) (lit< tt))
-    (bias-nonneg c.args.x 32768 c.requires, record { fits = lt_of_le_of_lt (up).within (lit< tt) })
-
 pub returns : goal.returns
 returns c = let up : Within (c.args.x +ℤ pos 32768) 65536 = w-add c.requires (w-lit (pos 32768)) in
     rw (to_z-of_z c.ranges.x, w-back w64 (up) (lit< tt)) (mod-lift c.args.x c.requires)

@@ -13,17 +13,6 @@ use Rattle.records.proofs.windows.shifted.Goals as goal
 abbrev back16 : {z : ℤ} → SFits w16 z → to_z w64 (of_z w64 z) ≡ z
 back16 h = w-back w64 (w-of w16 h) (lit< tt)
 
-pub overflow_cast-fine : goal.overflow_cast-fine
-overflow_cast-fine c = rw (to_z-of_z c.ranges.fine) (w_fits w64 (w-of w16 c.ranges.fine) (lit< tt))
-
-pub overflow_cast-coarse : goal.overflow_cast-coarse
-overflow_cast-coarse c = rw (to_z-of_z c.ranges.coarse) (w_fits w64 (w-of w16 c.ranges.coarse) (lit< tt))
-
-pub sum-requires : goal.sum-requires
-sum-requires c = let place : to_z w64 c.args.place ≡ pos c.args.place = w-back w64 (w-nat {m = c.args.place} {n = 4294967295} (omega arith)) (lit< tt) in
-    rw (to_z-of_z c.ranges.fine, to_z-of_z c.ranges.coarse, back16 c.ranges.fine, back16 c.ranges.coarse, place)
-    (w-nat {m = c.args.place} {n = 4294967295} (omega arith), w-of w16 c.ranges.fine, w-of w16 c.ranges.coarse)
-
 pub returns : goal.returns
 unfolding shifted
 returns c = let place : to_z w64 c.args.place ≡ pos c.args.place = w-back w64 (w-nat {m = c.args.place} {n = 4294967295} (omega arith)) (lit< tt) in

@@ -16,18 +16,6 @@ product = mul (var 2) (lit (pos 32768))
 abbrev whole : E
 whole = add fine product
 
-pub overflow_add-result : goal.overflow_add-result
-overflow_add-result c = let env : List Var = given c.requires.0 ∷ given c.requires.1 ∷ given c.requires.2 ∷ [] in
-    fits w64 (env) fine tt
-
-pub overflow_mul-result : goal.overflow_mul-result
-overflow_mul-result c = let env : List Var = given c.requires.0 ∷ given c.requires.1 ∷ given c.requires.2 ∷ [] in
-    fits w64 (env) product tt
-
-pub overflow_add-result-2 : goal.overflow_add-result-2
-overflow_add-result-2 c = let env : List Var = given c.requires.0 ∷ given c.requires.1 ∷ given c.requires.2 ∷ [] in
-    fits w64 (env) whole tt
-
 pub returns : goal.returns
 returns c = let env : List Var = given c.requires.0 ∷ given c.requires.1 ∷ given c.requires.2 ∷ [] in
     let e = back w64 (env) whole tt in (e, rw e (w_le (within whole (env)) (lit≤ tt)))
