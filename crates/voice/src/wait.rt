@@ -3,7 +3,6 @@ ghost use Rattle.std.specs.Prelude.{◌≡◌, ◌<◌, min};
 ghost use Rattle.voice.specs.Internal.Wait.{left_in};
 
 use crate::Stage;
-use arith::least;
 
 // The frames that a delay has left, none in other stages.
 fn left_in(s: Stage) -> u32
@@ -19,6 +18,6 @@ fn left_in(s: Stage) -> u32
 pub fn wait(s: Stage, most: usize) -> usize
     ensures { (result ≡ min (left_in s) most) × (result < 4294967296) }
 {
-    // `(left_in(s) as usize).min(most)` was tried: it costs 4.2 % of the voice loop's instructions.
-    least(left_in(s) as u64, most as u64) as usize
+    // In this order, since `(left_in(s) as usize).min(most)` costs 4.2 % of the voice loop's instructions.
+    most.min(left_in(s) as usize)
 }
