@@ -19,7 +19,7 @@ pub struct Command {
     pub second: u32,
 }
 
-// How many bytes stand behind a letter before those of a bank, a song, a memory or a name.
+// How many bytes stand behind a letter before those of a bank, a song, a memory or a name. The letters are the case's own words, so this is a parser.
 fn bytes_behind(letter: u8) -> usize
     ensures { result ≤ 8 }
 {

@@ -90,7 +90,7 @@ impl<'a> Loan<'a> {
         }
     }
 
-    // The commands that say what is lent: B, L, M and O lend all of what stands behind them, m and x only the first samples of a memory.
+    // The commands that say what is lent: B, L, M and O lend all of what stands behind them, m and x only the first samples of a memory. The letters are the case's own words, so this is a parser.
     pub fn lend(&mut self, input: &mut Input, c: Command) -> Result<(), Bad> {
         match c.letter {
             b'B' => self.bank.read(input, c.first),

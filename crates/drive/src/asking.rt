@@ -45,7 +45,7 @@ fn ending(text: &mut Text, p: Player) {
     text.spaced(u64::from(engine::voice_count(p.engine)));
 }
 
-// a, i, d, j, l, s, u, E: the call and its line.
+// a, i, d, j, l, s, u, E: the call and its line. The letters are the case's own words, so this is a parser.
 pub fn ask(bank: &[u8], text: &mut Text, c: Command, p: Player) {
     let letter = c.letter;
     match letter {

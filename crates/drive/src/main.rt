@@ -13,7 +13,7 @@ use cases::{Bad, Command, Input, Loan, Text};
 use player::Player;
 use ringer::Kind;
 
-// A command for the player, and the player behind it.
+// A command for the player, and the player behind it. The letters are the case's own words, so this is a parser.
 fn play(loan: &Loan, text: &mut Text, c: Command, p: Player) -> Player {
     match c.letter {
         b'r' | b'V' => output::render(loan, text, c, p),

@@ -18,7 +18,7 @@ const STDIN: i32 = 0;
 
 const STDOUT: i32 = 1;
 
-// A command for the player, and the player behind it.
+// A command for the player, and the player behind it. The letters are the case's own words, so this is a parser.
 fn play(loan: &Loan, tape: &mut Tape, c: Command, p: Player) -> Result<Player, Complaint> {
     match c.letter {
         b'r' | b'V' => renders::render(loan, tape, c, p),

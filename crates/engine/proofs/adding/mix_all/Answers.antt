@@ -11,9 +11,6 @@ pub loop-k-init : goal.loop-k-init
 loop-k-init c = let a = c.args in
     (sym (ap (λ (p : List Float). p ++ a.out.now) (mixed-none a.acc.now)), refl, omega arith, omega arith)
 
-pub bounds-out-k-in-loop-k : goal.bounds-out-k-in-loop-k
-bounds-out-k-in-loop-k c = simp length-set (omega arith)
-
 pub loop-k-preserved : goal.loop-k-preserved
 loop-k-preserved c = let a = c.args in
     let k = c.loop-k.k in
@@ -33,8 +30,3 @@ loop-k-preserved c = let a = c.args in
       omega arith,
       omega arith,
     )
-
-pub returns : goal.returns
-returns c = let a = c.args in
-    let e : c.loop-k.k ≡ a.n = omega arith in
-    c.loop-k.invariant.0 ∙ ap (λ (j : ℕ). mixed_to j a.acc.now ++ drop (2 * j) a.out.now) e

@@ -26,9 +26,6 @@ loop-i-init c = let a = c.args in
       c.requires.sums.0,
     )
 
-pub run_slot-t-requires : goal.run_slot-t-requires
-run_slot-t-requires c = record { sums = (omega (arith, c.loop-i.invariant.5, c.loop-i.invariant.6), λ j. w_le (c.loop-i.invariant.4 j) (omega arith)) }
-
 pub overflow_add-word : goal.overflow_add-word
 overflow_add-word c = let one : c.run_slot-t.result ≡ slot_after c.args.ram.now c.args.rom.now c.args.e c.args.n (get_or (slots_of c.args.e) c.loop-i.i (free blank)) = c.run_slot-t.ensures.slot ∙ ap (slot_after c.args.ram.now c.args.rom.now c.args.e c.args.n) c.slot_of-s.ensures in
     let turn : c.loop-i.word + c.flag-word.result ≡ word_to (slot_after c.args.ram.now c.args.rom.now c.args.e c.args.n) (c.loop-i.i + 1) (slots_of c.args.e) = let a = c.args in

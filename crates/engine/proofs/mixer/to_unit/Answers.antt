@@ -9,9 +9,6 @@ use Rattle.arith.specs.Within.{Within}
 use Rattle.arith.proofs.WithinLaws.{w_le}
 use Rattle.engine.proofs.mixer.to_unit.Goals as goal
 
-pub int_to_float-result : goal.int_to_float-result
-int_to_float-result c = rw (to_z-of_z c.ranges.k) (in-float c.args.k 8388608 c.requires (lit≤ tt))
-
 -- the constant of the source is 2 ^ -23
 step : of_bits binary32 872415232 ≡ fin false 1 (negsuc 22)
 unfolding of_bits of_fields odd count_trailing_zeros

@@ -29,7 +29,3 @@ loop-i-preserved c = let a = c.args in
       c.loop-i.invariant.0,
       ap₂ (λ (b t : Bool). b || t) c.loop-i.invariant.1 (sym no) ∙ sym (any-turn p (slots_of a.e) c.loop-i.i (free blank) (omega (arith, c.loop-i.invariant.0))),
     )
-
-pub returns : goal.returns
-returns c = let a = c.args in
-    c.loop-i.invariant.1 ∙ ap (λ (ss : List Slot). lacking a.ram.now a.rom.now ss) (take_all c.loop-i.i (slots_of a.e) (omega (arith, c.loop-i.invariant.0)))

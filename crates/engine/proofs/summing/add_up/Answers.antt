@@ -9,11 +9,6 @@ use Rattle.engine.specs.Internal.Sums.{add_all, slot_heard}
 use Rattle.engine.proofs.SummingLaws.{all-summed}
 use Rattle.engine.proofs.summing.add_up.Goals as goal
 
-pub run_all-requires : goal.run_all-requires
-run_all-requires c = let zeros : c.fill.new.self ≡ replicate (length c.args.acc.now) (pos 0) = search (rules, overwrites) in
-    let long = ap length zeros ∙ length-replicate (length c.args.acc.now) (pos 0) in
-    record { sums = (omega (arith, long, c.requires), subst (Small 0) (sym zeros) (zeros-small (length c.args.acc.now))) }
-
 pub returns : goal.returns
 returns c = let a = c.args in
     let zeros : c.fill.new.self ≡ replicate (length a.acc.now) (pos 0) = search (rules, overwrites) in
