@@ -12,7 +12,7 @@ pub struct Clause {
 
 /// A function of the source, with the type whose `impl` or the trait that holds it, the names of its parameters (`self` is one),
 /// those of them that are lent, those lent to be written, those that are called, the words of its answer's type, the types of its
-/// head, its contract, and the words of its body, none where a trait only names it.
+/// head as paths, its contract, and the words of its body, none where a trait only names it.
 pub struct Function {
     pub name: String,
     pub of: Option<String>,
@@ -39,6 +39,8 @@ pub struct Source {
     pub uses: Vec<Use>,
     /// the words of its ghost fields and ghost members
     pub ghosts: Vec<String>,
+    /// its `impl From`s, each by its head with the words of its ghost `from_gives`, none where it has none
+    pub froms: Vec<(String, Vec<String>)>,
     /// all its words, in order
     pub words: Vec<String>,
 }
@@ -77,7 +79,7 @@ pub fn read_source(krate: &str, path: &Path) -> Source {
     let named = |pair: &&[String]| pair[0] == "struct" || pair[0] == "enum";
     let types = words.windows(2).filter(named).map(|pair| bare(&pair[1]).to_string()).collect();
     let structs = (0..words.len()).filter(|&at| words[at] == "struct").map(|at| fields(&words, at)).collect();
-    Source { krate: krate.to_string(), module, functions: functions(&words), types, structs, paths, uses, ghosts: ghosts(&words), words }
+    Source { krate: krate.to_string(), module, functions: functions(&words), types, structs, paths, uses, ghosts: ghosts(&words), froms: froms(&words), words }
 }
 
 /// What stands in the braces of ghost fields and ghost members.
@@ -85,6 +87,19 @@ fn ghosts(words: &[String]) -> Vec<String> {
     let is_ghost = |at: &usize| words[*at] == "ghost" && words.get(at + 1).is_some_and(|word| word != "use");
     let heads = (0..words.len()).filter(is_ghost);
     heads.filter_map(|at| Some(at + words[at..].iter().position(|word| word == "{")?)).flat_map(|open| antt::apart(&words[open..behind(words, open)])).collect()
+}
+
+/// The `impl From`s of a file, each by its head, and what stands in the braces of its ghost `from_gives`.
+fn froms(words: &[String]) -> Vec<(String, Vec<String>)> {
+    let impls = (0..words.len()).filter_map(|at| holder(words, at).map(|(open, end, _)| (at, open, end)));
+    let is_from = |at: usize, open: usize| words[at..open].iter().any(|word| word.contains('<') && bare(word).rsplit("::").next() == Some("From"));
+    let gives = |(at, open, end): (usize, usize, usize)| {
+        let ghost = (open..end - 1).find(|&at| words[at] == "ghost" && words[at + 1] == "from_gives");
+        let brace = ghost.and_then(|ghost| Some(ghost + words[ghost..end].iter().position(|word| word == "{")?));
+        let text = brace.map_or(Vec::new(), |brace| antt::apart(&words[brace + 1..behind(words, brace) - 1]));
+        (words[at..open].join(" "), text)
+    };
+    impls.filter(|(at, open, _)| is_from(*at, *open)).map(gives).collect()
 }
 
 /// The `use` items of a text, each path of a group by itself, and whether they are `pub`. An item ends with its semicolon.
@@ -157,6 +172,13 @@ fn without_literals(text: &str) -> String {
 /// A name without the lifetimes behind it.
 fn bare(name: &str) -> &str {
     name.split('<').next().unwrap_or(name)
+}
+
+/// The types that a word of a head names, as paths: answers::Poured and Refusal of Result<answers::Poured,Refusal>.
+pub fn named_types(word: &str) -> Vec<String> {
+    let paths = word.split(|c: char| !c.is_alphanumeric() && c != '_' && c != ':').map(|path| path.trim_matches(':'));
+    let is_type = |path: &&str| path.rsplit("::").next().is_some_and(|last| last.starts_with(char::is_uppercase));
+    paths.filter(is_type).map(str::to_string).collect()
 }
 
 /// The place behind the bracket that closes the one at a place.
@@ -255,7 +277,8 @@ fn function(words: &[String], at: usize, of: Option<String>) -> Function {
         contract.push(Clause { requires: words[end] == "requires", words: antt::apart(&words[end + brace..close]) });
         end = close;
     }
-    let types = head.iter().chain(&answer).map(|word| bare(word)).filter(|word| word.starts_with(char::is_uppercase));
+    let own_type = of.iter().filter(|_| of_self.is_some());
+    let types = head.iter().chain(&answer).flat_map(|word| named_types(word)).chain(own_type.cloned()).collect();
     Function {
         name: bare(&words[at + 1]).to_string(),
         of,
@@ -264,7 +287,7 @@ fn function(words: &[String], at: usize, of: Option<String>) -> Function {
         parameters: own(of_self.is_some()).chain(head.iter().filter_map(named)).collect(),
         lent,
         written,
-        types: types.map(str::to_string).collect(),
+        types,
         answer,
         contract,
         body: if words.get(end).is_some_and(|word| word == "{") { words[end..behind(words, end)].to_vec() } else { Vec::new() },

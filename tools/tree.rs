@@ -166,9 +166,10 @@ impl Tree {
     /// The module of a path such as `Rattle.arith.specs.Words`, where it is one of definitions or declared types.
     fn module(&self, path: &str) -> Option<Module> {
         let (krate, rest) = path.strip_prefix("Rattle.")?.split_once(".specs.")?;
+        // a type that no file's name leads to stands behind its file's, as in declared.answers.Refusal
         match rest.split('.').collect::<Vec<_>>()[..] {
-            ["declared", name] => Some(Module::Type(krate.to_string(), name.to_string())),
-            ["declared", name, ..] => Some(Module::Variants(krate.to_string(), name.to_string())),
+            ["declared", .., name, "TheVariants"] => Some(Module::Variants(krate.to_string(), name.to_string())),
+            ["declared", .., name] => Some(Module::Type(krate.to_string(), name.to_string())),
             _ => self.specs.iter().position(|file| file.krate == krate && file.module == rest).map(Module::Specs),
         }
     }
@@ -252,6 +253,12 @@ impl Scope {
     }
 }
 
+/// What a path leads to: a function with its file, or a type by its crate and its name.
+enum Led<'a> {
+    Function(&'a Source, &'a Function),
+    Type(&'a str, &'a str),
+}
+
 /// What a reader has to hold against the scope document: definitions, tables among them, and types of the source.
 #[derive(Default)]
 pub struct Reached {
@@ -285,13 +292,24 @@ impl Tree {
         let lookup = |name: &str| self.resolve(&scope, name);
         let contract: Vec<String> = function.contract.iter().flat_map(|clause| clause.words.clone()).collect();
         let mut cited = antt::cited_by(&contract, &function.parameters, &lookup);
-        for name in &function.types {
-            let brought =
-                source.paths.iter().find(|(_, path)| path.last() == Some(name)).map(|(_, path)| path[0].clone());
-            let krate = brought.filter(|first| self.crates.contains(first)).unwrap_or(source.krate.clone());
-            cited.push(Target::Type(krate, name.clone()));
-        }
+        cited.extend(function.types.iter().filter_map(|name| self.declared(source, name)));
         cited
+    }
+
+    /// The type that a path in a source file leads to, by the crate that declares it; nothing for a type of the kit and for a letter.
+    fn declared(&self, source: &Source, name: &str) -> Option<Target> {
+        let path: Vec<String> = name.split("::").map(str::to_string).collect();
+        let brought = source.paths.iter().map(|(_, brought)| brought).find(|brought| brought.last() == path.first());
+        let own = [source.module.clone()];
+        let front = match brought {
+            Some(brought) => &brought[..brought.len() - 1],
+            None if path.len() == 1 => &own,
+            None => &[],
+        };
+        match self.led(&source.krate, &[front, &path].concat())? {
+            Led::Type(krate, name) => Some(Target::Type(krate.to_string(), name.to_string())),
+            Led::Function(..) => None,
+        }
     }
 
     /// Looks names up as they stand in a source file.
@@ -311,6 +329,29 @@ impl Tree {
 
     /// The function that a path of a crate leads to; an empty list for a type, and nothing where it leads nowhere.
     pub fn follow(&self, krate: &str, path: &[String]) -> Option<Vec<(&Source, &Function)>> {
+        match self.led(krate, path)? {
+            Led::Function(source, function) => Some(vec![(source, function)]),
+            Led::Type(..) => Some(Vec::new()),
+        }
+    }
+
+    /// What a crate that passes a path on lets others call by it: the function that it leads to, or the public methods of the type.
+    pub fn passed_on(&self, krate: &str, path: &[String]) -> Option<Vec<(&Source, &Function)>> {
+        match self.led(krate, path)? {
+            Led::Function(source, function) => Some(vec![(source, function)]),
+            Led::Type(krate, name) => Some(self.methods(krate, name)),
+        }
+    }
+
+    /// The public methods of a type, wherever in its crate their `impl` stands.
+    fn methods(&self, krate: &str, name: &str) -> Vec<(&Source, &Function)> {
+        let sources = self.sources.iter().filter(|source| source.krate == krate);
+        let all = sources.flat_map(|source| source.functions.iter().map(move |function| (source, function)));
+        all.filter(|(_, function)| function.public && function.of.as_deref() == Some(name)).collect()
+    }
+
+    /// The function or the type that a path of a crate leads to.
+    fn led<'a>(&'a self, krate: &str, path: &[String]) -> Option<Led<'a>> {
         let (name, first) = (path.last()?, path.first()?.as_str());
         let inside = self.sources.iter().any(|source| source.krate == krate && source.module == first);
         let (krate, module) = match first {
@@ -319,18 +360,19 @@ impl Tree {
             _ => (first, if path.len() > 2 { path[1].as_str() } else { "lib" }),
         };
         let source = self.sources.iter().find(|source| source.krate == krate && source.module == module)?;
-        if let Some(function) = source.functions.iter().find(|function| function.name == *name) {
-            return Some(vec![(source, function)]);
+        if let Some(function) = source.functions.iter().find(|function| function.name == *name && function.of.is_none()) {
+            return Some(Led::Function(source, function));
         }
-        if source.types.contains(name) {
-            return Some(Vec::new());
+        if let Some(name) = source.types.iter().find(|own| *own == name) {
+            return Some(Led::Type(&source.krate, name));
         }
         let passed = source.paths.iter().find(|(public, path)| *public && path.last() == Some(name));
-        self.follow(krate, &passed?.1)
+        self.led(krate, &passed?.1)
     }
 
     /// All functions that a host may call: what the roots of engine, wave, riff, player and cabinet pass on, what is asked of a
-    /// bank's bytes alone, reader's public ones, and those of the roots of smf and merge.
+    /// bank's bytes alone, reader's public ones, and those of the roots of smf and merge; and the public methods of the types that
+    /// these roots pass on or declare.
     pub fn host_functions(&self, lost: &mut Vec<String>) -> Vec<(&Source, &Function)> {
         let mut found = Vec::new();
         let of_bytes = [("bank", "admission"), ("bank", "past_memory"), ("layers", "preset_sheet")];
@@ -340,7 +382,7 @@ impl Tree {
             let passed = root.iter().flat_map(|root| &root.paths).filter(|(public, _)| *public);
             let others = beside.iter().filter(|_| krate == "engine");
             for (_, path) in passed.chain(others) {
-                match self.follow(krate, path) {
+                match self.passed_on(krate, path) {
                     Some(functions) => found.extend(functions),
                     None => lost.push(format!("crates/{krate}/src/lib.rt: {} leads nowhere", path.join("::"))),
                 }
@@ -352,6 +394,12 @@ impl Tree {
         for source in self.sources.iter().filter(is_root) {
             found.extend(source.functions.iter().filter(|function| function.public).map(|function| (source, function)));
         }
+        let roots = ["engine", "wave", "riff", "player", "cabinet", "smf", "merge", "reader"];
+        for root in self.sources.iter().filter(|source| source.module == "lib" && roots.contains(&source.krate.as_str())) {
+            found.extend(root.types.iter().flat_map(|name| self.methods(&root.krate, name)));
+        }
+        let mut seen = BTreeSet::new();
+        found.retain(|(_, function)| seen.insert(std::ptr::from_ref(*function)));
         found
     }
 

@@ -6,7 +6,7 @@ use Prim.Native.Nat.{ℕ}
 use mathlib.Core.Bool.{Bool}
 use Rattle.promises.specs.Determined.{Settles, Outcome, Ends}
 use Rattle.std.specs.Prelude.{Result, Ok, Err, Option}
-use Rattle.state.specs.Answers.{Answered, status_of}
+use Rattle.state.specs.Answers.{Answered, number, status_of}
 use Rattle.state.proofs.ToldLaws.{call-told-apart, status-told-apart}
 use Rattle.state.specs.declared.Refusal.{Refusal}
 use Rattle.voice.specs.declared.Shown.{Shown}
@@ -23,7 +23,7 @@ use Rattle.reader.specs.Reader.{opened_of, next_of, nth_listed}
 use Rattle.reader.specs.declared.Taken.{Taken}
 use Rattle.reader.specs.declared.Step.{Step}
 use lib.ListN.{length}
-use Rattle.riff.specs.Form.{Found, find_of}
+use Rattle.riff.specs.Form.{Found, kind_number, find_of}
 use Rattle.riff.proofs.ToldLaws.{font-told-apart}
 use Rattle.player.specs.declared.Begun.{Begun}
 use Rattle.player.specs.declared.Player.{Player}
@@ -37,6 +37,7 @@ use Rattle.smf.specs.declared.Handed.{Handed}
 use Rattle.smf.specs.declared.Opening.{Opening}
 use Rattle.smf.specs.declared.Tested.{Tested}
 use Rattle.smf.specs.Songs.{test_of, opening_of, handed_of, bytes_of}
+use Rattle.wave.specs.Answers.{refusal_number}
 use Rattle.wave.specs.Lowering.{attenuation_for}
 use Rattle.wave.proofs.ToldLaws.{number-told-apart, heard-told-apart, sums-told-apart}
 use Rattle.promises.specs.Determined as D
@@ -62,6 +63,9 @@ told-status-apart = status-told-apart
 
 pub status-determined : D.StatusDetermined
 status-determined a = equation ℕ (status_of a)
+
+pub refusal-number-determined : D.RefusalNumberDetermined
+refusal-number-determined refusal = equation ℕ (number refusal)
 
 pub panel-determined : D.PanelDetermined
 panel-determined slot e = equation Shown (StateBoard.ask slot e)
@@ -152,6 +156,9 @@ read-determined file out o p h k = ends o p (h.0 ∙ sym k.0) (h.1 ∙ sym k.1)
 pub pour-sums-determined : D.PourSumsDetermined
 pour-sums-determined sums attenuation out o p h k = ends o p (h.0 ∙ sym k.0) (h.1 ∙ sym k.1)
 
+pub wave-number-determined : D.WaveNumberDetermined
+wave-number-determined refusal = equation ℕ (refusal_number refusal)
+
 pub told-number-apart : D.ToldNumberApart
 told-number-apart = number-told-apart
 
@@ -169,6 +176,9 @@ pub sums-determined : D.SumsDetermined
 sums-determined e ram rom out to o p h k = ends o p (h.0 ∙ sym k.0) (h.1 ∙ sym k.1)
 
 -- ---- riff
+pub kind-number-determined : D.KindNumberDetermined
+kind-number-determined kind = equation ℕ (kind_number kind)
+
 pub find-determined : D.FindDetermined
 find-determined file = equation Found (find_of file)
 

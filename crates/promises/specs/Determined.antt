@@ -2,7 +2,7 @@
 -- in the source; tools/contracts compares it with the functions that `contract of` names.
 use Rattle.std.specs.Prelude.{◌≡◌, List, Float, ℕ, Bool, cond, ℤ, length, Option, Result}
 use Rattle.std.specs.Borrow.{Bor}
-use Rattle.state.specs.Answers.{Answered, told_call, status_of}
+use Rattle.state.specs.Answers.{Answered, told_call, number, status_of}
 use Rattle.state.specs.declared.Refusal.{Refusal}
 use Rattle.state.specs.declared.Engine.{Engine}
 use Rattle.promises.specs.Calls.{Call, does, written}
@@ -29,8 +29,9 @@ use Rattle.smf.specs.Songs.{test_of, opening_of, handed_of, bytes_of}
 use Rattle.merge.specs.declared.Merged.{Merged}
 use Rattle.merge.specs.Merging.{merged_of, room_of, answer_of, written_into}
 use Rattle.riff.specs.declared.Fault as RiffFault
+use Rattle.riff.specs.declared.FaultKind.{FaultKind}
 use Rattle.riff.specs.declared.Font.{Font}
-use Rattle.riff.specs.Form.{Found, find_of, told_font}
+use Rattle.riff.specs.Form.{Found, kind_number, find_of, told_font}
 use Rattle.player.specs.declared.Answer.{Answer}
 use Rattle.player.specs.declared.Begun.{Begun}
 use Rattle.player.specs.declared.Player.{Player}
@@ -45,7 +46,7 @@ use Rattle.engine.specs.Rendering.{render}
 use Rattle.engine.specs.Summing.{summed}
 use Rattle.wave.specs.declared.answers.Poured.{Poured}
 use Rattle.wave.specs.declared.answers.Refusal as WaveRefusal
-use Rattle.wave.specs.Answers.{Heard, SumsTold, told_number, told_heard, told_sums}
+use Rattle.wave.specs.Answers.{Heard, SumsTold, refusal_number, told_number, told_heard, told_sums}
 use Rattle.wave.specs.Headings.{heading_number, headed}
 use Rattle.wave.specs.Pours.{pour_number, poured_into}
 use Rattle.wave.specs.Recording.{write_number, recorded}
@@ -92,6 +93,11 @@ ToldStatusApart = (r s : Result (Unit {0}) Refusal) → status_of r ≡ status_o
 -- contract of state::status_of(told)
 abbrev pub StatusDetermined : Type 0
 StatusDetermined = (told : Result ℕ Refusal) → Settles ℕ (λ r. r ≡ status_of told)
+
+-- and of a refusal
+-- contract of state::number(refusal)
+abbrev pub RefusalNumberDetermined : Type 0
+RefusalNumberDetermined = (refusal : Refusal) → Settles ℕ (λ r. r ≡ number refusal)
 
 -- ---- state and engine: the others, which touch no state
 
@@ -218,6 +224,11 @@ pub record Ends (A B : Type 0) : Type 0 where
   pub answer : A
   pub output : B
 
+-- 02's number of a refusal
+-- contract of wave::number(refusal)
+abbrev pub WaveNumberDetermined : Type 0
+WaveNumberDetermined = (refusal : WaveRefusal.Refusal) → Settles ℕ (λ r. r ≡ refusal_number refusal)
+
 -- what is told of an answer is one only for one answer
 -- tells apart wave::told_number
 abbrev pub ToldNumberApart : Type 0
@@ -283,6 +294,11 @@ SumsDetermined =
     (λ o. (o.answer ≡ render to ram rom (length out) e) × (o.output ≡ summed to ram rom out e))
 
 -- ---- riff
+
+-- the number of a kind of fault
+-- contract of riff::number(kind)
+abbrev pub KindNumberDetermined : Type 0
+KindNumberDetermined = (kind : FaultKind) → Settles ℕ (λ r. r ≡ kind_number kind)
 
 -- the number and place of a file's first fault, or where its bank and its samples lie
 -- contract of riff::find(file)
