@@ -29,7 +29,7 @@ pub struct Definition {
     pub comment: String,
     pub lines: usize,
     /// the head of the `module _` block that it stands in, or nothing
-    outer: String,
+    pub outer: String,
     pub pieces: Vec<String>,
 }
 

@@ -7,6 +7,7 @@
 // - a public function whose contract leaves something open: it does not equate the answer (or each field of it), and what
 //   each buffer that is lent to be written holds at the exit, with a text that names neither. On this the theorems
 //   EquationSettles and EquationsSettle rest. docs/CONTRACTS.md, "Exceptions", names those that may;
+// - an `impl From` whose ghost `from_gives`, the contract of its `from`, is not there or does not equate the answer so;
 // - a function that its crate's root passes on and that requires something, unless the first list of "Exceptions" names it;
 // - a name in "Exceptions" that is no exception;
 // - a definition that is said to tell answers apart (below) and of which no statement says so;
@@ -17,7 +18,8 @@
 // An answer that is an enum or a Result may be equated through a definition that gives the document's numbers of it, as in
 // `told result ≡ test_of file.now`, or of it and of what was lent, as in `answered result e.new ≡ ..`. Such a definition has a
 // statement in crates/promises/specs/Determined.antt, with `tells apart crate::definition` in its comment: what it gives of two
-// outcomes is one only where they are one. For this tool such a clause then equates the answer, and what was lent, themselves.
+// outcomes is one only where they are one. For this tool such a clause then equates the answer, and what was lent, themselves, in
+// a function whose answer has the type that the statement speaks of.
 // the tools share these, and each asks for a part of them
 #[allow(dead_code)]
 mod antt;
@@ -158,21 +160,20 @@ fn ensured(tree: &Tree, source: &Source, function: &Function, names: &[String]) 
 
 // ---- Definitions that tell answers apart
 
-/// The definitions that `tells apart crate::definition` in the comments of Determined.antt names.
-struct Tells(BTreeSet<Place>);
+/// The definitions that `tells apart crate::definition` in the comments of Determined.antt names, each with the type of the answers
+/// that it tells apart, and how many things it is given.
+struct Tells(Vec<(Place, Vec<String>, usize)>);
 
 impl Tells {
-    /// Reads them; a comment that names none, or whose statement does not speak of it twice, is a complaint.
+    /// Reads them; a comment that names none, or whose statement does not say so, is a complaint.
     fn read(tree: &Tree, complaints: &mut Vec<String>) -> Tells {
-        let mut found = BTreeSet::new();
+        let mut found = Vec::new();
         let file = tree.specs.iter().position(|file| file.path == DETERMINED);
         for definition in file.iter().flat_map(|file| &tree.specs[*file].definitions) {
             for named in definition.comment.split("tells apart ").skip(1) {
                 let named = named.split_whitespace().next().unwrap_or("").trim_end_matches('.');
-                match Tells::place(tree, file.unwrap_or(0), definition, named) {
-                    Some(place) => {
-                        found.insert(place);
-                    }
+                match Tells::told(tree, file.unwrap_or(0), definition, named) {
+                    Some(told) => found.push(told),
                     None => complaints.push(format!("{DETERMINED}: {}: it does not say that {named} tells answers apart", definition.name)),
                 }
             }
@@ -180,36 +181,118 @@ impl Tells {
         Tells(found)
     }
 
-    /// The definition that is named, where a statement has the form `.. → name .. ≡ name .. → ..` at its end.
-    fn place(tree: &Tree, file: usize, definition: &Definition, named: &str) -> Option<Place> {
+    /// The definition that is named, where a statement has the form `Name = (a b : A) (c d : C) .. → told a c .. ≡ told b d .. →
+    /// (a ≡ b) × (c ≡ d) × ..` and no other, with A and the number of the pairs. One pair may stand without its brackets.
+    fn told(tree: &Tree, file: usize, definition: &Definition, named: &str) -> Option<(Place, Vec<String>, usize)> {
         let (krate, name) = named.split_once("::")?;
-        let words = words(definition.pieces.get(1)?);
+        let [_, clause] = &definition.pieces[..] else { return None };
+        let words = words(clause);
+        let mut rest = words.strip_prefix(&[definition.name.clone(), "=".to_string()])?;
+        let (mut pairs, mut types) = (Vec::new(), Vec::new());
+        while rest.first().is_some_and(|word| word == "(") {
+            let (group, more) = rest.split_at(behind(rest, 0));
+            let [_, a, b, colon, kind @ .., _] = group else { return None };
+            if colon != ":" {
+                return None;
+            }
+            pairs.push([a.as_str(), b.as_str()]);
+            types.push(kind.to_vec());
+            rest = more;
+        }
+        // each name is bound once, and stands for nothing else in the statement
+        let told = rest.get(1)?.as_str();
+        let names: BTreeSet<&str> = pairs.concat().into_iter().chain([told, "≡", "×", "→"]).collect();
+        let free = |kind: &Vec<String>| pairs.concat().iter().all(|name| !kind.iter().any(|word| word == name));
+        if definition.outer != "" || names.len() != 2 * pairs.len() + 4 || !types.iter().all(free) {
+            return None;
+        }
+        let side = |at: usize| pairs.iter().map(|pair| pair[at]).collect::<Vec<&str>>();
+        let front = [&["→", told][..], &side(0), &["≡", told], &side(1), &["→"]].concat();
+        let equated = pairs.iter().map(|[a, b]| vec!["(", a, "≡", b, ")"]).collect::<Vec<_>>().join(&"×");
+        let says = |equated: &[&str]| rest.iter().map(String::as_str).eq(front.iter().chain(equated).copied());
+        let says = says(&equated) || pairs.len() == 1 && says(&equated[1..equated.len() - 1]);
         let lookup = tree.names_in_specs(file);
-        let is_it = |word: &String| match lookup(word) {
-            Some(Target::Definition(place)) => {
-                (tree.specs[place.0].krate == krate && tree.definition(place).name == name).then_some(place)
+        let own = ["≡", "×"].iter().any(|sign| matches!(lookup(sign), Some(Target::Definition(_))));
+        match lookup(told) {
+            Some(Target::Definition(place)) if says && !own && tree.specs[place.0].krate == krate && tree.definition(place).name == name => {
+                Some((place, types.first()?.clone(), pairs.len()))
             }
             _ => None,
-        };
-        let from = words.len() - words.iter().rev().position(|word| is_it(word).is_some())? - 1;
-        let equals = words[..from].iter().rposition(|word| word == "≡")?;
-        let other = words[..equals].iter().rposition(|word| is_it(word).is_some())?;
-        let behind = words[from..].iter().position(|word| word == "→")?;
-        let between = !words[other..equals].iter().any(|word| word == "→") && !words[equals..from + behind].iter().any(|word| word == "→");
-        (between && equals + 1 == from).then(|| is_it(&words[from])).flatten()
+        }
     }
 
-    /// A part as one about the answer itself, where it speaks of it through such a definition, and the lent things that it speaks of too.
-    fn seen_through(&self, part: &Part) -> (Part, Vec<String>) {
-        let sign = part.iter().position(|word| word.text == "≡" && word.place.is_none());
-        match (part.first().and_then(|word| word.place), sign) {
-            (Some(place), Some(sign)) if self.0.contains(&place) && sign > 1 && part[1].text == "answer" => {
+    /// A part as one about the answer itself, where it speaks of it through such a definition at its type, and the lent things that it speaks of too.
+    fn seen_through(&self, part: &Part, answer: &[String]) -> (Part, Vec<String>) {
+        let sign = part.iter().position(|word| word.text == "≡" && word.place.is_none()).unwrap_or(0);
+        let tells = |place: Place| self.0.iter().any(|(told, kind, given)| *told == place && *given + 1 == sign && is_type(kind, &answer_type(answer)));
+        match part.first().and_then(|word| word.place) {
+            Some(place) if sign > 1 && part[1].text == "answer" && tells(place) => {
                 let lent = part[2..sign].iter().map(|word| word.text.clone()).collect();
                 let answer = Word { text: "answer".to_string(), place: None };
                 ([&[answer], &part[sign..]].concat(), lent)
             }
             _ => (part.clone(), Vec::new()),
         }
+    }
+}
+
+/// The type of an answer, as names and signs: Result < u32 , Refusal >.
+fn answer_type(answer: &[String]) -> Vec<String> {
+    let mut found = Vec::new();
+    let text = answer.join(" ");
+    let mut rest = text.trim_start().strip_prefix("->").unwrap_or(&text).trim_start();
+    while let Some(first) = rest.chars().next() {
+        let is_name = |c: char| c.is_alphanumeric() || c == '_' || c == ':' || c == '\'';
+        let end = if is_name(first) { rest.find(|c: char| !is_name(c)).unwrap_or(rest.len()) } else { first.len_utf8() };
+        found.push(rest[..end].to_string());
+        rest = rest[end..].trim_start();
+    }
+    found
+}
+
+/// The parts of a text between commas that stand in no bracket.
+fn arguments(text: &[String]) -> Vec<&[String]> {
+    let mut depth = 0;
+    let parts = text.split(|word| {
+        depth += i32::from("(<[".contains(word.as_str())) - i32::from(")>]".contains(word.as_str()));
+        depth == 0 && word == ","
+    });
+    parts.filter(|part| !part.is_empty()).collect()
+}
+
+/// Whether a type of the definitions is one of the source: a number's, that of nothing, a type by the last part of its path, and an
+/// Option or a Result by its arguments too.
+fn is_type(here: &[String], there: &[String]) -> bool {
+    let closed = |words: &[String]| words.first().is_some_and(|word| word == "(") && behind(words, 0) == words.len();
+    if closed(here) {
+        return is_type(&here[1..here.len() - 1], there);
+    }
+    let of = match &here[..] {
+        [of, ..] => of.rsplit('.').next().unwrap_or(of),
+        [] => return false,
+    };
+    let (kind, given) = match there {
+        [kind] => (kind.as_str(), Vec::new()),
+        [kind, open, given @ .., close] if open == "<" && close == ">" => (kind.as_str(), arguments(given)),
+        [open, close] if open == "(" && close == ")" => ("()", Vec::new()),
+        _ => return false,
+    };
+    let kind = kind.rsplit("::").next().unwrap_or(kind);
+    match of {
+        "Unit" => kind == "()" && here[1..] == ["{", "0", "}"],
+        "ℕ" => ["u8", "u16", "u32", "u64", "usize"].contains(&kind) && here.len() == 1,
+        "ℤ" => ["i8", "i16", "i32", "i64"].contains(&kind) && here.len() == 1,
+        "Option" | "Result" => {
+            let mut rest = &here[1..];
+            let mut parts = Vec::new();
+            while !rest.is_empty() {
+                let (part, more) = rest.split_at(if rest[0] == "(" { behind(rest, 0) } else { 1 });
+                parts.push(part);
+                rest = more;
+            }
+            kind == of && parts.len() == given.len() && parts.iter().zip(given).all(|(here, there)| is_type(here, there))
+        }
+        _ => kind == of && here.len() == 1 && there.len() == 1,
     }
 }
 
@@ -232,7 +315,7 @@ fn left_open(tree: &Tree, tells: &Tells, source: &Source, function: &Function) -
     let parts = ensured(tree, source, function, &function.parameters).unwrap_or_default();
     let buffers: Vec<String> = function.written.iter().map(|name| format!("{name}'")).collect();
     let given: Vec<String> = buffers.iter().cloned().chain(["answer".to_string()]).collect();
-    let seen: Vec<(Part, Vec<String>)> = parts.iter().map(|part| tells.seen_through(part)).collect();
+    let seen: Vec<(Part, Vec<String>)> = parts.iter().map(|part| tells.seen_through(part, &function.answer)).collect();
     let beside = |subject: &[&str]| {
         let about = |(part, lent): &(Part, Vec<String>)| {
             subject.len() == 1 && lent.iter().any(|name| name == subject[0]) && equates(part, &["answer"], &given)
@@ -333,14 +416,39 @@ fn public_functions(tree: &Tree, tells: &Tells, complaints: &mut Vec<String>) ->
     count
 }
 
-/// Whether the root of its crate passes a function on.
+/// All complaints about the contracts of `from` in each `impl From`, and the number of these.
+fn conversions(tree: &Tree, complaints: &mut Vec<String>) -> usize {
+    let mut count = 0;
+    for source in &tree.sources {
+        for (head, gives) in &source.froms {
+            count += 1;
+            if !equates_answer(tree, source, gives) {
+                complaints.push(format!("crates/{}/src/{}.rt: {head}: from_gives does not equate the answer", source.krate, source.module));
+            }
+        }
+    }
+    count
+}
+
+/// Whether `λ given answer. TEXT` equates the answer with a text that does not name it.
+fn equates_answer(tree: &Tree, source: &Source, gives: &[String]) -> bool {
+    let [lambda, given, answer, text @ ..] = gives else { return false };
+    let lookup = Box::new(tree.names_in_source(source));
+    let bound = HashMap::from([(given.clone(), given.clone())]);
+    let text = [&[lambda.clone(), answer.clone()], text].concat();
+    let parts = Reading { tree, lookup, bound, lent: &[] }.parts(&text).unwrap_or_default();
+    given != answer && parts.iter().any(|part| equates(part, &["answer"], &["answer".to_string()]))
+}
+
+/// Whether the root of its crate passes a function on, by its name or with its type.
 fn passed_on(tree: &Tree, source: &Source, function: &Function) -> bool {
     let root = tree.sources.iter().find(|root| root.krate == source.krate && root.module == "lib");
     let leads = |path: &Vec<String>| {
-        let found = tree.follow(&source.krate, path).unwrap_or_default();
+        let found = tree.passed_on(&source.krate, path).unwrap_or_default();
         found.iter().any(|(_, other)| std::ptr::eq(*other, function))
     };
-    source.module == "lib" || root.is_some_and(|root| root.paths.iter().any(|(public, path)| *public && leads(path)))
+    let of_root = |root: &&Source| function.of.as_ref().is_some_and(|of| root.types.contains(of));
+    source.module == "lib" || root.is_some_and(|root| root.paths.iter().any(|(public, path)| *public && leads(path))) || root.iter().any(of_root)
 }
 
 // ---- What Determined.antt restates
@@ -487,7 +595,7 @@ fn difference(tree: &Tree, tells: &Tells, file: usize, definition: &Definition, 
     }
     let there = ensured(tree, source, function, &this.arguments)
         .ok_or("its contract has a form that this tool does not know")?;
-    let (mut there, told): (Vec<Part>, Vec<Vec<String>>) = there.iter().map(|part| tells.seen_through(part)).unzip();
+    let (mut there, told): (Vec<Part>, Vec<Vec<String>>) = there.iter().map(|part| tells.seen_through(part, &function.answer)).unzip();
     // what is lent to be written, but for what the answer's own clause speaks of
     let named = |name: &&String| {
         let at = function.parameters.iter().position(|parameter| parameter == *name).unwrap_or(0);
@@ -533,8 +641,9 @@ fn main() -> ExitCode {
     let mut complaints = Vec::new();
     let tells = Tells::read(&tree, &mut complaints);
     let public = public_functions(&tree, &tells, &mut complaints);
+    let conversions = conversions(&tree, &mut complaints);
     let restated = restated(&tree, &tells, &mut complaints);
     complaints.iter().for_each(|complaint| println!("contracts: {complaint}"));
-    println!("contracts: {public} public functions, {restated} restated contracts, {} complaints", complaints.len());
+    println!("contracts: {public} public functions, {conversions} conversions, {restated} restated contracts, {} complaints", complaints.len());
     ExitCode::from(u8::from(!complaints.is_empty() || public == 0 || restated == 0))
 }
