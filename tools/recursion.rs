@@ -2,8 +2,8 @@
 // measure). A function calls each function whose name stands in its body in front of a bracket, and each whose name it hands on. A
 // method's name in front of a bracket stands for all methods of that name, whatever their types, but behind a type's name for those
 // of this type. The body of a closure is a part of the function that writes it; what calls a parameter calls whatever stands in the
-// closures that are handed to it. No source has a function pointer, a `dyn` value or a macro of its own, and none calls `into`,
-// which would hide the name.
+// closures that are handed to it. A `?` calls each `from` of the types that its function's answer names, since it may convert an
+// error. No source has a function pointer, a `dyn` value or a macro of its own, and none calls `into`, which would hide the name.
 //
 //     rustc --edition 2021 -o target/recursion tools/recursion.rs && target/recursion
 //
@@ -55,6 +55,7 @@ impl Calls<'_> {
     fn of(&self, id: Id) -> Vec<Result<Id, String>> {
         let body = &self.all[id].1.body;
         let mut found = self.named(id, 0..body.len());
+        found.extend(self.converted(id).into_iter().map(Ok));
         if !self.all[id].1.called.is_empty() {
             for caller in 0..self.all.len() {
                 found.extend(self.handed(caller, id));
@@ -69,7 +70,9 @@ impl Calls<'_> {
         let mut found = Vec::new();
         for at in part {
             let word = body[at].trim_start_matches(['!', '&', '*', '-', '?', '|']);
-            let word = word.split("::<").next().unwrap_or(word);
+            // `<A as B>::name` is a method of whatever type
+            let qualified = word.rsplit_once(">::").map(|(_, name)| format!(".{name}"));
+            let word = qualified.as_deref().or(word.split("::<").next()).unwrap_or(word);
             let calls = body.get(at + 1).is_some_and(|next| next == "(") || body[at].contains("::<");
             match (is_call(word), calls) {
                 (false, _) => {}
@@ -77,14 +80,29 @@ impl Calls<'_> {
                     Ok(ids) => found.extend(ids.into_iter().map(Ok)),
                     Err(line) => found.push(Err(line)),
                 },
-                // a name that is handed on; most words are variables, which lead nowhere
-                (true, false) if !self.is_bound(id, word) => {
-                    found.extend(self.found(id, word).unwrap_or_default().into_iter().filter(|id| self.all[*id].1.of.is_none()).map(Ok));
-                }
+                // a name that is handed on; most words without a path are variables, which lead nowhere, and behind a dot fields
+                (true, false) if qualified.is_some() || !word.contains('.') && !self.is_bound(id, word) => match self.found(id, word) {
+                    Ok(ids) => found.extend(ids.into_iter().map(Ok)),
+                    Err(line) => found.extend(word.contains("::").then_some(Err(line))),
+                },
                 _ => {}
             }
         }
         found
+    }
+
+    /// The `from`s that a `?` in the body of one may call: those of the types that its answer names, or where a closure stands there,
+    /// or the answer names a letter, those of all types.
+    fn converted(&self, id: Id) -> Vec<Id> {
+        let function = self.all[id].1;
+        let is_closure = |word: &String| word.starts_with('|');
+        let named: Vec<String> = function.answer.iter().flat_map(|word| source::named_types(word)).collect();
+        let named: Vec<&str> = named.iter().map(|path| path.rsplit("::").next().unwrap_or(path)).collect();
+        let all = function.body.iter().any(is_closure) || named.iter().any(|name| name.len() == 1 || *name == "Self");
+        let fits = |of: &str| all || named.contains(&of);
+        let is_from = |id: &Id| self.all[*id].1.name == "from" && self.all[*id].1.of.as_deref().is_some_and(fits);
+        let asks = function.body.iter().any(|word| word.contains('?'));
+        (0..self.all.len()).filter(|_| asks).filter(is_from).collect()
     }
 
     /// What stands in the closures, and among the names, that one function hands to another.
@@ -101,10 +119,8 @@ impl Calls<'_> {
     /// Whether a word is a parameter or a variable of a function.
     fn is_bound(&self, id: Id, word: &str) -> bool {
         let function = self.all[id].1;
-        let first = word.split('.').next().unwrap_or(word);
-        let before = ["let", "mut", "for", "Some", "Ok", "Err", "(", ",", "|"];
-        let bound = function.body.windows(2).any(|pair| before.contains(&pair[0].as_str()) && pair[1] == first);
-        bound || function.parameters.iter().any(|name| name == first)
+        let bound = |part: &[String]| part.iter().any(|name| name.trim_matches(['|', '&', ':']) == word);
+        (0..function.body.len()).any(|at| bound(pattern(&function.body, at))) || function.parameters.iter().any(|name| name == word)
     }
 
     /// The functions that a name stands for in the file of a function; none where it is one of the kit's, or a parameter that is called.
@@ -124,11 +140,14 @@ impl Calls<'_> {
         }
         let path: Vec<String> = name.split("::").map(str::to_string).collect();
         if let [.., of, method] = &path[..] {
+            if method == "into" {
+                return Err(format!("{}: into hides which function is called", self.label(id)));
+            }
             let of = if of == "Self" { function.of.clone().unwrap_or_default() } else { of.clone() };
             let is_type = of.starts_with(char::is_uppercase);
             let of_type = if is_type { methods(method, Some(&of)) } else { Vec::new() };
             // a derived `default` calls those of the fields' types
-            if !of_type.is_empty() || is_type && (of.len() == 1 || method == "default") {
+            if !of_type.is_empty() || is_type && (of.len() == 1 || of == "From" || method == "default") {
                 return Ok(if of_type.is_empty() { methods(method, None) } else { of_type });
             }
         }
@@ -150,6 +169,31 @@ impl Calls<'_> {
     /// The function that a path leads to.
     fn followed(&self, source: &Source, path: &[String]) -> Option<&Function> {
         self.tree.follow(&source.krate, path)?.first().map(|(_, function)| *function)
+    }
+}
+
+/// The words of the pattern that a word of a body belongs to: behind `let` and `for`, a closure's parameters, and in front of `=>`.
+fn pattern(body: &[String], at: usize) -> &[String] {
+    let up_to = |ends: &dyn Fn(&String) -> bool| &body[at..body[at + 1..].iter().position(ends).map_or(at + 1, |end| at + end + 2)];
+    let opens = |at: usize| at > 0 && ["(", ",", "=", "{", "[", ";", "=>", "return", "move"].contains(&body[at - 1].as_str());
+    match body[at].as_str() {
+        "let" => up_to(&|word| word == "=" || word == ";"),
+        "for" => up_to(&|word| word == "in"),
+        word if word.len() > 1 && word.starts_with('|') && word.ends_with('|') => &body[at..at + 1],
+        word if word.starts_with('|') && opens(at) => up_to(&|word| word.ends_with('|')),
+        "=>" => {
+            let mut depth = 0;
+            let begins = |&place: &usize| {
+                let word = body[place].as_str();
+                let ends_arm = depth == 0 && (word == "," || word == "}" && place + 1 < at);
+                depth += i32::from(")}]".contains(word)) - i32::from("({[".contains(word));
+                ends_arm || depth < 0
+            };
+            let from = (0..at).rev().find(begins).map_or(0, |place| place + 1);
+            let guard = body[from..at].iter().position(|word| word == "if").unwrap_or(at - from);
+            &body[from..from + guard]
+        }
+        _ => &[],
     }
 }
 
