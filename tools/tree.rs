@@ -372,7 +372,7 @@ impl Tree {
 
     /// All functions that a host may call: what the roots of engine, wave, riff, player and cabinet pass on, what is asked of a
     /// bank's bytes alone, reader's public ones, and those of the roots of smf and merge; and the public methods of the types that
-    /// these roots pass on or declare.
+    /// these roots pass on or declare, and that the heads of these functions name.
     pub fn host_functions(&self, lost: &mut Vec<String>) -> Vec<(&Source, &Function)> {
         let mut found = Vec::new();
         let of_bytes = [("bank", "admission"), ("bank", "past_memory"), ("layers", "preset_sheet")];
@@ -397,6 +397,15 @@ impl Tree {
         let roots = ["engine", "wave", "riff", "player", "cabinet", "smf", "merge", "reader"];
         for root in self.sources.iter().filter(|source| source.module == "lib" && roots.contains(&source.krate.as_str())) {
             found.extend(root.types.iter().flat_map(|name| self.methods(&root.krate, name)));
+        }
+        let named = |(source, function): &(&Source, &Function)| -> Vec<Target> {
+            function.types.iter().filter_map(|name| self.declared(source, name)).collect()
+        };
+        let of_heads: BTreeSet<Target> = found.iter().flat_map(named).collect();
+        for target in of_heads {
+            if let Target::Type(krate, name) = target {
+                found.extend(self.methods(&krate, &name));
+            }
         }
         let mut seen = BTreeSet::new();
         found.retain(|(_, function)| seen.insert(std::ptr::from_ref(*function)));
