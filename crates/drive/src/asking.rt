@@ -40,13 +40,13 @@ fn shown(text: &mut Text, s: Shown) {
 }
 
 // Whether no event of the song is left, and how many voices sound.
-fn ending(text: &mut Text, p: Player) {
-    text.counted(b'E', 0, u32::from(player::is_over(p)));
+fn ending(text: &mut Text, p: &Player) {
+    text.counted(b'E', 0, u32::from(player::is_over(*p)));
     text.spaced(u64::from(engine::voice_count(p.engine)));
 }
 
 // a, i, d, j, l, s, u, E: the call and its line. The letters are the case's own words, so this is a parser.
-pub fn ask(bank: &[u8], text: &mut Text, c: Command, p: Player) {
+pub fn ask(bank: &[u8], text: &mut Text, c: Command, p: &Player) {
     let letter = c.letter;
     match letter {
         b's' => shown(text, engine::panel(p.engine, c.one)),

@@ -13,30 +13,31 @@ use cases::{Bad, Command, Input, Loan, Text};
 use player::Player;
 use ringer::Kind;
 
-// A command for the player, and the player behind it. The letters are the case's own words, so this is a parser.
-fn play(loan: &Loan, text: &mut Text, c: Command, p: Player) -> Player {
-    match c.letter {
-        b'r' | b'V' => output::render(loan, text, c, p),
-        _ => calls::call(loan, text, c, p),
-    }
+// A command for the player. The letters are the case's own words, so this is a parser.
+fn play(loan: &Loan, text: &mut Text, c: Command, p: &mut Player) {
+    *p = match c.letter {
+        b'r' | b'V' => output::render(loan, text, c, *p),
+        _ => calls::call(loan, text, c, *p),
+    };
 }
 
-// A command, and the player behind it. Things that are lent, asked and named leave it as it is.
+// A command. Things that are lent, asked and named leave the player as it is. It is lent here, and copied in `play` alone: a player that this
+// function holds by value, or answers, is cleared and copied for each letter, which cost record ten times the time.
 fn turn(
     loan: &mut Loan,
     input: &mut Input,
     text: &mut Text,
     c: Command,
-    p: Player,
-) -> Result<Player, Bad> {
+    p: &mut Player,
+) -> Result<(), Bad> {
     match ringer::kind_of(c)? {
-        Kind::Plays => return Ok(play(loan, text, c, p)),
+        Kind::Plays => play(loan, text, c, p),
         Kind::Lends => loan.lend(input, c)?,
         Kind::Asks => asking::ask(loan.bank.lent(), text, c, p),
         Kind::Strikes => hammer::hit(loan.bank.lent(), text, c),
         Kind::Names => cases::name(input, text, c.one)?,
     }
-    Ok(p)
+    Ok(())
 }
 
 // The commands one after the other, from a fresh player on, with nothing lent. Where no letter is left, they have ended as they should.
@@ -52,7 +53,7 @@ fn play_all(input: &mut Input, text: &mut Text) -> Result<(), Bad> {
         let Some(c) = input.command()? else {
             break;
         };
-        p = turn(&mut loan, input, text, c, p)?;
+        turn(&mut loan, input, text, c, &mut p)?;
     }
     Ok(())
 }

@@ -18,12 +18,13 @@ const STDIN: i32 = 0;
 
 const STDOUT: i32 = 1;
 
-// A command for the player, and the player behind it. The letters are the case's own words, so this is a parser.
-fn play(loan: &Loan, tape: &mut Tape, c: Command, p: Player) -> Result<Player, Complaint> {
-    match c.letter {
-        b'r' | b'V' => renders::render(loan, tape, c, p),
-        _ => Ok(ringer::call(loan, c, p).player),
-    }
+// A command for the player. The letters are the case's own words, so this is a parser.
+fn play(loan: &Loan, tape: &mut Tape, c: Command, p: &mut Player) -> Result<(), Complaint> {
+    *p = match c.letter {
+        b'r' | b'V' => renders::render(loan, tape, c, *p)?,
+        _ => ringer::call(loan, c, *p).player,
+    };
+    Ok(())
 }
 
 // t: a name is read over.
@@ -32,23 +33,24 @@ fn read_over(input: &mut Input, n: u8) -> Result<(), Bad> {
     input.fill(&mut bytes[..usize::from(n)])
 }
 
-// A command that begins at this byte, and the player behind it. What is asked and struck is not recorded.
+// A command that begins at this byte. What is asked and struck is not recorded. The player is lent here, and copied in `play` alone: one that this
+// function holds by value, or answers, is cleared and copied for each letter, which cost ten times the time.
 fn turn(
     loan: &mut Loan,
     input: &mut Input,
     tape: &mut Tape,
     begun: usize,
     c: Command,
-    p: Player,
-) -> Result<Player, Complaint> {
+    p: &mut Player,
+) -> Result<(), Complaint> {
     let bad = Complaint::Bad(begun);
     match ringer::kind_of(c).or(Err(bad))? {
-        Kind::Plays => return play(loan, tape, c, p),
+        Kind::Plays => play(loan, tape, c, p)?,
         Kind::Lends => loan.lend(input, c).or(Err(bad))?,
         Kind::Asks | Kind::Strikes => {}
         Kind::Names => read_over(input, c.one).or(Err(bad))?,
     }
-    Ok(p)
+    Ok(())
 }
 
 // All of a case of n bytes, from a fresh player on, with nothing lent. A proved loop has to end: this one ends at a number that no case comes to.
@@ -70,7 +72,7 @@ fn run(
         let Some(c) = input.command().or(Err(Complaint::Bad(begun)))? else {
             break;
         };
-        p = turn(&mut loan, &mut input, tape, begun, c, p)?;
+        turn(&mut loan, &mut input, tape, begun, c, &mut p)?;
     }
     Ok(())
 }
