@@ -1,5 +1,13 @@
--- There and back: a state that C is handed is the state that the next call takes up. And an array that holds f of each element of another.
-use Rattle.std.proofs.Common.{◌≡◌, ℕ, suc, ◌<◌, Bool, true, false, List, [], ◌∷◌, map, length, get_or, Option, None, Some, is_none, unwrap_or, cond, refl, arith}
+-- There and back: a state that C is handed is the state that the next call takes up. And an array that a loop fills with f of each element of another.
+use Prim.Native.Nat.{ℕ, ◌+◌, ◌≤◌, ◌<◌}
+use mathlib.Core.Bool.{Bool, true, false}
+use mathlib.Core.Path.{◌≡◌, refl, ap, sym, ◌∙◌}
+use mathlib.Core.List.{List, [], ◌∷◌, map, map-append}
+use lib.ListN.{length, get_or, set, take}
+use lib.Seq.{take-suc, take-suc-set, take_all}
+use native.Mathlib.Omega.{arith}
+use native.Mathlib.Numerals.{add-one}
+use Rattle.std.proofs.Common.{cond, Option, None, Some, is_none, unwrap_or}
 use Rattle.voice.specs.declared.Stage.{Stage}
 use Rattle.voice.specs.declared.Stage.TheVariants as at
 use Rattle.voice.specs.declared.Voice.{Voice}
@@ -9,16 +17,15 @@ use Rattle.player.specs.declared.Player.{Player}
 use Rattle.player.specs.Cues.{no_event}
 use Rattle.cabinet.specs.Twins.{flag_of, flag_to, stage_of, stage_to, voice_of_twin, voice_to, engine_of, engine_to, player_of, player_to}
 
--- a list of f of each element of another
-pub each_of : {A B : Type 0} (f : A → B) (xs : List A) (ys : List B) → length ys ≡ length xs
-    → ((i : ℕ) (d : A) (e : B) → i < length xs → get_or ys i e ≡ f (get_or xs i d)) → ys ≡ map f xs
-each_of f [] [] n h = refl
-each_of f [] (y ∷ ys) n h = absurd (omega arith)
-each_of f (x ∷ xs) [] n h = absurd (omega arith)
-each_of {A} {B} f (x ∷ xs) (y ∷ ys) n h =
-    let first : y ≡ f x = h 0 x y (omega arith) in
-    let rest : ys ≡ map f xs = each_of f xs ys (omega arith) (λ (i : ℕ) (d : A) (e : B) (b : i < length xs). h (suc i) d e (omega arith)) in
-    cc
+module _ {A B : Type 0} where
+  -- a turn of such a loop
+  pub fill : (f : A → B) (xs : List A) (ys : List B) (i : ℕ) (d : A) (v : B) → i < length xs → length ys ≡ length xs
+      → take i ys ≡ map f (take i xs) → v ≡ f (get_or xs i d) → take (i + 1) (set ys i v) ≡ map f (take (i + 1) xs)
+  fill f xs ys i d v h n e q = rw (add-one, take-suc-set ys i v (omega arith), take-suc xs i d h, map-append, e, q)
+
+  -- and its end
+  pub filled : (f : A → B) (xs : List A) (ys : List B) (i : ℕ) → length xs ≤ i → length ys ≡ length xs → take i ys ≡ map f (take i xs) → ys ≡ map f xs
+  filled f xs ys i h n e = sym (take_all i ys (omega arith)) ∙ e ∙ ap (map f) (take_all i xs h)
 
 flag-back : (b : Bool) → flag_of (flag_to b) ≡ b
 flag-back true = refl

@@ -1,11 +1,19 @@
--- One voice from each.
-use Rattle.std.proofs.Common.{arith, rules}
-use Rattle.cabinet.specs.Twins.{voice_of_twin, engine_of}
-use Rattle.cabinet.proofs.TwinsLaws.{each_of}
+-- One voice a turn.
+use native.Mathlib.Omega.{arith}
+use lib.ListN.{length-set}
+use Rattle.voice.specs.Changes.{blank}
+use Rattle.cabinet.specs.Twins.{voice_of_twin, voice_to, engine_of}
+use Rattle.cabinet.proofs.TwinsLaws.{fill, filled}
 use Rattle.cabinet.proofs.twins.EngineFromFlatEngine.from.Goals as goal
+
+pub loop-i-preserved : goal.loop-i-preserved
+loop-i-preserved c = let a = c.args in
+    let i = c.loop-i.i in (
+      c.loop-i.invariant.0,
+      simp length-set c.loop-i.invariant.1,
+      fill voice_of_twin a.f.voices c.loop-i.voices i (voice_to blank) c.from.result (omega arith) c.loop-i.invariant.1 c.loop-i.invariant.2 c.from.ensures,
+    )
 
 pub returns : goal.returns
 unfolding engine_of
-returns c =
-    let m = c.map-voices.ensures.items in
-    simp (each_of voice_of_twin c.args.f.voices c.map-voices.result (omega (arith, m.long)) (λ i d e b. let called = m.at i d e (omega arith) in search rules))
+returns c = simp (filled voice_of_twin c.args.f.voices c.loop-i.voices c.loop-i.i (omega arith) c.loop-i.invariant.1 c.loop-i.invariant.2)
