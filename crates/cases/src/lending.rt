@@ -31,9 +31,10 @@ impl<'a, T: Item> Held<'a, T> {
         }
     }
 
-    // The next n items, all of them lent. More than there is room for are bad before any is looked at, and then nothing is held.
+    // The next n items, all of them lent, in the array that was lent for them. More than there is room for are bad before any is looked at, and then nothing is held.
     pub fn read(&mut self, input: &mut Input, n: u32) -> Result<(), Bad>
-        ensures { (self.new.held ≤ length self.new.items.now) × (self.new.lent ≤ self.new.held) }
+        ensures counts { (self.new.held ≤ length self.new.items.now) × (self.new.lent ≤ self.new.held) }
+        ensures array { length self.new.items.now ≡ length self.old.items.now }
     {
         self.held = 0;
         self.lent = 0;
